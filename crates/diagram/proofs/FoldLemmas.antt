@@ -1,0 +1,48 @@
+-- What is gathered of a list, one of it after another.
+use Rattle.std.proofs.Common.{ℕ, zero, suc, ◌+◌, ◌<◌, ◌≤◌, ◌≡◌, List, [], ◌∷◌, ◌++◌, length, drop, get_or, ap, sym, ◌∙◌, append_assoc, append-nil, arith}
+use Rattle.std.proofs.lemmas.List.{drop_all, drop_more}
+use Rattle.board.specs.Board.{Access}
+use Rattle.book.specs.Table.{MessageTable}
+use Rattle.drawing.specs.declared.node.Node.{Node}
+use Rattle.diagram.specs.declared.stroke.Stroke.{Stroke}
+use Rattle.diagram.specs.Bands.{access_at, accesses_from}
+use Rattle.diagram.specs.Facts.{added, strokes_below, strokes_of, strokes_to, strokes_with}
+use Rattle.diagram.specs.Layout.{access_top}
+
+-- one access more, and all of them
+pub access_more : (n round place : ℕ) (xs : List Access) (a : Access) (old new whole : List ℕ) → place < length xs → a ≡ get_or xs place a
+    → old ++ accesses_from n xs round place (drop place xs) ≡ whole → new ≡ old ++ access_at n (access_top xs round place) round a
+    → new ++ accesses_from n xs round (place + 1) (drop (place + 1) xs) ≡ whole
+unfolding accesses_from
+access_more n round place xs a old new whole within is so e =
+    let rest : List Access = drop (place + 1) xs in
+    let left : drop place xs ≡ a ∷ rest = drop_more xs place a within ∙ ap (λ x. x ∷ rest) (sym is) in
+    ap (λ ys. ys ++ accesses_from n xs round (place + 1) rest) e
+    ∙ (append_assoc old (access_at n (access_top xs round place) round a) (accesses_from n xs round (place + 1) rest)
+    ∙ (ap (λ ys. old ++ accesses_from n xs round place ys) (sym left) ∙ so))
+
+pub accesses_all : (n round place : ℕ) (xs : List Access) (out whole : List ℕ) → length xs ≤ place → out ++ accesses_from n xs round place (drop place xs) ≡ whole → out ≡ whole
+unfolding accesses_from
+accesses_all n round place xs out whole past so =
+    sym (append-nil out) ∙ (ap (λ ys. out ++ accesses_from n xs round place ys) (sym (drop_all place xs past)) ∙ so)
+
+-- one label more, and all of them
+pub told_more : (order p place : ℕ) (nodes : List Node) (node : Node) (old new whole : List Stroke) → place < length nodes → node ≡ get_or nodes place node
+    → strokes_below order p nodes place old (drop place nodes) ≡ whole → new ≡ added order p nodes place old node
+    → strokes_below order p nodes (place + 1) new (drop (place + 1) nodes) ≡ whole
+unfolding strokes_below
+told_more order p place nodes node old new whole within is so e =
+    let rest : List Node = drop (place + 1) nodes in
+    let left : drop place nodes ≡ node ∷ rest = drop_more nodes place node within ∙ ap (λ x. x ∷ rest) (sym is) in
+    ap (λ d. strokes_below order p nodes (place + 1) d rest) e ∙ (ap (λ xs. strokes_below order p nodes place old xs) (sym left) ∙ so)
+
+pub told_all : (order p place : ℕ) (nodes : List Node) (out whole : List Stroke) → length nodes ≤ place → strokes_below order p nodes place out (drop place nodes) ≡ whole → out ≡ whole
+unfolding strokes_below
+told_all order p place nodes out whole past so = ap (λ xs. strokes_below order p nodes place out xs) (sym (drop_all place nodes past)) ∙ so
+
+-- one receiver more
+pub receiver_more : (t : MessageTable) (order p : ℕ) (old new : List Stroke) → old ≡ strokes_to t order p → new ≡ strokes_with t order p old → new ≡ strokes_to t order (p + 1)
+unfolding strokes_to
+receiver_more t order p old new is e =
+    let next : p + 1 ≡ suc p = omega arith in
+    e ∙ (ap (strokes_with t order p) is ∙ sym (ap (λ (i : ℕ). strokes_to t order i) next))

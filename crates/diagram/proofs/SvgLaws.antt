@@ -1,0 +1,568 @@
+-- Pictures are elements of XML.
+use Rattle.std.proofs.Common.{ℕ, zero, suc, ◌+◌, ◌-◌, ◌*◌, ◌≡◌, Bool, true, false, List, [], ◌∷◌, ◌++◌, Option, Some, None, refl, sym, ap, ◌∙◌, subst, append_assoc, append-nil}
+use Rattle.std.proofs.lemmas.Bool.{cond_both}
+use Rattle.std.specs.Prelude.{codes, ◌==◌, min, slice_get}
+use Rattle.std.specs.Fmt.{decimal}
+use Rattle.std.specs.List.{flat_map, range_with_len}
+use Rattle.markup.specs.Grammar.{IsText, no_text, no_attributes, attributed, IsTag, IsContent, text, nested, alone, joined, is_name}
+use Rattle.markup.specs.Tags.{attribute, element, empty}
+use Rattle.markup.proofs.TextLemmas.{bare_text, decimal_text, text-append, text-flat_map}
+use Rattle.semantics.specs.declared.request.Request.{Request}
+use Rattle.semantics.specs.declared.request.Request.TheVariants.{Get, Swap, Add, Cas, Copy}
+use Rattle.board.specs.Board.{Access}
+use Rattle.round.specs.Scenario.{Scenario, is_traitor}
+use Rattle.world.specs.Chronicle.{Chronicle}
+use Rattle.world.specs.declared.verdict.Verdict.{Verdict}
+use Rattle.diagram.specs.declared.stroke.Stroke.{Stroke}
+use Rattle.diagram.specs.Bands.{access_at, accesses_from, band, bands, board_line, drawn, general_life, inside, life, lives, point, round_words, row, stroke_line}
+use Rattle.diagram.specs.Facts.{strokes_of}
+use Rattle.diagram.specs.Foot.{alike_words, bound_words, decided, decided_all, decided_at, decided_if, decides_words, foot, obeyed_words, place_of, shape_of, sort_of, verdict_lines}
+use Rattle.diagram.specs.Laws.{DiagramsAreElements}
+use Rattle.diagram.specs.Layout.{access_top, board, column, fan_top, height, rows_top, top_of, width}
+use Rattle.diagram.specs.Shapes.{group_at, group_start, line, mark, stroke_at, stroke_open, stroke_way, text_at, text_start, title}
+use Rattle.diagram.specs.Svg.{board_head, box_words, campaign_words, general_head, head, head_of, heads, key, look, picture, start, svg_text, svg_with}
+use Rattle.diagram.specs.Words.{access_words, answer_words, asked_words, copy_words, differs_words, from_words, general_words, is_copy, kind, kind_of, labels_words, order_words, outline, outline_of, role_words, row_words, shown_words, stroke_words, swap_words, tells_words, word_words}
+
+-- ---- words
+
+many : (a b : List ℕ) → IsText a → IsText b → IsText (a ++ b)
+many a b s t = text-append b s t
+
+order_text : (told : Option ℕ) → IsText (order_words told)
+order_text None = bare_text (codes "nothing") refl
+order_text (Some order) = decimal_text order
+
+labels_text : (labels : ℕ) → IsText (labels_words labels)
+labels_text labels =
+    cond_both (labels == 1) [] (codes ", " ++ decimal labels ++ codes " labels") IsText (λ _. no_text)
+    (λ _. many (codes ", " ++ decimal labels) (codes " labels") (many (codes ", ") (decimal labels) (bare_text (codes ", ") refl) (decimal_text labels)) (bare_text (codes " labels") refl))
+
+differs_text : (b : Bool) → IsText (differs_words b)
+differs_text true = bare_text (codes "; an honest relay would tell something else") refl
+differs_text false = no_text
+
+tells_text : (j p : ℕ) → IsText (tells_words j p)
+unfolding tells_words
+tells_text j p =
+    many (codes "general ") (decimal j ++ (codes " tells general " ++ (decimal p ++ codes ": "))) (bare_text (codes "general ") refl)
+    (many (decimal j) (codes " tells general " ++ (decimal p ++ codes ": ")) (decimal_text j)
+    (many (codes " tells general ") (decimal p ++ codes ": ") (bare_text (codes " tells general ") refl) (many (decimal p) (codes ": ") (decimal_text p) (bare_text (codes ": ") refl))))
+
+from_text : (j : ℕ) → IsText (from_words j)
+unfolding from_words
+from_text j = many (codes "from ") (decimal j ++ codes ": ") (bare_text (codes "from ") refl) (many (decimal j) (codes ": ") (decimal_text j) (bare_text (codes ": ") refl))
+
+stroke_text : (st : Stroke) → IsText (stroke_words st)
+stroke_text st =
+    many (tells_words st.teller st.receiver ++ order_words st.told ++ labels_words st.labels) (differs_words st.differs)
+    (many (tells_words st.teller st.receiver ++ order_words st.told) (labels_words st.labels)
+    (many (tells_words st.teller st.receiver) (order_words st.told) (tells_text st.teller st.receiver) (order_text st.told)) (labels_text st.labels))
+    (differs_text st.differs)
+
+row_text : (st : Stroke) → IsText (row_words st)
+row_text st =
+    many (from_words st.teller ++ order_words st.told) (labels_words st.labels) (many (from_words st.teller) (order_words st.told) (from_text st.teller) (order_text st.told)) (labels_text st.labels)
+
+kind_text : (differs : Bool) (told : Option ℕ) → IsText (kind_of differs told)
+kind_text false told = bare_text (codes "told") refl
+kind_text true (Some order) = bare_text (codes "lie") refl
+kind_text true None = bare_text (codes "none") refl
+
+outline_text : (differs : Bool) (told : Option ℕ) → IsText (outline_of differs told)
+outline_text false told = bare_text (codes "M0-4a4 4 0 0 1 0 8a4 4 0 0 1 0-8z") refl
+outline_text true (Some order) = bare_text (codes "M0-6l6 6l-6 6l-6-6z") refl
+outline_text true None = bare_text (codes "M-5-5L5 5M5-5L-5 5") refl
+
+-- a number behind words
+numbered : (words : List ℕ) (n : ℕ) → IsText words → IsText (words ++ decimal n)
+numbered words n t = many words (decimal n) t (decimal_text n)
+
+swap_text : (value slot : ℕ) → IsText (swap_words value slot)
+unfolding swap_words
+swap_text value slot =
+    many (codes "writes ") (decimal value ++ (codes " into word " ++ decimal slot)) (bare_text (codes "writes ") refl)
+    (many (decimal value) (codes " into word " ++ decimal slot) (decimal_text value) (numbered (codes " into word ") slot (bare_text (codes " into word ") refl)))
+
+copy_text : (count slot : ℕ) → IsText (copy_words count slot)
+unfolding copy_words
+copy_text count slot =
+    many (codes "copies ") (decimal count ++ (codes " words from word " ++ decimal slot)) (bare_text (codes "copies ") refl)
+    (many (decimal count) (codes " words from word " ++ decimal slot) (decimal_text count) (numbered (codes " words from word ") slot (bare_text (codes " words from word ") refl)))
+
+asked_text : (r : Request) → IsText (asked_words r)
+asked_text (Get slot) = numbered (codes "reads word ") slot (bare_text (codes "reads word ") refl)
+asked_text (Swap slot value) = swap_text value slot
+asked_text (Add slot value) =
+    numbered (codes "adds " ++ decimal value ++ codes " to word ") slot
+    (many (codes "adds " ++ decimal value) (codes " to word ") (numbered (codes "adds ") value (bare_text (codes "adds ") refl)) (bare_text (codes " to word ") refl))
+asked_text (Cas slot expected new) =
+    numbered (swap_words new slot ++ codes " if it is ") expected (many (swap_words new slot) (codes " if it is ") (swap_text new slot) (bare_text (codes " if it is ") refl))
+asked_text (Copy span) = copy_text span.1 span.0
+
+answer_text : (words : List ℕ) → IsText (answer_words words)
+answer_text words =
+    many (codes "; answer") (flat_map word_words words) (bare_text (codes "; answer") refl) (text-flat_map word_words words (λ w. numbered (codes " ") w (bare_text (codes " ") refl)))
+
+general_text : (g : ℕ) → IsText (general_words g)
+general_text g = numbered (codes "general ") g (bare_text (codes "general ") refl)
+
+access_text : (a : Access) → IsText (access_words a)
+access_text a =
+    many (general_words a.general ++ codes " " ++ asked_words a.request) (answer_words a.reply)
+    (many (general_words a.general ++ codes " ") (asked_words a.request) (many (general_words a.general) (codes " ") (general_text a.general) (bare_text (codes " ") refl)) (asked_text a.request))
+    (answer_text a.reply)
+
+shown_text : (a : Access) → IsText (shown_words a)
+shown_text a =
+    cond_both (is_copy a.request) [] (answer_words a.reply) (λ xs. IsText (asked_words a.request ++ xs)) (λ _. many (asked_words a.request) [] (asked_text a.request) no_text)
+    (λ _. many (asked_words a.request) (answer_words a.reply) (asked_text a.request) (answer_text a.reply))
+
+role_text : (commander traitor : Bool) → IsText (role_words commander traitor)
+role_text true true = bare_text (codes "commander, traitor") refl
+role_text true false = bare_text (codes "commander, loyal") refl
+role_text false true = bare_text (codes "lieutenant, traitor") refl
+role_text false false = bare_text (codes "lieutenant, loyal") refl
+
+round_text : (round : ℕ) → IsText (round_words round)
+unfolding round_words
+round_text round = numbered (codes "round ") round (bare_text (codes "round ") refl)
+
+decides_text : (order : ℕ) → IsText (decides_words order)
+unfolding decides_words
+decides_text order = numbered (codes "decides ") order (bare_text (codes "decides ") refl)
+
+sort_text : (b : Bool) → IsText (sort_of b)
+sort_text true = bare_text (codes "traitor") refl
+sort_text false = bare_text (codes "loyal") refl
+
+shape_text : (b : Bool) → IsText (shape_of b)
+shape_text true = bare_text (codes "M-6-6h12v12h-12z") refl
+shape_text false = bare_text (codes "M0-6a6 6 0 0 1 0 12a6 6 0 0 1 0-12z") refl
+
+alike_text : (b : Bool) → IsText (alike_words b)
+alike_text true = bare_text (codes "The loyal lieutenants decide alike.") refl
+alike_text false = bare_text (codes "The loyal lieutenants do not decide alike.") refl
+
+obeyed_text : (o : Option Bool) → IsText (obeyed_words o)
+obeyed_text (Some true) = bare_text (codes "They obey the loyal commander.") refl
+obeyed_text (Some false) = bare_text (codes "They do not obey the loyal commander.") refl
+obeyed_text None = bare_text (codes "The commander is a traitor, whom nobody has to obey.") refl
+
+bound_text : (b : Bool) → IsText (bound_words b)
+bound_text true = bare_text (codes "The bound holds: there are few enough traitors.") refl
+bound_text false = bare_text (codes "The bound does not hold: there are too many traitors, and nothing was promised.") refl
+
+campaign_text : (n m c order : ℕ) → IsText (campaign_words n m c order)
+unfolding campaign_words
+campaign_text n m c order =
+    many (decimal n) (codes " generals, traitors provided for: " ++ (decimal m ++ (codes "; commander " ++ (decimal c ++ (codes " was given order " ++ decimal order))))) (decimal_text n)
+    (many (codes " generals, traitors provided for: ") (decimal m ++ (codes "; commander " ++ (decimal c ++ (codes " was given order " ++ decimal order)))) (bare_text (codes " generals, traitors provided for: ") refl)
+    (many (decimal m) (codes "; commander " ++ (decimal c ++ (codes " was given order " ++ decimal order))) (decimal_text m)
+    (many (codes "; commander ") (decimal c ++ (codes " was given order " ++ decimal order)) (bare_text (codes "; commander ") refl)
+    (many (decimal c) (codes " was given order " ++ decimal order) (decimal_text c) (numbered (codes " was given order ") order (bare_text (codes " was given order ") refl))))))
+
+-- ---- elements
+
+bare_tag : (name : List ℕ) → is_name name ≡ true → IsTag name []
+bare_tag name h = record { named = h; names = []; attributed_so = no_attributes }
+
+feed : IsContent (codes "\n")
+feed = text (codes "\n") (bare_text (codes "\n") refl)
+
+fed : (cs : List ℕ) → IsContent cs → IsContent (cs ++ codes "\n")
+fed cs c = joined cs (codes "\n") c feed
+
+all : {A : Type 0} (f : A → List ℕ) (xs : List A) → ((x : A) → IsContent (f x)) → IsContent (flat_map f xs)
+all f [] h = text [] no_text
+all f (x ∷ xs) h = joined (f x) (flat_map f xs) (h x) (all f xs h)
+
+abbrev text_attributes : List ℕ → List ℕ → List ℕ → List ℕ
+text_attributes class x y = attribute (codes "class") class ++ (attribute (codes "x") x ++ (attribute (codes "y") y ++ []))
+
+text_tag : (class x y : List ℕ) → IsText class → IsText x → IsText y → IsTag (codes "text") (text_attributes class x y)
+text_tag class x y c t u = record {
+  named = refl;
+  names = codes "class" ∷ codes "x" ∷ codes "y" ∷ [];
+  attributed_so = attributed (codes "class") class (attribute (codes "x") x ++ (attribute (codes "y") y ++ [])) (codes "x" ∷ codes "y" ∷ []) refl c refl
+      (attributed (codes "x") x (attribute (codes "y") y ++ []) (codes "y" ∷ []) refl t refl (attributed (codes "y") y [] [] refl u refl no_attributes));
+}
+
+text_parts : (s p1 class q p2 x p3 y g words close feed : List ℕ)
+    → ((s ++ p1) ++ (class ++ ((q ++ p2) ++ (x ++ ((q ++ p3) ++ (y ++ (q ++ g))))))) ++ words ++ (close ++ feed)
+    ≡ ((s ++ ((p1 ++ class ++ q) ++ ((p2 ++ x ++ q) ++ ((p3 ++ y ++ q) ++ []))) ++ g) ++ words ++ close) ++ feed
+text_parts s p1 class q p2 x p3 y g words close feed = simp (append_assoc, append-nil)
+
+text_whole : (class x y words : List ℕ)
+    → (codes "<text class=\"" ++ (class ++ (codes "\" x=\"" ++ (x ++ (codes "\" y=\"" ++ (y ++ codes "\">")))))) ++ words ++ codes "</text>\n"
+    ≡ element (codes "text") (text_attributes class x y) words ++ codes "\n"
+text_whole class x y words = text_parts (codes "<text") (codes " class=\"") class (codes "\"") (codes " x=\"") x (codes " y=\"") y (codes ">") words (codes "</text>") (codes "\n")
+
+text_content : (class : List ℕ) (x y : ℕ) (words : List ℕ) → IsText class → IsText words → IsContent (text_at class x y words)
+unfolding text_start
+text_content class x y words c t =
+    subst IsContent (sym (text_whole class (decimal x) (decimal y) words))
+    (fed (element (codes "text") (text_attributes class (decimal x) (decimal y)) words)
+    (nested (codes "text") (text_attributes class (decimal x) (decimal y)) words (text_tag class (decimal x) (decimal y) c (decimal_text x) (decimal_text y)) (text words t)))
+
+abbrev path_attributes : List ℕ → List ℕ → List ℕ
+path_attributes class way = attribute (codes "class") class ++ (attribute (codes "d") way ++ [])
+
+path_tag : (class way : List ℕ) → IsText class → IsText way → IsTag (codes "path") (path_attributes class way)
+path_tag class way c w = record {
+  named = refl;
+  names = codes "class" ∷ codes "d" ∷ [];
+  attributed_so = attributed (codes "class") class (attribute (codes "d") way ++ []) (codes "d" ∷ []) refl c refl (attributed (codes "d") way [] [] refl w refl no_attributes);
+}
+
+abbrev way_of : List ℕ → List ℕ → List ℕ → List ℕ → List ℕ
+way_of x y u v = codes "M" ++ (x ++ (codes " " ++ (y ++ (codes "L" ++ (u ++ (codes " " ++ v))))))
+
+way_text : (x y u v : ℕ) → IsText (way_of (decimal x) (decimal y) (decimal u) (decimal v))
+way_text x y u v =
+    many (codes "M") (decimal x ++ (codes " " ++ (decimal y ++ (codes "L" ++ (decimal u ++ (codes " " ++ decimal v)))))) (bare_text (codes "M") refl)
+    (many (decimal x) (codes " " ++ (decimal y ++ (codes "L" ++ (decimal u ++ (codes " " ++ decimal v))))) (decimal_text x)
+    (many (codes " ") (decimal y ++ (codes "L" ++ (decimal u ++ (codes " " ++ decimal v)))) (bare_text (codes " ") refl)
+    (many (decimal y) (codes "L" ++ (decimal u ++ (codes " " ++ decimal v))) (decimal_text y)
+    (many (codes "L") (decimal u ++ (codes " " ++ decimal v)) (bare_text (codes "L") refl)
+    (many (decimal u) (codes " " ++ decimal v) (decimal_text u) (numbered (codes " ") v (bare_text (codes " ") refl)))))))
+
+line_parts : (s p1 class q p2 m x b y l u v g feed : List ℕ)
+    → (s ++ p1) ++ (class ++ ((q ++ p2 ++ m) ++ (x ++ (b ++ (y ++ (l ++ (u ++ (b ++ (v ++ (q ++ g ++ feed))))))))))
+    ≡ (s ++ ((p1 ++ class ++ q) ++ ((p2 ++ (m ++ (x ++ (b ++ (y ++ (l ++ (u ++ (b ++ v))))))) ++ q) ++ [])) ++ g) ++ feed
+line_parts s p1 class q p2 m x b y l u v g feed = simp (append_assoc, append-nil)
+
+line_whole : (class x y u v : List ℕ)
+    → codes "<path class=\"" ++ (class ++ (codes "\" d=\"M" ++ (x ++ (codes " " ++ (y ++ (codes "L" ++ (u ++ (codes " " ++ (v ++ codes "\"/>\n")))))))))
+    ≡ empty (codes "path") (path_attributes class (way_of x y u v)) ++ codes "\n"
+line_whole class x y u v = line_parts (codes "<path") (codes " class=\"") class (codes "\"") (codes " d=\"") (codes "M") x (codes " ") y (codes "L") u v (codes "/>") (codes "\n")
+
+line_content : (class : List ℕ) (x y u v : ℕ) → IsText class → IsContent (line class x y u v)
+unfolding line
+line_content class x y u v c =
+    let way : List ℕ = way_of (decimal x) (decimal y) (decimal u) (decimal v) in
+    subst IsContent (sym (line_whole class (decimal x) (decimal y) (decimal u) (decimal v)))
+    (fed (empty (codes "path") (path_attributes class way)) (alone (codes "path") (path_attributes class way) (path_tag class way c (way_text x y u v))))
+
+mark_parts : (s p1 k sort q p2 way g feed : List ℕ)
+    → (s ++ p1 ++ k) ++ (sort ++ ((q ++ p2) ++ (way ++ (q ++ g ++ feed)))) ≡ (s ++ ((p1 ++ (k ++ sort) ++ q) ++ ((p2 ++ way ++ q) ++ [])) ++ g) ++ feed
+mark_parts s p1 k sort q p2 way g feed = simp (append_assoc, append-nil)
+
+mark_whole : (sort way : List ℕ)
+    → codes "<path class=\"mark " ++ (sort ++ (codes "\" d=\"" ++ (way ++ codes "\"/>\n"))) ≡ empty (codes "path") (path_attributes (codes "mark " ++ sort) way) ++ codes "\n"
+mark_whole sort way = mark_parts (codes "<path") (codes " class=\"") (codes "mark ") sort (codes "\"") (codes " d=\"") way (codes "/>") (codes "\n")
+
+mark_content : (kind outline : List ℕ) → IsText kind → IsText outline → IsContent (mark kind outline)
+unfolding mark
+mark_content kind outline k o =
+    subst IsContent (sym (mark_whole kind outline))
+    (fed (empty (codes "path") (path_attributes (codes "mark " ++ kind) outline))
+    (alone (codes "path") (path_attributes (codes "mark " ++ kind) outline) (path_tag (codes "mark " ++ kind) outline (many (codes "mark ") kind (bare_text (codes "mark ") refl) k) o)))
+
+title_parts : (first words close feed : List ℕ) → first ++ words ++ (close ++ feed) ≡ (first ++ words ++ close) ++ feed
+title_parts first words close feed = simp append_assoc
+
+title_whole : (words : List ℕ) → codes "<title>" ++ words ++ codes "</title>\n" ≡ element (codes "title") [] words ++ codes "\n"
+title_whole words = title_parts (codes "<title>") words (codes "</title>") (codes "\n")
+
+title_content : (words : List ℕ) → IsText words → IsContent (title words)
+title_content words t =
+    subst IsContent (sym (title_whole words)) (fed (element (codes "title") [] words) (nested (codes "title") [] words (bare_tag (codes "title") refl) (text words t)))
+
+abbrev stroke_attributes : List ℕ → List ℕ → List ℕ → List ℕ
+stroke_attributes class width way = attribute (codes "class") class ++ (attribute (codes "stroke-width") width ++ (attribute (codes "d") way ++ []))
+
+stroke_tag : (class width way : List ℕ) → IsText class → IsText width → IsText way → IsTag (codes "path") (stroke_attributes class width way)
+stroke_tag class width way c t w = record {
+  named = refl;
+  names = codes "class" ∷ codes "stroke-width" ∷ codes "d" ∷ [];
+  attributed_so = attributed (codes "class") class (attribute (codes "stroke-width") width ++ (attribute (codes "d") way ++ [])) (codes "stroke-width" ∷ codes "d" ∷ []) refl c refl
+      (attributed (codes "stroke-width") width (attribute (codes "d") way ++ []) (codes "d" ∷ []) refl t refl (attributed (codes "d") way [] [] refl w refl no_attributes));
+}
+
+stroke_parts : (s p1 k sort q p2 wide p3 m x b y l u v g inside close feed : List ℕ)
+    → ((s ++ p1 ++ k) ++ (sort ++ ((q ++ p2) ++ (wide ++ (q ++ p3)))) ++ (m ++ (x ++ (b ++ (y ++ (l ++ (u ++ (b ++ (v ++ (q ++ g)))))))))) ++ inside ++ (close ++ feed)
+    ≡ ((s ++ ((p1 ++ (k ++ sort) ++ q) ++ ((p2 ++ wide ++ q) ++ ((p3 ++ (m ++ (x ++ (b ++ (y ++ (l ++ (u ++ (b ++ v))))))) ++ q) ++ []))) ++ g) ++ inside ++ close) ++ feed
+stroke_parts s p1 k sort q p2 wide p3 m x b y l u v g inside close feed = simp (append_assoc, append-nil)
+
+stroke_whole : (sort wide x y u v inside : List ℕ)
+    → (codes "<path class=\"stroke " ++ (sort ++ (codes "\" stroke-width=\"" ++ (wide ++ codes "\" d=\"")))
+    ++ (codes "M" ++ (x ++ (codes " " ++ (y ++ (codes "L" ++ (u ++ (codes " " ++ (v ++ codes "\">"))))))))) ++ inside ++ codes "</path>\n"
+    ≡ element (codes "path") (stroke_attributes (codes "stroke " ++ sort) wide (way_of x y u v)) inside ++ codes "\n"
+stroke_whole sort wide x y u v inside =
+    stroke_parts (codes "<path") (codes " class=\"") (codes "stroke ") sort (codes "\"") (codes " stroke-width=\"") wide (codes " d=\"") (codes "M") x (codes " ") y (codes "L") u v (codes ">") inside (codes "</path>") (codes "\n")
+
+stroke_content : (kind : List ℕ) (width x y u v : ℕ) (words : List ℕ) → IsText kind → IsText words → IsContent (stroke_at kind width x y u v words)
+unfolding stroke_open stroke_way
+stroke_content kind width x y u v words k t =
+    let way : List ℕ = way_of (decimal x) (decimal y) (decimal u) (decimal v) in
+    let class : List ℕ = codes "stroke " ++ kind in
+    subst IsContent (sym (stroke_whole kind (decimal width) (decimal x) (decimal y) (decimal u) (decimal v) (title words)))
+    (fed (element (codes "path") (stroke_attributes class (decimal width) way) (title words))
+    (nested (codes "path") (stroke_attributes class (decimal width) way) (title words)
+    (stroke_tag class (decimal width) way (many (codes "stroke ") kind (bare_text (codes "stroke ") refl) k) (decimal_text width) (way_text x y u v)) (title_content words t)))
+
+abbrev place_words : List ℕ → List ℕ → List ℕ
+place_words x y = codes "translate(" ++ (x ++ (codes " " ++ (y ++ codes ")")))
+
+group_parts : (s p t x b y z q g inside close feed : List ℕ)
+    → ((s ++ p ++ t) ++ (x ++ (b ++ (y ++ (z ++ q ++ g ++ feed))))) ++ inside ++ (close ++ feed)
+    ≡ ((s ++ ((p ++ (t ++ (x ++ (b ++ (y ++ z)))) ++ q) ++ []) ++ g) ++ (feed ++ inside) ++ close) ++ feed
+group_parts s p t x b y z q g inside close feed = simp (append_assoc, append-nil)
+
+group_whole : (x y inside : List ℕ)
+    → (codes "<g transform=\"translate(" ++ (x ++ (codes " " ++ (y ++ codes ")\">\n")))) ++ inside ++ codes "</g>\n"
+    ≡ element (codes "g") (attribute (codes "transform") (place_words x y) ++ []) (codes "\n" ++ inside) ++ codes "\n"
+group_whole x y inside = group_parts (codes "<g") (codes " transform=\"") (codes "translate(") x (codes " ") y (codes ")") (codes "\"") (codes ">") inside (codes "</g>") (codes "\n")
+
+group_content : (x y : ℕ) (inside : List ℕ) → IsContent inside → IsContent (group_at x y inside)
+unfolding group_start
+group_content x y inside c =
+    let place : List ℕ = place_words (decimal x) (decimal y) in
+    let place_is = many (codes "translate(") (decimal x ++ (codes " " ++ (decimal y ++ codes ")"))) (bare_text (codes "translate(") refl)
+    (many (decimal x) (codes " " ++ (decimal y ++ codes ")")) (decimal_text x)
+    (many (codes " ") (decimal y ++ codes ")") (bare_text (codes " ") refl) (many (decimal y) (codes ")") (decimal_text y) (bare_text (codes ")") refl)))) in
+    subst IsContent (sym (group_whole (decimal x) (decimal y) inside))
+    (fed (element (codes "g") (attribute (codes "transform") place ++ []) (codes "\n" ++ inside))
+    (nested (codes "g") (attribute (codes "transform") place ++ []) (codes "\n" ++ inside)
+    (record { named = refl; names = codes "transform" ∷ []; attributed_so = attributed (codes "transform") place [] [] refl place_is refl no_attributes })
+    (joined (codes "\n") inside feed c)))
+
+-- ---- bands
+
+small : IsText (codes "small")
+small = bare_text (codes "small") refl
+
+life_content : (x h : ℕ) → IsContent (life x h)
+life_content x h = line_content (codes "life") x 0 x h (bare_text (codes "life") refl)
+
+board_content : (n : ℕ) (accesses : List Access) (h : ℕ) → IsContent (board_line n accesses h)
+board_content n [] h = text [] no_text
+board_content n (a ∷ accesses) h = life_content (board n) h
+
+lives_content : (n : ℕ) (accesses : List Access) (h : ℕ) → IsContent (lives n accesses h)
+lives_content n accesses h =
+    joined (board_line n accesses h) (flat_map (general_life h) (range_with_len 0 n)) (board_content n accesses h)
+    (all (general_life h) (range_with_len 0 n) (λ g. life_content (column g) h))
+
+point_content : (far : ℕ) (a : Access) → IsContent (point far a)
+point_content far a =
+    let t : List ℕ = title (access_words a) in
+    let l : List ℕ = line (codes "access") 0 0 far 0 in
+    let m : List ℕ = mark (codes "point") (codes "M0-4a4 4 0 0 1 0 8a4 4 0 0 1 0-8z") in
+    joined (t ++ l ++ m) (text_at (codes "small") (far + 12) 4 (shown_words a))
+    (joined (t ++ l) m
+    (joined t l (title_content (access_words a) (access_text a)) (line_content (codes "access") 0 0 far 0 (bare_text (codes "access") refl)))
+    (mark_content (codes "point") (codes "M0-4a4 4 0 0 1 0 8a4 4 0 0 1 0-8z") (bare_text (codes "point") refl) (bare_text (codes "M0-4a4 4 0 0 1 0 8a4 4 0 0 1 0-8z") refl)))
+    (text_content (codes "small") (far + 12) 4 (shown_words a) small (shown_text a))
+
+access_content : (n top round : ℕ) (a : Access) → IsContent (access_at n top round a)
+access_content n top round a =
+    let far : ℕ = board n - column a.general in
+    cond_both (a.round == round) (group_at (column a.general) top (point far a)) [] IsContent (λ _. group_content (column a.general) top (point far a) (point_content far a)) (λ _. text [] no_text)
+
+accesses_content : (n : ℕ) (whole : List Access) (round place : ℕ) (rest : List Access) → IsContent (accesses_from n whole round place rest)
+unfolding accesses_from
+accesses_content n whole round place [] = text [] no_text
+accesses_content n whole round place (a ∷ rest) =
+    joined (access_at n (access_top whole round place) round a) (accesses_from n whole round (place + 1) rest) (access_content n (access_top whole round place) round a)
+    (accesses_content n whole round (place + 1) rest)
+
+drawn_content : (n : ℕ) (accesses : List Access) (round : ℕ) (st : Stroke) → IsContent (drawn n accesses round st)
+drawn_content n accesses round st =
+    let top : ℕ = fan_top accesses round in
+    let below : ℕ = rows_top n accesses round in
+    let t : List ℕ = title (stroke_words st) in
+    let m : List ℕ = mark (kind st) (outline st) in
+    let w : List ℕ = text_at (codes "small") 12 4 (row_words st) in
+    cond_both (st.round == round) (stroke_line n top st ++ row below st) [] IsContent
+    (λ _. joined (stroke_line n top st) (row below st)
+    (stroke_content (kind st) (min st.labels 5) (column st.teller) top (column st.receiver) (top + 16 + 16 * n + 6 * min st.row 8) (stroke_words st) (kind_text st.differs st.told) (stroke_text st))
+    (group_content (column st.receiver) (below + 12 + 18 * st.row) (t ++ m ++ w)
+    (joined (t ++ m) w (joined t m (title_content (stroke_words st) (stroke_text st)) (mark_content (kind st) (outline st) (kind_text st.differs st.told) (outline_text st.differs st.told)))
+    (text_content (codes "small") 12 4 (row_words st) small (row_text st)))))
+    (λ _. text [] no_text)
+
+inside_content : (n : ℕ) (strokes : List Stroke) (accesses : List Access) (wide r : ℕ) → IsContent (inside n strokes accesses wide r)
+inside_content n strokes accesses wide r =
+    let a : List ℕ = line (codes "rule") 16 0 wide 0 in
+    let b : List ℕ = text_at (codes "round") 16 24 (round_words r) in
+    let c : List ℕ = lives n accesses (height n strokes accesses r) in
+    let d : List ℕ = accesses_from n accesses r 0 accesses in
+    let e : List ℕ = flat_map (drawn n accesses r) strokes in
+    joined (a ++ b ++ c ++ d) e
+    (joined (a ++ b ++ c) d
+    (joined (a ++ b) c
+    (joined a b (line_content (codes "rule") 16 0 wide 0 (bare_text (codes "rule") refl)) (text_content (codes "round") 16 24 (round_words r) (bare_text (codes "round") refl) (round_text r)))
+    (lives_content n accesses (height n strokes accesses r)))
+    (accesses_content n accesses r 0 accesses))
+    (all (drawn n accesses r) strokes (drawn_content n accesses r))
+
+band_content : (n : ℕ) (strokes : List Stroke) (accesses : List Access) (wide before : ℕ) → IsContent (band n strokes accesses wide before)
+band_content n strokes accesses wide before =
+    group_content 0 (top_of n strokes accesses before) (inside n strokes accesses wide (before + 1)) (inside_content n strokes accesses wide (before + 1))
+
+-- ---- the foot
+
+name : IsText (codes "name")
+name = bare_text (codes "name") refl
+
+decided_content : (g : ℕ) (traitor : Bool) (o : Option ℕ) → IsContent (decided_if g traitor o)
+decided_content g traitor None = text [] no_text
+decided_content g traitor (Some order) =
+    let m : List ℕ = mark (sort_of traitor) (shape_of traitor) in
+    let w : List ℕ = text_at (codes "name") 12 4 (decides_words order) in
+    group_content (column g) 24 (m ++ w)
+    (joined m w (mark_content (sort_of traitor) (shape_of traitor) (sort_text traitor) (shape_text traitor)) (text_content (codes "name") 12 4 (decides_words order) name (decides_text order)))
+
+decisions_content : (s : Scenario) (ds : List ℕ) → IsContent (decided_all s ds)
+decisions_content s ds =
+    all (decided s ds) (range_with_len 0 s.generals)
+    (λ g. cond_both (g == s.commander) [] (decided_if g (is_traitor s g) (slice_get ds (place_of s.commander g))) IsContent (λ _. text [] no_text)
+    (λ _. decided_content g (is_traitor s g) (slice_get ds (place_of s.commander g))))
+
+verdict_content : (v : Verdict) → IsContent (verdict_lines v)
+verdict_content v =
+    let a : List ℕ = text_at (codes "name") 120 64 (alike_words v.alike) in
+    let b : List ℕ = text_at (codes "name") 120 84 (obeyed_words v.obeyed) in
+    joined (a ++ b) (text_at (codes "name") 120 104 (bound_words v.bound))
+    (joined a b (text_content (codes "name") 120 64 (alike_words v.alike) name (alike_text v.alike)) (text_content (codes "name") 120 84 (obeyed_words v.obeyed) name (obeyed_text v.obeyed)))
+    (text_content (codes "name") 120 104 (bound_words v.bound) name (bound_text v.bound))
+
+foot_content : (c : Chronicle) (wide top : ℕ) → IsContent (foot c wide top)
+foot_content c wide top =
+    let a : List ℕ = line (codes "rule") 16 0 wide 0 in
+    let b : List ℕ = text_at (codes "round") 16 28 (codes "decisions") in
+    let d : List ℕ = decided_all c.scenario c.decisions in
+    group_content 0 top (a ++ b ++ d ++ verdict_lines c.verdict)
+    (joined (a ++ b ++ d) (verdict_lines c.verdict)
+    (joined (a ++ b) d
+    (joined a b (line_content (codes "rule") 16 0 wide 0 (bare_text (codes "rule") refl)) (text_content (codes "round") 16 28 (codes "decisions") (bare_text (codes "round") refl) (bare_text (codes "decisions") refl)))
+    (decisions_content c.scenario c.decisions))
+    (verdict_content c.verdict))
+
+-- ---- the head
+
+abbrev key_words : List ℕ
+key_words =
+    codes "A column for each general, and a band for each round, from above. In a band a line leads from who tells something to who"
+    ++ codes "m he tells it, as wide as he tells it of labels, and below stands in the column of the receiver what he was told. Circle and p"
+    ++ codes "lain line: as an honest relay tells it. Diamond and dashes: something else. Cross and dots: nothing, where something was to be"
+    ++ codes " told. Above the lines stand the accesses to the board, in its order. Square: a traitor."
+
+key_content : IsContent key
+unfolding key
+key_content = fed (element (codes "desc") [] key_words) (nested (codes "desc") [] key_words (bare_tag (codes "desc") refl) (text key_words (bare_text key_words refl)))
+
+abbrev look_words : List ℕ
+look_words =
+    codes "svg{background:#fff}text{fill:#111;font:13px sans-serif}.head{font:bold 16px sans-serif}.round{font-weight:bold}.small{"
+    ++ codes "font-size:11px}.life{stroke:#8a8a8a}.rule{stroke:#8a8a8a;stroke-dasharray:2 4}.access{stroke:#0b5fa5}.stroke{fill:none;stroke:"
+    ++ codes "#111;stroke-opacity:.45}.stroke.lie{stroke:#b00020;stroke-opacity:1;stroke-dasharray:9 4}.stroke.none{stroke:#b00020;stroke-op"
+    ++ codes "acity:1;stroke-dasharray:2 5}.mark{fill:#fff;stroke:#111;stroke-width:1.5}.mark.lie{fill:#b00020;stroke:#b00020}.mark.none{fil"
+    ++ codes "l:none;stroke:#b00020;stroke-width:2.5}.mark.point{fill:#0b5fa5;stroke:#0b5fa5}.mark.traitor{fill:#b00020}@media(prefers-color"
+    ++ codes "-scheme:dark){svg{background:#111}text{fill:#eee}.stroke,.mark{stroke:#eee}.mark{fill:#111}.access{stroke:#6cb8f5}.mark.point{"
+    ++ codes "fill:#6cb8f5;stroke:#6cb8f5}.stroke.lie,.stroke.none,.mark.none{stroke:#ff8095}.mark.lie{fill:#ff8095;stroke:#ff8095}.mark.tra"
+    ++ codes "itor{fill:#ff8095}}"
+
+look_content : IsContent look
+unfolding look
+look_content = fed (element (codes "style") [] look_words) (nested (codes "style") [] look_words (bare_tag (codes "style") refl) (text look_words (bare_text look_words refl)))
+
+head_content : (s : Scenario) → IsContent (head s)
+head_content s =
+    let w : List ℕ = campaign_words s.generals s.bound s.commander s.order in
+    let t : IsText w = campaign_text s.generals s.bound s.commander s.order in
+    joined (title w ++ key ++ look) (text_at (codes "head") 16 28 w) (joined (title w ++ key) look (joined (title w) key (title_content w t) key_content) look_content)
+    (text_content (codes "head") 16 28 w (bare_text (codes "head") refl) t)
+
+general_content : (g : ℕ) (commander traitor : Bool) → IsContent (general_head g commander traitor)
+general_content g commander traitor =
+    let m : List ℕ = mark (sort_of traitor) (shape_of traitor) in
+    let a : List ℕ = text_at (codes "name") 12 4 (general_words g) in
+    let b : List ℕ = text_at (codes "small") 12 20 (role_words commander traitor) in
+    group_content (column g) 50 (m ++ a ++ b)
+    (joined (m ++ a) b
+    (joined m a (mark_content (sort_of traitor) (shape_of traitor) (sort_text traitor) (shape_text traitor)) (text_content (codes "name") 12 4 (general_words g) name (general_text g)))
+    (text_content (codes "small") 12 20 (role_words commander traitor) small (role_text commander traitor)))
+
+board_head_content : (n : ℕ) (accesses : List Access) → IsContent (board_head n accesses)
+board_head_content n [] = text [] no_text
+board_head_content n (a ∷ accesses) = text_content (codes "name") (board n) 54 (codes "board") name (bare_text (codes "board") refl)
+
+heads_content : (s : Scenario) (accesses : List Access) → IsContent (heads s accesses)
+heads_content s accesses =
+    joined (board_head s.generals accesses) (flat_map (head_of s) (range_with_len 0 s.generals)) (board_head_content s.generals accesses)
+    (all (head_of s) (range_with_len 0 s.generals) (λ g. general_content g (g == s.commander) (is_traitor s g)))
+
+-- ---- the whole
+
+abbrev attributes : List ℕ → List ℕ → List ℕ
+attributes w h =
+    attribute (codes "xmlns") (codes "http://www.w3.org/2000/svg")
+    ++ (attribute (codes "role") (codes "img") ++ (attribute (codes "width") w ++ (attribute (codes "height") h ++ (attribute (codes "viewBox") (codes "0 0 " ++ (w ++ (codes " " ++ h))) ++ []))))
+
+box_parts : (p1 w q p2 h p3 o b g : List ℕ)
+    → p1 ++ (w ++ ((q ++ p2) ++ (h ++ ((q ++ p3 ++ o) ++ (w ++ (b ++ (h ++ (q ++ g))))))))
+    ≡ (p1 ++ w ++ q) ++ ((p2 ++ h ++ q) ++ ((p3 ++ (o ++ (w ++ (b ++ h))) ++ q) ++ g))
+box_parts p1 w q p2 h p3 o b g = simp append_assoc
+
+box_whole : (w h : List ℕ)
+    → codes " width=\"" ++ (w ++ (codes "\" height=\"" ++ (h ++ (codes "\" viewBox=\"0 0 " ++ (w ++ (codes " " ++ (h ++ codes "\">\n")))))))
+    ≡ attribute (codes "width") w ++ (attribute (codes "height") h ++ (attribute (codes "viewBox") (codes "0 0 " ++ (w ++ (codes " " ++ h))) ++ codes ">\n"))
+box_whole w h = box_parts (codes " width=\"") w (codes "\"") (codes " height=\"") h (codes " viewBox=\"") (codes "0 0 ") (codes " ") (codes ">\n")
+
+tag_parts : (first role wide high box inside close : List ℕ)
+    → (first ++ role) ++ (wide ++ (high ++ (box ++ (codes ">" ++ codes "\n")))) ++ inside ++ (close ++ codes "\n")
+    ≡ ((first ++ (role ++ (wide ++ (high ++ (box ++ [])))) ++ codes ">") ++ (codes "\n" ++ inside) ++ close) ++ codes "\n"
+tag_parts first role wide high box inside close = simp (append_assoc, append-nil)
+
+picture_is : (w h : ℕ) (inside : List ℕ) → picture w h inside ≡ element (codes "svg") (attributes (decimal w) (decimal h)) (codes "\n" ++ inside) ++ codes "\n"
+unfolding start box_words
+picture_is w h inside =
+    ap (λ xs. start ++ xs ++ inside ++ codes "</svg>\n") (box_whole (decimal w) (decimal h))
+    ∙ (tag_parts (codes "<svg" ++ attribute (codes "xmlns") (codes "http://www.w3.org/2000/svg")) (attribute (codes "role") (codes "img")) (attribute (codes "width") (decimal w)) (attribute (codes "height") (decimal h))
+    (attribute (codes "viewBox") (codes "0 0 " ++ (decimal w ++ (codes " " ++ decimal h)))) inside (codes "</svg>"))
+
+svg_tag : (w h : ℕ) → IsTag (codes "svg") (attributes (decimal w) (decimal h))
+svg_tag w h =
+    let box = many (codes "0 0 ") (decimal w ++ (codes " " ++ decimal h)) (bare_text (codes "0 0 ") refl) (many (decimal w) (codes " " ++ decimal h) (decimal_text w) (many (codes " ") (decimal h) (bare_text (codes " ") refl) (decimal_text h))) in
+    record {
+      named = refl;
+      names = codes "xmlns" ∷ codes "role" ∷ codes "width" ∷ codes "height" ∷ codes "viewBox" ∷ [];
+      attributed_so =
+          attributed (codes "xmlns") (codes "http://www.w3.org/2000/svg") _ (codes "role" ∷ codes "width" ∷ codes "height" ∷ codes "viewBox" ∷ []) refl (bare_text (codes "http://www.w3.org/2000/svg") refl) refl
+          (attributed (codes "role") (codes "img") _ (codes "width" ∷ codes "height" ∷ codes "viewBox" ∷ []) refl (bare_text (codes "img") refl) refl
+          (attributed (codes "width") (decimal w) _ (codes "height" ∷ codes "viewBox" ∷ []) refl (decimal_text w) refl
+          (attributed (codes "height") (decimal h) _ (codes "viewBox" ∷ []) refl (decimal_text h) refl
+          (attributed (codes "viewBox") (codes "0 0 " ++ (decimal w ++ (codes " " ++ decimal h))) [] [] refl box refl no_attributes))));
+    }
+
+pub proved_diagrams_are_elements : DiagramsAreElements
+unfolding svg_text
+proved_diagrams_are_elements t c =
+    let s : Scenario = c.scenario in
+    let strokes : List Stroke = strokes_of t s.order in
+    let bottom : ℕ = top_of s.generals strokes c.accesses (s.bound + 1) in
+    let wide : ℕ = width s.generals c.accesses in
+    let w : ℕ = wide + 16 in
+    let h : ℕ = bottom + 124 in
+    let a : List ℕ = head s in
+    let b : List ℕ = heads s c.accesses in
+    let d : List ℕ = bands s.generals strokes c.accesses wide (s.bound + 1) in
+    let e : List ℕ = foot c wide bottom in
+    let inside : List ℕ = a ++ b ++ d ++ e in
+    let is : IsContent inside =
+    joined (a ++ b ++ d) e
+    (joined (a ++ b) d (joined a b (head_content s) (heads_content s c.accesses)) (all (band s.generals strokes c.accesses wide) (range_with_len 0 (s.bound + 1)) (band_content s.generals strokes c.accesses wide)))
+    (foot_content c wide bottom) in (
+      element (codes "svg") (attributes (decimal w) (decimal h)) (codes "\n" ++ inside),
+      record {
+        name = codes "svg";
+        attributes = attributes (decimal w) (decimal h);
+        content = codes "\n" ++ inside;
+        tag = svg_tag w h;
+        inside = joined (codes "\n") inside feed is;
+        whole = refl;
+      },
+      picture_is w h inside,
+    )

@@ -1,0 +1,8 @@
+use Rattle.std.proofs.Common.{◌≡◌, ◌<◌, ◌^◌, ◌+◌, ◌++◌, take, drop, max}
+use Rattle.std.specs.List.{flat_map, range_with_len}
+use Rattle.std.specs.String.{string_bytes}
+use Rattle.diagram.specs.Bands.{accesses_from}
+use Rattle.diagram.proofs.bands.put_accesses.Given as goal
+
+abbrev pub invariant-loop-place : goal.invariant-loop-place
+invariant-loop-place l = string_bytes l.out ++ accesses_from l.generals l.accesses l.round l.place (drop l.place l.accesses) ≡ string_bytes l.fn.out ++ accesses_from l.generals l.accesses l.round 0 l.accesses

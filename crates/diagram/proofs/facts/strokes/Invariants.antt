@@ -1,0 +1,8 @@
+use Rattle.std.proofs.Common.{◌≡◌, ◌<◌, ◌^◌, ◌+◌, ◌++◌, take, drop, max}
+use Rattle.std.specs.List.{flat_map, range_with_len}
+use Rattle.std.specs.String.{string_bytes}
+use Rattle.diagram.specs.Facts.{strokes_to}
+use Rattle.diagram.proofs.facts.strokes.Given as goal
+
+abbrev pub invariant-loop-receiver : goal.invariant-loop-receiver
+invariant-loop-receiver l = l.strokes.items ≡ strokes_to l.table l.order l.receiver

@@ -1,0 +1,8 @@
+use Rattle.std.proofs.Common.{◌≡◌, ◌<◌, ◌^◌, ◌+◌, ◌++◌, take, drop, max}
+use Rattle.std.specs.List.{flat_map, range_with_len}
+use Rattle.std.specs.String.{string_bytes}
+use Rattle.diagram.specs.Layout.{most}
+use Rattle.diagram.proofs.layout.most.Given as goal
+
+abbrev pub invariant-loop-stroke : goal.invariant-loop-stroke
+invariant-loop-stroke l = record { value : max (most l.round (drop l.stroke-index l.strokes)) l.most ≡ most l.round l.strokes; small : l.most < 2 ^ 65 }

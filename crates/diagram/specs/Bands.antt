@@ -1,0 +1,68 @@
+-- The bands of a picture, one for each round, with its accesses and its strokes.
+use Rattle.std.specs.Prelude.{ℕ, ◌+◌, ◌-◌, ◌*◌, ◌==◌, min, if◌then◌else◌, List, [], ◌∷◌, ◌++◌, flat_map, codes}
+use Rattle.std.specs.Fmt.{decimal}
+use Rattle.std.specs.List.{range_with_len}
+use Rattle.board.specs.Board.{Access}
+use Rattle.diagram.specs.declared.stroke.Stroke.{Stroke}
+use Rattle.diagram.specs.Layout.{access_top, board, column, fan_top, height, rows_top, top_of}
+use Rattle.diagram.specs.Shapes.{group_at, line, mark, stroke_at, text_at, title}
+use Rattle.diagram.specs.Words.{access_words, kind, outline, row_words, shown_words, stroke_words}
+
+unfoldable pub round_words : ℕ → List ℕ
+round_words round = codes "round " ++ decimal round
+
+-- the line of a general through the band, and that of the board, where there are accesses
+abbrev pub life : ℕ → ℕ → List ℕ
+life x height = line (codes "life") x 0 x height
+
+abbrev pub general_life : ℕ → ℕ → List ℕ
+general_life height g = life (column g) height
+
+abbrev pub board_line : ℕ → List Access → ℕ → List ℕ
+board_line n [] height = []
+board_line n (a ∷ accesses) height = life (board n) height
+
+abbrev pub lives : ℕ → List Access → ℕ → List ℕ
+lives n accesses height = board_line n accesses height ++ flat_map (general_life height) (range_with_len 0 n)
+
+-- an access: a point, a line to the board, which is so far to the right, and what is said of it
+abbrev pub point : ℕ → Access → List ℕ
+point far a =
+    title (access_words a) ++ line (codes "access") 0 0 far 0 ++ mark (codes "point") (codes "M0-4a4 4 0 0 1 0 8a4 4 0 0 1 0-8z") ++ text_at (codes "small") (far + 12) 4 (shown_words a)
+
+abbrev pub access_at : ℕ → ℕ → ℕ → Access → List ℕ
+access_at n top round a = if a.round == round then group_at (column a.general) top (point (board n - column a.general) a) else []
+
+-- those of a round, in the board's order, the first of them with this place among all
+unfoldable pub accesses_from : ℕ → List Access → ℕ → ℕ → List Access → List ℕ
+accesses_from n all round place [] = []
+accesses_from n all round place (a ∷ rest) = access_at n (access_top all round place) round a ++ accesses_from n all round (place + 1) rest
+
+-- a stroke from its teller to its receiver, as wide as it has labels, up to 5
+abbrev pub stroke_line : ℕ → ℕ → Stroke → List ℕ
+stroke_line n top st =
+    stroke_at (kind st) (min st.labels 5) (column st.teller) top (column st.receiver) (top + 16 + 16 * n + 6 * min st.row 8) (stroke_words st)
+
+-- its row in its receiver's list
+abbrev pub row : ℕ → Stroke → List ℕ
+row top st =
+    group_at (column st.receiver) (top + 12 + 18 * st.row) (title (stroke_words st) ++ mark (kind st) (outline st) ++ text_at (codes "small") 12 4 (row_words st))
+
+-- both, where it is of this round
+abbrev pub drawn : ℕ → List Access → ℕ → Stroke → List ℕ
+drawn n accesses round st = if st.round == round then stroke_line n (fan_top accesses round) st ++ row (rows_top n accesses round) st else []
+
+-- what a round's band has, of this width, and its place, behind so many rounds
+abbrev pub inside : ℕ → List Stroke → List Access → ℕ → ℕ → List ℕ
+inside n strokes accesses wide round =
+    line (codes "rule") 16 0 wide 0
+    ++ text_at (codes "round") 16 24 (round_words round)
+    ++ lives n accesses (height n strokes accesses round)
+    ++ accesses_from n accesses round 0 accesses
+    ++ flat_map (drawn n accesses round) strokes
+
+abbrev pub band : ℕ → List Stroke → List Access → ℕ → ℕ → List ℕ
+band n strokes accesses wide before = group_at 0 (top_of n strokes accesses before) (inside n strokes accesses wide (before + 1))
+
+abbrev pub bands : ℕ → List Stroke → List Access → ℕ → ℕ → List ℕ
+bands n strokes accesses wide rounds = flat_map (band n strokes accesses wide) (range_with_len 0 rounds)

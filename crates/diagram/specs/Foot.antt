@@ -1,0 +1,60 @@
+-- What stands below the bands of a picture: the decisions and the verdict (TOPLAS 1982, IC1 and IC2).
+use Rattle.std.specs.Prelude.{ℕ, ◌-◌, ◌==◌, nat_lt, Bool, true, false, if◌then◌else◌, List, [], ◌++◌, flat_map, codes, slice_get, Option, None, Some}
+use Rattle.std.specs.Fmt.{decimal}
+use Rattle.std.specs.List.{range_with_len}
+use Rattle.round.specs.Scenario.{Scenario, is_traitor}
+use Rattle.world.specs.Chronicle.{Chronicle}
+use Rattle.world.specs.declared.verdict.Verdict.{Verdict}
+use Rattle.diagram.specs.Layout.{column}
+use Rattle.diagram.specs.Shapes.{group_at, line, mark, text_at}
+
+-- a general's shape: a square for a traitor, a circle for a loyal one
+abbrev pub sort_of : Bool → List ℕ
+sort_of true = codes "traitor"
+sort_of false = codes "loyal"
+
+abbrev pub shape_of : Bool → List ℕ
+shape_of true = codes "M-6-6h12v12h-12z"
+shape_of false = codes "M0-6a6 6 0 0 1 0 12a6 6 0 0 1 0-12z"
+
+unfoldable pub decides_words : ℕ → List ℕ
+decides_words order = codes "decides " ++ decimal order
+
+abbrev pub decided_at : ℕ → Bool → ℕ → List ℕ
+decided_at g traitor order = group_at (column g) 24 (mark (sort_of traitor) (shape_of traitor) ++ text_at (codes "name") 12 4 (decides_words order))
+
+-- the place of a lieutenant's decision, under this commander
+abbrev pub place_of : ℕ → ℕ → ℕ
+place_of c g = if nat_lt g c then g else g - 1
+
+abbrev pub decided_if : ℕ → Bool → Option ℕ → List ℕ
+decided_if g traitor None = []
+decided_if g traitor (Some order) = decided_at g traitor order
+
+abbrev pub decided : Scenario → List ℕ → ℕ → List ℕ
+decided s ds g = if g == s.commander then [] else decided_if g (is_traitor s g) (slice_get ds (place_of s.commander g))
+
+abbrev pub decided_all : Scenario → List ℕ → List ℕ
+decided_all s ds = flat_map (decided s ds) (range_with_len 0 s.generals)
+
+abbrev pub alike_words : Bool → List ℕ
+alike_words true = codes "The loyal lieutenants decide alike."
+alike_words false = codes "The loyal lieutenants do not decide alike."
+
+abbrev pub obeyed_words : Option Bool → List ℕ
+obeyed_words (Some true) = codes "They obey the loyal commander."
+obeyed_words (Some false) = codes "They do not obey the loyal commander."
+obeyed_words None = codes "The commander is a traitor, whom nobody has to obey."
+
+abbrev pub bound_words : Bool → List ℕ
+bound_words true = codes "The bound holds: there are few enough traitors."
+bound_words false = codes "The bound does not hold: there are too many traitors, and nothing was promised."
+
+abbrev pub verdict_lines : Verdict → List ℕ
+verdict_lines v =
+    text_at (codes "name") 120 64 (alike_words v.alike) ++ text_at (codes "name") 120 84 (obeyed_words v.obeyed) ++ text_at (codes "name") 120 104 (bound_words v.bound)
+
+abbrev pub foot : Chronicle → ℕ → ℕ → List ℕ
+foot c wide top =
+    group_at 0 top
+    (line (codes "rule") 16 0 wide 0 ++ text_at (codes "round") 16 28 (codes "decisions") ++ decided_all c.scenario c.decisions ++ verdict_lines c.verdict)

@@ -1,0 +1,56 @@
+-- Where the parts of a picture stand, in units of it: a column for each general, and a band for each round.
+use Rattle.std.specs.Prelude.{ℕ, zero, suc, ◌+◌, ◌-◌, ◌*◌, ◌==◌, nat_lt, Bool, max, if◌then◌else◌, List, [], ◌∷◌, length, count_by}
+use Rattle.board.specs.Board.{Access}
+use Rattle.diagram.specs.declared.stroke.Stroke.{Stroke}
+use Rattle.diagram.specs.Words.{shown_words}
+
+abbrev pub column : ℕ → ℕ
+column g = 120 + 200 * g
+
+-- the board's column, beside those of so many generals
+abbrev pub board : ℕ → ℕ
+board n = 120 + 200 * n
+
+-- how much room what is said of accesses takes beside the board: 7 for each byte
+abbrev pub room : Access → ℕ
+room a = 28 + 7 * length (shown_words a)
+
+abbrev pub widest : List Access → ℕ
+widest [] = 0
+widest (a ∷ accesses) = max (room a) (widest accesses)
+
+-- how wide the picture is
+abbrev pub width : ℕ → List Access → ℕ
+width n accesses = board n + widest accesses
+
+abbrev pub is_in : ℕ → Access → Bool
+is_in round a = a.round == round
+
+abbrev pub is_earlier : ℕ → Access → Bool
+is_earlier round a = nat_lt a.round round
+
+-- in a round's band: an access with this place among all, where strokes begin, and where the lists of what each was told begin
+abbrev pub access_top : List Access → ℕ → ℕ → ℕ
+access_top accesses round place = 16 + 20 * (place - count_by (is_earlier round) accesses)
+
+abbrev pub fan_top : List Access → ℕ → ℕ
+fan_top accesses round = 24 + 20 * count_by (is_in round) accesses
+
+abbrev pub rows_top : ℕ → List Access → ℕ → ℕ
+rows_top n accesses round = fan_top accesses round + 72 + 16 * n
+
+-- how long the longest list is
+abbrev pub reach : ℕ → Stroke → ℕ
+reach round stroke = if stroke.round == round then stroke.row + 1 else 0
+
+abbrev pub most : ℕ → List Stroke → ℕ
+most round [] = 0
+most round (stroke ∷ strokes) = max (reach round stroke) (most round strokes)
+
+-- how high the band is, and where the one behind so many rounds is
+abbrev pub height : ℕ → List Stroke → List Access → ℕ → ℕ
+height n strokes accesses round = rows_top n accesses round + 20 + 18 * most round strokes
+
+unfoldable pub top_of : ℕ → List Stroke → List Access → ℕ → ℕ
+top_of n strokes accesses zero = 80
+top_of n strokes accesses (suc rounds) = top_of n strokes accesses rounds + height n strokes accesses (suc rounds)

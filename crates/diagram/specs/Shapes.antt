@@ -1,0 +1,59 @@
+-- The elements of a picture.
+use Rattle.std.specs.Prelude.{ℕ, List, ◌++◌, codes}
+use Rattle.std.specs.Fmt.{decimal}
+
+unfoldable pub text_start : List ℕ → ℕ → ℕ → List ℕ
+text_start class x y = codes "<text class=\"" ++ (class ++ (codes "\" x=\"" ++ (decimal x ++ (codes "\" y=\"" ++ (decimal y ++ codes "\">")))))
+
+abbrev pub text_end : List ℕ
+text_end = codes "</text>\n"
+
+-- words at a place
+abbrev pub text_at : List ℕ → ℕ → ℕ → List ℕ → List ℕ
+text_at class x y words = text_start class x y ++ words ++ text_end
+
+-- a line from one place to another
+unfoldable pub line : List ℕ → ℕ → ℕ → ℕ → ℕ → List ℕ
+line class x y u v =
+    codes "<path class=\"" ++ (class ++ (codes "\" d=\"M" ++ (decimal x ++ (codes " " ++ (decimal y ++ (codes "L" ++ (decimal u ++ (codes " " ++ (decimal v ++ codes "\"/>\n")))))))))
+
+-- a stroke's class and width, and its way
+unfoldable pub stroke_open : List ℕ → ℕ → List ℕ
+stroke_open kind width = codes "<path class=\"stroke " ++ (kind ++ (codes "\" stroke-width=\"" ++ (decimal width ++ codes "\" d=\"")))
+
+unfoldable pub stroke_way : ℕ → ℕ → ℕ → ℕ → List ℕ
+stroke_way x y u v = codes "M" ++ (decimal x ++ (codes " " ++ (decimal y ++ (codes "L" ++ (decimal u ++ (codes " " ++ (decimal v ++ codes "\">")))))))
+
+abbrev pub stroke_start : List ℕ → ℕ → ℕ → ℕ → ℕ → ℕ → List ℕ
+stroke_start kind width x y u v = stroke_open kind width ++ stroke_way x y u v
+
+abbrev pub stroke_end : List ℕ
+stroke_end = codes "</path>\n"
+
+abbrev pub title_start : List ℕ
+title_start = codes "<title>"
+
+abbrev pub title_end : List ℕ
+title_end = codes "</title>\n"
+
+-- what is told of an element to those who point at it, or hear it
+abbrev pub title : List ℕ → List ℕ
+title words = title_start ++ words ++ title_end
+
+-- a stroke of this width, and what is told of it
+abbrev pub stroke_at : List ℕ → ℕ → ℕ → ℕ → ℕ → ℕ → List ℕ → List ℕ
+stroke_at kind width x y u v words = stroke_start kind width x y u v ++ title words ++ stroke_end
+
+unfoldable pub group_start : ℕ → ℕ → List ℕ
+group_start x y = codes "<g transform=\"translate(" ++ (decimal x ++ (codes " " ++ (decimal y ++ codes ")\">\n")))
+
+abbrev pub group_end : List ℕ
+group_end = codes "</g>\n"
+
+-- elements, moved to a place
+abbrev pub group_at : ℕ → ℕ → List ℕ → List ℕ
+group_at x y inside = group_start x y ++ inside ++ group_end
+
+-- a mark of this outline
+unfoldable pub mark : List ℕ → List ℕ → List ℕ
+mark kind outline = codes "<path class=\"mark " ++ (kind ++ (codes "\" d=\"" ++ (outline ++ codes "\"/>\n")))

@@ -1,0 +1,85 @@
+-- A campaign as a picture in SVG.
+use Rattle.std.specs.Prelude.{ℕ, ◌+◌, ◌==◌, Bool, List, [], ◌∷◌, ◌++◌, flat_map, codes}
+use Rattle.std.specs.Fmt.{decimal}
+use Rattle.std.specs.List.{range_with_len}
+use Rattle.board.specs.Board.{Access}
+use Rattle.book.specs.Table.{MessageTable}
+use Rattle.round.specs.Scenario.{Scenario, is_traitor}
+use Rattle.world.specs.Chronicle.{Chronicle}
+use Rattle.diagram.specs.declared.stroke.Stroke.{Stroke}
+use Rattle.diagram.specs.Bands.{bands}
+use Rattle.diagram.specs.Facts.{strokes_of}
+use Rattle.diagram.specs.Foot.{foot, shape_of, sort_of}
+use Rattle.diagram.specs.Layout.{board, column, top_of, width}
+use Rattle.diagram.specs.Shapes.{group_at, mark, text_at, title}
+use Rattle.diagram.specs.Words.{general_words, role_words}
+
+-- what every picture begins with, and its size, with its units
+unfoldable pub start : List ℕ
+start = codes "<svg xmlns=\"http://www.w3.org/2000/svg\" role=\"img\""
+
+unfoldable pub box_words : ℕ → ℕ → List ℕ
+box_words w h =
+    codes " width=\"" ++ (decimal w ++ (codes "\" height=\"" ++ (decimal h ++ (codes "\" viewBox=\"0 0 " ++ (decimal w ++ (codes " " ++ (decimal h ++ codes "\">\n")))))))
+
+-- the campaign's numbers
+unfoldable pub campaign_words : ℕ → ℕ → ℕ → ℕ → List ℕ
+campaign_words n m c order =
+    decimal n ++ (codes " generals, traitors provided for: " ++ (decimal m ++ (codes "; commander " ++ (decimal c ++ (codes " was given order " ++ decimal order)))))
+
+-- what is told of the picture to those who do not see it
+unfoldable pub key : List ℕ
+key =
+    codes "<desc>A column for each general, and a band for each round, from above. In a band a line leads from who tells something to who"
+    ++ codes "m he tells it, as wide as he tells it of labels, and below stands in the column of the receiver what he was told. Circle and p"
+    ++ codes "lain line: as an honest relay tells it. Diamond and dashes: something else. Cross and dots: nothing, where something was to be"
+    ++ codes " told. Above the lines stand the accesses to the board, in its order. Square: a traitor.</desc>\n"
+
+-- how it looks: on paper, and on a dark ground where one is wished for
+unfoldable pub look : List ℕ
+look =
+    codes "<style>svg{background:#fff}text{fill:#111;font:13px sans-serif}.head{font:bold 16px sans-serif}.round{font-weight:bold}.small{"
+    ++ codes "font-size:11px}.life{stroke:#8a8a8a}.rule{stroke:#8a8a8a;stroke-dasharray:2 4}.access{stroke:#0b5fa5}.stroke{fill:none;stroke:"
+    ++ codes "#111;stroke-opacity:.45}.stroke.lie{stroke:#b00020;stroke-opacity:1;stroke-dasharray:9 4}.stroke.none{stroke:#b00020;stroke-op"
+    ++ codes "acity:1;stroke-dasharray:2 5}.mark{fill:#fff;stroke:#111;stroke-width:1.5}.mark.lie{fill:#b00020;stroke:#b00020}.mark.none{fil"
+    ++ codes "l:none;stroke:#b00020;stroke-width:2.5}.mark.point{fill:#0b5fa5;stroke:#0b5fa5}.mark.traitor{fill:#b00020}@media(prefers-color"
+    ++ codes "-scheme:dark){svg{background:#111}text{fill:#eee}.stroke,.mark{stroke:#eee}.mark{fill:#111}.access{stroke:#6cb8f5}.mark.point{"
+    ++ codes "fill:#6cb8f5;stroke:#6cb8f5}.stroke.lie,.stroke.none,.mark.none{stroke:#ff8095}.mark.lie{fill:#ff8095;stroke:#ff8095}.mark.tra"
+    ++ codes "itor{fill:#ff8095}}</style>\n"
+
+-- what stands before the columns
+abbrev pub head : Scenario → List ℕ
+head s =
+    title (campaign_words s.generals s.bound s.commander s.order) ++ key ++ look ++ text_at (codes "head") 16 28 (campaign_words s.generals s.bound s.commander s.order)
+
+-- who has which column
+abbrev pub general_head : ℕ → Bool → Bool → List ℕ
+general_head g commander traitor =
+    group_at (column g) 50
+    (mark (sort_of traitor) (shape_of traitor) ++ text_at (codes "name") 12 4 (general_words g) ++ text_at (codes "small") 12 20 (role_words commander traitor))
+
+abbrev pub head_of : Scenario → ℕ → List ℕ
+head_of s g = general_head g (g == s.commander) (is_traitor s g)
+
+abbrev pub board_head : ℕ → List Access → List ℕ
+board_head n [] = []
+board_head n (a ∷ accesses) = text_at (codes "name") (board n) 54 (codes "board")
+
+abbrev pub heads : Scenario → List Access → List ℕ
+heads s accesses = board_head s.generals accesses ++ flat_map (head_of s) (range_with_len 0 s.generals)
+
+-- a picture of this width and height, with this inside
+abbrev pub picture : ℕ → ℕ → List ℕ → List ℕ
+picture w h inside = start ++ box_words w h ++ inside ++ codes "</svg>\n"
+
+-- the picture with these strokes
+abbrev pub svg_with : List Stroke → Chronicle → List ℕ
+svg_with strokes c =
+    let s = c.scenario in
+    let bottom = top_of s.generals strokes c.accesses (s.bound + 1) in
+    let wide = width s.generals c.accesses in
+    picture (wide + 16) (bottom + 124) (head s ++ heads s c.accesses ++ bands s.generals strokes c.accesses wide (s.bound + 1) ++ foot c wide bottom)
+
+-- the picture of a chronicle, whose letters tell this message table
+unfoldable pub svg_text : MessageTable → Chronicle → List ℕ
+svg_text t c = svg_with (strokes_of t c.scenario.order) c

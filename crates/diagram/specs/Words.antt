@@ -1,0 +1,91 @@
+-- What a picture says, in words.
+use Rattle.std.specs.Prelude.{ℕ, ◌==◌, Bool, true, false, if◌then◌else◌, List, [], ◌++◌, flat_map, codes, Option, None, Some}
+use Rattle.std.specs.Fmt.{decimal}
+use Rattle.semantics.specs.declared.request.Request.{Request}
+use Rattle.semantics.specs.declared.request.Request.TheVariants.{Get, Swap, Add, Cas, Copy}
+use Rattle.board.specs.Board.{Access}
+use Rattle.diagram.specs.declared.stroke.Stroke.{Stroke}
+
+abbrev pub order_words : Option ℕ → List ℕ
+order_words None = codes "nothing"
+order_words (Some order) = decimal order
+
+abbrev pub labels_words : ℕ → List ℕ
+labels_words labels = if labels == 1 then [] else codes ", " ++ decimal labels ++ codes " labels"
+
+abbrev pub differs_words : Bool → List ℕ
+differs_words true = codes "; an honest relay would tell something else"
+differs_words false = []
+
+unfoldable pub tells_words : ℕ → ℕ → List ℕ
+tells_words teller p = codes "general " ++ (decimal teller ++ (codes " tells general " ++ (decimal p ++ codes ": ")))
+
+-- who told whom what, of how many labels, and whether an honest relay would not
+abbrev pub stroke_words : Stroke → List ℕ
+stroke_words stroke = tells_words stroke.teller stroke.receiver ++ order_words stroke.told ++ labels_words stroke.labels ++ differs_words stroke.differs
+
+unfoldable pub from_words : ℕ → List ℕ
+from_words teller = codes "from " ++ (decimal teller ++ codes ": ")
+
+-- the same, as it is written in the receiver's column
+abbrev pub row_words : Stroke → List ℕ
+row_words stroke = from_words stroke.teller ++ order_words stroke.told ++ labels_words stroke.labels
+
+-- what was told as an honest relay would, a lie, or nothing where something was to be told: the class, and a circle, a diamond and a cross
+abbrev pub kind_of : Bool → Option ℕ → List ℕ
+kind_of false told = codes "told"
+kind_of true (Some order) = codes "lie"
+kind_of true None = codes "none"
+
+abbrev pub kind : Stroke → List ℕ
+kind stroke = kind_of stroke.differs stroke.told
+
+abbrev pub outline_of : Bool → Option ℕ → List ℕ
+outline_of false told = codes "M0-4a4 4 0 0 1 0 8a4 4 0 0 1 0-8z"
+outline_of true (Some order) = codes "M0-6l6 6l-6 6l-6-6z"
+outline_of true None = codes "M-5-5L5 5M5-5L-5 5"
+
+abbrev pub outline : Stroke → List ℕ
+outline stroke = outline_of stroke.differs stroke.told
+
+unfoldable pub swap_words : ℕ → ℕ → List ℕ
+swap_words value slot = codes "writes " ++ (decimal value ++ (codes " into word " ++ decimal slot))
+
+unfoldable pub copy_words : ℕ → ℕ → List ℕ
+copy_words count slot = codes "copies " ++ (decimal count ++ (codes " words from word " ++ decimal slot))
+
+-- what was asked of the board
+abbrev pub asked_words : Request → List ℕ
+asked_words (Get slot) = codes "reads word " ++ decimal slot
+asked_words (Swap slot value) = swap_words value slot
+asked_words (Add slot value) = codes "adds " ++ decimal value ++ codes " to word " ++ decimal slot
+asked_words (Cas slot expected new) = swap_words new slot ++ codes " if it is " ++ decimal expected
+asked_words (Copy span) = copy_words span.1 span.0
+
+abbrev pub word_words : ℕ → List ℕ
+word_words word = codes " " ++ decimal word
+
+-- what the board answered
+abbrev pub answer_words : List ℕ → List ℕ
+answer_words words = codes "; answer" ++ flat_map word_words words
+
+abbrev pub general_words : ℕ → List ℕ
+general_words g = codes "general " ++ decimal g
+
+-- who asked what, and the answer
+abbrev pub access_words : Access → List ℕ
+access_words a = general_words a.general ++ codes " " ++ asked_words a.request ++ answer_words a.reply
+
+abbrev pub is_copy : Request → Bool
+is_copy (Copy span) = true
+is_copy _ = false
+
+-- what is written of an access beside the board: all but its general, and the words of a copy
+abbrev pub shown_words : Access → List ℕ
+shown_words a = asked_words a.request ++ (if is_copy a.request then [] else answer_words a.reply)
+
+abbrev pub role_words : Bool → Bool → List ℕ
+role_words true true = codes "commander, traitor"
+role_words true false = codes "commander, loyal"
+role_words false true = codes "lieutenant, traitor"
+role_words false false = codes "lieutenant, loyal"

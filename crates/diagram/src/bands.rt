@@ -1,0 +1,305 @@
+//! The bands of a picture, one for each round.
+ghost use Rattle.std.specs.Prelude.{◌≡◌, ◌++◌, ◌+◌, ◌<◌, ◌≤◌, ◌^◌, codes, length, flat_map, string_bytes, OnOk};
+ghost use Rattle.std.specs.List.{range_with_len};
+ghost use Rattle.diagram.specs.Shapes.{text_at, title};
+ghost use Rattle.diagram.specs.Words.{access_words, row_words, shown_words, stroke_words};
+ghost use Rattle.diagram.specs.Bands.{access_at, accesses_from, band, bands, board_line, drawn, general_life, inside, life, lives, point, round_words, row, stroke_line};
+
+use crate::layout::{access_top, board, column, fan_top, height, rows_top, top_of};
+use crate::shapes::{
+    put_group_end, put_group_start, put_line, put_mark, put_stroke_end, put_stroke_start,
+    put_text_end, put_text_start, put_title_end, put_title_start,
+};
+use crate::stroke::Stroke;
+use crate::words::{kind, outline, put_access_words, put_row_words, put_shown, put_stroke_words};
+use board::Access;
+use std::alloc::AllocError;
+
+/// Adds the bands of so many rounds.
+pub(crate) fn put_bands(
+    out: &mut String,
+    generals: u8,
+    strokes: &[Stroke],
+    accesses: &[Access],
+    wide: u128,
+    rounds: u8,
+) -> Result<(), AllocError>
+    requires { rounds < 255 }
+    ensures { OnOk result (string_bytes out.new ≡ string_bytes out.old ++ bands generals strokes.now accesses.now wide rounds) }
+{
+    for before in 0..rounds {
+        put_band(out, generals, strokes, accesses, wide, before)?;
+    }
+    Ok(())
+}
+
+/// Adds the band behind so many rounds.
+fn put_band(
+    out: &mut String,
+    generals: u8,
+    strokes: &[Stroke],
+    accesses: &[Access],
+    wide: u128,
+    before: u8,
+) -> Result<(), AllocError>
+    requires { before < 255 }
+    ensures { OnOk result (string_bytes out.new ≡ string_bytes out.old ++ band generals strokes.now accesses.now wide before) }
+{
+    put_group_start(out, 0, top_of(generals, strokes, accesses, before))?;
+    put_inside(
+        out,
+        generals,
+        strokes,
+        accesses,
+        wide,
+        u32::from(before) + 1,
+    )?;
+    put_group_end(out)?;
+    Ok(())
+}
+
+/// Adds what the band of a round has.
+fn put_inside(
+    out: &mut String,
+    generals: u8,
+    strokes: &[Stroke],
+    accesses: &[Access],
+    wide: u128,
+    round: u32,
+) -> Result<(), AllocError>
+    ensures { OnOk result (string_bytes out.new ≡ string_bytes out.old ++ inside generals strokes.now accesses.now wide round) }
+{
+    put_line(out, "rule", 16, 0, wide, 0)?;
+    put_round_text(out, round)?;
+    put_lives(
+        out,
+        generals,
+        accesses,
+        height(generals, strokes, accesses, round),
+    )?;
+    put_accesses(out, generals, accesses, round)?;
+    put_strokes(out, generals, strokes, accesses, round)
+}
+
+/// Adds the number of a round beside its band.
+fn put_round_text(out: &mut String, round: u32) -> Result<(), AllocError>
+    ensures { OnOk result (string_bytes out.new ≡ string_bytes out.old ++ text_at (codes "round") 16 24 (round_words round)) }
+{
+    put_text_start(out, "round", 16, 24)?;
+    put_round(out, round)?;
+    put_text_end(out)
+}
+
+/// Adds the number of a round.
+#[tactic(auto, unfolding(crate::specs::Bands::round_words))]
+fn put_round(out: &mut String, round: u32) -> Result<(), AllocError>
+    ensures { OnOk result (string_bytes out.new ≡ string_bytes out.old ++ round_words round) }
+{
+    write!(out, "round {round}")
+}
+
+/// Adds the line of each general, and of the board where there are accesses.
+fn put_lives(
+    out: &mut String,
+    generals: u8,
+    accesses: &[Access],
+    height: u128,
+) -> Result<(), AllocError>
+    ensures { OnOk result (string_bytes out.new ≡ string_bytes out.old ++ lives generals accesses.now height) }
+{
+    put_board(out, generals, accesses, height)?;
+    put_general_lives(out, generals, height)
+}
+
+/// Adds the line of each general.
+fn put_general_lives(out: &mut String, generals: u8, height: u128) -> Result<(), AllocError>
+    ensures { OnOk result (string_bytes out.new ≡ string_bytes out.old ++ flat_map (general_life height) (range_with_len 0 generals)) }
+{
+    for general in 0..generals {
+        put_general_life(out, general, height)?;
+    }
+    Ok(())
+}
+
+/// Adds the line of a general.
+fn put_general_life(out: &mut String, general: u8, height: u128) -> Result<(), AllocError>
+    ensures { OnOk result (string_bytes out.new ≡ string_bytes out.old ++ general_life height general) }
+{
+    put_life(out, column(u32::from(general)), height)
+}
+
+/// Adds a line through the band.
+fn put_life(out: &mut String, x: u128, height: u128) -> Result<(), AllocError>
+    ensures { OnOk result (string_bytes out.new ≡ string_bytes out.old ++ life x height) }
+{
+    put_line(out, "life", x, 0, x, height)
+}
+
+/// Adds the line of the board, where there are accesses.
+fn put_board(
+    out: &mut String,
+    generals: u8,
+    accesses: &[Access],
+    height: u128,
+) -> Result<(), AllocError>
+    ensures { OnOk result (string_bytes out.new ≡ string_bytes out.old ++ board_line generals accesses.now height) }
+{
+    match accesses {
+        [] => Ok(()),
+        [_, ..] => put_life(out, board(generals), height),
+    }
+}
+
+/// Adds the accesses of a round, in the board's order.
+fn put_accesses(
+    out: &mut String,
+    generals: u8,
+    accesses: &[Access],
+    round: u32,
+) -> Result<(), AllocError>
+    ensures { OnOk result (string_bytes out.new ≡ string_bytes out.old ++ accesses_from generals accesses.now round 0 accesses.now) }
+{
+    for (place, access) in accesses.iter().enumerate() {
+        put_access(
+            out,
+            generals,
+            access_top(accesses, round, place),
+            round,
+            access,
+        )?;
+    }
+    Ok(())
+}
+
+/// Adds an access at a place of the band, where it is of this round.
+fn put_access(
+    out: &mut String,
+    generals: u8,
+    top: u128,
+    round: u32,
+    access: &Access,
+) -> Result<(), AllocError>
+    ensures { OnOk result (string_bytes out.new ≡ string_bytes out.old ++ access_at generals top round access.now) }
+{
+    if access.round != round {
+        return Ok(());
+    }
+    let left = column(access.general);
+    put_group_start(out, left, top)?;
+    put_point(out, board(generals).saturating_sub(left), access)?;
+    put_group_end(out)
+}
+
+/// Adds what stands there: the point, and a line to the board, which is so far to the right, with what is said of it.
+fn put_point(out: &mut String, far: u128, access: &Access) -> Result<(), AllocError>
+    requires { far < 2 ^ 100 }
+    ensures { OnOk result (string_bytes out.new ≡ string_bytes out.old ++ point far access.now) }
+{
+    put_access_title(out, access)?;
+    put_line(out, "access", 0, 0, far, 0)?;
+    put_mark(out, "point", "M0-4a4 4 0 0 1 0 8a4 4 0 0 1 0-8z")?;
+    put_access_text(out, far + 12, access)
+}
+
+/// Adds what is told of an access to those who point at it.
+fn put_access_title(out: &mut String, access: &Access) -> Result<(), AllocError>
+    ensures { OnOk result (string_bytes out.new ≡ string_bytes out.old ++ title (access_words access.now)) }
+{
+    put_title_start(out)?;
+    put_access_words(out, access)?;
+    put_title_end(out)
+}
+
+/// Adds what is written of an access.
+fn put_access_text(out: &mut String, x: u128, access: &Access) -> Result<(), AllocError>
+    ensures { OnOk result (string_bytes out.new ≡ string_bytes out.old ++ text_at (codes "small") x 4 (shown_words access.now)) }
+{
+    put_text_start(out, "small", x, 4)?;
+    put_shown(out, access)?;
+    put_text_end(out)
+}
+
+/// Adds the strokes of a round.
+fn put_strokes(
+    out: &mut String,
+    generals: u8,
+    strokes: &[Stroke],
+    accesses: &[Access],
+    round: u32,
+) -> Result<(), AllocError>
+    ensures { OnOk result (string_bytes out.new ≡ string_bytes out.old ++ flat_map (drawn generals accesses.now round) strokes.now) }
+{
+    for stroke in strokes {
+        put_drawn(out, generals, accesses, round, stroke)?;
+    }
+    Ok(())
+}
+
+/// Adds a stroke, where it is of this round, and its row in the receiver's list.
+fn put_drawn(
+    out: &mut String,
+    generals: u8,
+    accesses: &[Access],
+    round: u32,
+    stroke: &Stroke,
+) -> Result<(), AllocError>
+    ensures { OnOk result (string_bytes out.new ≡ string_bytes out.old ++ drawn generals accesses.now round stroke.now) }
+{
+    if stroke.round != round as usize {
+        return Ok(());
+    }
+    put_stroke(out, generals, fan_top(accesses, round), stroke)?;
+    put_row(out, rows_top(generals, accesses, round), stroke)
+}
+
+/// Adds a stroke that begins at this height.
+fn put_stroke(out: &mut String, generals: u8, top: u128, stroke: &Stroke) -> Result<(), AllocError>
+    requires { top < 2 ^ 100 }
+    ensures { OnOk result (string_bytes out.new ≡ string_bytes out.old ++ stroke_line generals top stroke.now) }
+{
+    put_stroke_start(
+        out,
+        kind(stroke),
+        stroke.labels.min(5) as u128,
+        column(u32::from(stroke.teller)),
+        top,
+        column(u32::from(stroke.receiver)),
+        top + 16 + 16 * u128::from(generals) + 6 * stroke.row.min(8) as u128,
+    )?;
+    put_stroke_title(out, stroke)?;
+    put_stroke_end(out)
+}
+
+/// Adds what is told of a stroke to those who point at it.
+fn put_stroke_title(out: &mut String, stroke: &Stroke) -> Result<(), AllocError>
+    ensures { OnOk result (string_bytes out.new ≡ string_bytes out.old ++ title (stroke_words stroke.now)) }
+{
+    put_title_start(out)?;
+    put_stroke_words(out, stroke)?;
+    put_title_end(out)
+}
+
+/// Adds what is written of a stroke in its receiver's list.
+fn put_row_text(out: &mut String, stroke: &Stroke) -> Result<(), AllocError>
+    ensures { OnOk result (string_bytes out.new ≡ string_bytes out.old ++ text_at (codes "small") 12 4 (row_words stroke.now)) }
+{
+    put_text_start(out, "small", 12, 4)?;
+    put_row_words(out, stroke)?;
+    put_text_end(out)
+}
+
+/// Adds the row of a stroke, in a list that begins at this height.
+fn put_row(out: &mut String, top: u128, stroke: &Stroke) -> Result<(), AllocError>
+    requires { top < 2 ^ 100 }
+    ensures { OnOk result (string_bytes out.new ≡ string_bytes out.old ++ row top stroke.now) }
+{
+    put_group_start(
+        out,
+        column(u32::from(stroke.receiver)),
+        top + 12 + 18 * stroke.row as u128,
+    )?;
+    put_stroke_title(out, stroke)?;
+    put_mark(out, kind(stroke), outline(stroke))?;
+    put_row_text(out, stroke)?;
+    put_group_end(out)
+}

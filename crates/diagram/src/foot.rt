@@ -1,0 +1,156 @@
+//! What stands below the bands of a picture: the decisions and the verdict.
+ghost use Rattle.std.specs.Prelude.{◌≡◌, ◌≤◌, ◌<◌, ◌++◌, flat_map, string_bytes, OnOk, slice_get};
+ghost use Rattle.std.specs.List.{range_with_len};
+ghost use Rattle.diagram.specs.Foot.{alike_words, bound_words, decided, decided_all, decided_at, decides_words, foot, obeyed_words, place_of, shape_of, sort_of, verdict_lines};
+
+use crate::layout::column;
+use crate::shapes::{
+    put_group_end, put_group_start, put_line, put_mark, put_text_end, put_text_start, put_words,
+};
+use round::Scenario;
+use std::alloc::AllocError;
+use world::{Chronicle, Verdict};
+
+/// Adds the decisions and the verdict, at this height.
+pub(crate) fn put_foot(
+    out: &mut String,
+    chronicle: &Chronicle,
+    wide: u128,
+    top: u128,
+) -> Result<(), AllocError>
+    ensures { OnOk result (string_bytes out.new ≡ string_bytes out.old ++ foot chronicle.now wide top) }
+{
+    let scenario = chronicle.scenario();
+    put_group_start(out, 0, top)?;
+    put_line(out, "rule", 16, 0, wide, 0)?;
+    put_words(out, "round", 16, 28, "decisions")?;
+    put_decisions(out, scenario, chronicle.decisions())?;
+    put_verdict(out, chronicle.verdict())?;
+    put_group_end(out)
+}
+
+/// Adds what each lieutenant decides.
+fn put_decisions(out: &mut String, scenario: &Scenario, decisions: &[u32]) -> Result<(), AllocError>
+    ensures { OnOk result (string_bytes out.new ≡ string_bytes out.old ++ decided_all scenario.now decisions.now) }
+{
+    for general in 0..scenario.generals() {
+        put_decided(out, scenario, decisions, general)?;
+    }
+    Ok(())
+}
+
+/// Adds what a general decides, if he is a lieutenant.
+fn put_decided(
+    out: &mut String,
+    scenario: &Scenario,
+    decisions: &[u32],
+    general: u8,
+) -> Result<(), AllocError>
+    requires { general < scenario.now.generals }
+    ensures { OnOk result (string_bytes out.new ≡ string_bytes out.old ++ decided scenario.now decisions.now general) }
+{
+    let commander = scenario.commander();
+    if general == commander {
+        return Ok(());
+    }
+    match decisions.get(place_of(commander, general)) {
+        None => Ok(()),
+        Some(order) => put_decided_at(out, general, scenario.is_traitor(general), *order),
+    }
+}
+
+/// The place of a lieutenant's decision, under this commander.
+fn place_of(commander: u8, general: u8) -> usize
+    ensures { result ≡ place_of commander general }
+{
+    if general < commander {
+        usize::from(general)
+    } else {
+        usize::from(general).saturating_sub(1)
+    }
+}
+
+/// Adds a decision in the column of its general.
+fn put_decided_at(
+    out: &mut String,
+    general: u8,
+    is_traitor: bool,
+    order: u32,
+) -> Result<(), AllocError>
+    ensures { OnOk result (string_bytes out.new ≡ string_bytes out.old ++ decided_at general is_traitor order) }
+{
+    put_group_start(out, column(u32::from(general)), 24)?;
+    put_mark(out, sort_of(is_traitor), shape_of(is_traitor))?;
+    put_text_start(out, "name", 12, 4)?;
+    put_decides(out, order)?;
+    put_text_end(out)?;
+    put_group_end(out)
+}
+
+/// Adds the words of a decision.
+#[tactic(auto, unfolding(crate::specs::Foot::decides_words))]
+fn put_decides(out: &mut String, order: u32) -> Result<(), AllocError>
+    ensures { OnOk result (string_bytes out.new ≡ string_bytes out.old ++ decides_words order) }
+{
+    write!(out, "decides {order}")
+}
+
+/// The class of a general's shape.
+pub(crate) fn sort_of(is_traitor: bool) -> &'static str
+    ensures { result.now ≡ sort_of is_traitor }
+{
+    if is_traitor { "traitor" } else { "loyal" }
+}
+
+/// The outline of a general's shape: a square for a traitor, a circle for a loyal one.
+pub(crate) fn shape_of(is_traitor: bool) -> &'static str
+    ensures { result.now ≡ shape_of is_traitor }
+{
+    if is_traitor {
+        "M-6-6h12v12h-12z"
+    } else {
+        "M0-6a6 6 0 0 1 0 12a6 6 0 0 1 0-12z"
+    }
+}
+
+/// Adds the verdict, a line for each of its parts.
+fn put_verdict(out: &mut String, verdict: Verdict) -> Result<(), AllocError>
+    ensures { OnOk result (string_bytes out.new ≡ string_bytes out.old ++ verdict_lines verdict) }
+{
+    put_words(out, "name", 120, 64, alike_words(verdict.alike))?;
+    put_words(out, "name", 120, 84, obeyed_words(verdict.obeyed))?;
+    put_words(out, "name", 120, 104, bound_words(verdict.bound))
+}
+
+/// Whether the loyal lieutenants decide alike.
+fn alike_words(alike: bool) -> &'static str
+    ensures { result.now ≡ alike_words alike }
+{
+    if alike {
+        "The loyal lieutenants decide alike."
+    } else {
+        "The loyal lieutenants do not decide alike."
+    }
+}
+
+/// Whether they obey a loyal commander.
+fn obeyed_words(obeyed: Option<bool>) -> &'static str
+    ensures { result.now ≡ obeyed_words obeyed }
+{
+    match obeyed {
+        Some(true) => "They obey the loyal commander.",
+        Some(false) => "They do not obey the loyal commander.",
+        None => "The commander is a traitor, whom nobody has to obey.",
+    }
+}
+
+/// Whether they had to.
+fn bound_words(bound: bool) -> &'static str
+    ensures { result.now ≡ bound_words bound }
+{
+    if bound {
+        "The bound holds: there are few enough traitors."
+    } else {
+        "The bound does not hold: there are too many traitors, and nothing was promised."
+    }
+}

@@ -1,0 +1,134 @@
+//! Where the parts of a picture stand, in units of it: a column for each general, and a band for each round.
+ghost use Rattle.std.specs.Prelude.{◌≡◌, ◌<◌, ◌+◌, ◌*◌, ◌^◌, count_by, IfOk};
+ghost use Rattle.diagram.specs.Layout.{access_top, board, column, fan_top, height, is_earlier, is_in, most, reach, rows_top, room, top_of, widest};
+
+use crate::stroke::Stroke;
+use crate::words::put_shown;
+use board::Access;
+use std::alloc::{AllocError, Global};
+
+/// Where the column of a general is.
+pub(crate) fn column(general: u32) -> u128
+    ensures { result ≡ column general }
+{
+    120 + 200 * u128::from(general)
+}
+
+/// Where the column of the board is, beside those of so many generals.
+pub(crate) fn board(generals: u8) -> u128
+    ensures { result ≡ board generals }
+{
+    120 + 200 * u128::from(generals)
+}
+
+/// How wide the picture is: with room beside the board for what is said of accesses.
+pub(crate) fn width(alloc: Global, generals: u8, accesses: &[Access]) -> Result<u128, AllocError>
+    ensures value { IfOk result (λ width. width ≡ board generals + widest accesses.now) }
+    ensures small { IfOk result (λ width. width < 2 ^ 101) }
+{
+    Ok(board(generals) + widest(alloc, accesses)?)
+}
+
+/// How much room what is said of accesses takes beside the board.
+fn widest(alloc: Global, accesses: &[Access]) -> Result<u128, AllocError>
+    ensures value { IfOk result (λ width. width ≡ widest accesses.now) }
+    ensures small { IfOk result (λ width. width < 2 ^ 100) }
+{
+    let mut widest = 0;
+    for access in accesses {
+        widest = room(alloc, access)?.max(widest);
+    }
+    Ok(widest)
+}
+
+/// How much room what is said of an access takes: 7 for each byte of it.
+fn room(alloc: Global, access: &Access) -> Result<u128, AllocError>
+    ensures value { IfOk result (λ width. width ≡ room access.now) }
+    ensures small { IfOk result (λ width. width < 2 ^ 100) }
+{
+    let mut text = String::new(alloc);
+    put_shown(&mut text, access)?;
+    Ok(28 + 7 * text.len() as u128)
+}
+
+/// How many accesses a round has.
+fn accesses_in(accesses: &[Access], round: u32) -> usize
+    ensures { result ≡ count_by (is_in round) accesses.now }
+{
+    accesses.iter().filter(|x| x.round == round).count()
+}
+
+/// How many accesses the rounds before have.
+fn accesses_before(accesses: &[Access], round: u32) -> usize
+    ensures { result ≡ count_by (is_earlier round) accesses.now }
+{
+    accesses.iter().filter(|x| x.round < round).count()
+}
+
+/// Where an access with this place among all is in the band of its round.
+pub(crate) fn access_top(accesses: &[Access], round: u32, place: usize) -> u128
+    ensures { result ≡ access_top accesses.now round place }
+{
+    16 + 20 * place.saturating_sub(accesses_before(accesses, round)) as u128
+}
+
+/// Where the strokes of a round begin in its band.
+pub(crate) fn fan_top(accesses: &[Access], round: u32) -> u128
+    ensures value { result ≡ fan_top accesses.now round }
+    ensures small { result < 2 ^ 80 }
+{
+    24 + 20 * accesses_in(accesses, round) as u128
+}
+
+/// Where the lists of what each was told begin in the band.
+pub(crate) fn rows_top(generals: u8, accesses: &[Access], round: u32) -> u128
+    ensures value { result ≡ rows_top generals accesses.now round }
+    ensures small { result < 2 ^ 81 }
+{
+    fan_top(accesses, round) + 72 + 16 * u128::from(generals)
+}
+
+/// How long the longest of these lists is.
+fn most(strokes: &[Stroke], round: u32) -> u128
+    ensures value { result ≡ most round strokes.now }
+    ensures small { result < 2 ^ 65 }
+{
+    let mut most = 0;
+    for stroke in strokes {
+        most = reach(stroke, round).max(most);
+    }
+    most
+}
+
+/// How long the list of a stroke's receiver is at least.
+fn reach(stroke: &Stroke, round: u32) -> u128
+    ensures value { result ≡ reach round stroke.now }
+    ensures small { result < 2 ^ 65 }
+{
+    if stroke.round == round as usize {
+        stroke.row as u128 + 1
+    } else {
+        0
+    }
+}
+
+/// How high the band is.
+pub(crate) fn height(generals: u8, strokes: &[Stroke], accesses: &[Access], round: u32) -> u128
+    ensures value { result ≡ height generals strokes.now accesses.now round }
+    ensures small { result < 2 ^ 82 }
+{
+    rows_top(generals, accesses, round) + 20 + 18 * most(strokes, round)
+}
+
+/// Where the band behind so many rounds is.
+#[tactic(auto, using(crate::proofs::LayoutLemmas::none_above, crate::proofs::LayoutLemmas::one_above))]
+pub(crate) fn top_of(generals: u8, strokes: &[Stroke], accesses: &[Access], rounds: u8) -> u128
+    ensures value { result ≡ top_of generals strokes.now accesses.now rounds }
+    ensures small { result < (rounds + 1) * 2 ^ 82 }
+{
+    if rounds == 0 {
+        return 80;
+    }
+    top_of(generals, strokes, accesses, rounds - 1)
+        + height(generals, strokes, accesses, u32::from(rounds))
+}

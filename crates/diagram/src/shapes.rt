@@ -1,0 +1,134 @@
+//! The elements of a picture.
+ghost use Rattle.std.specs.Prelude.{◌≡◌, ◌++◌, string_bytes, OnOk};
+ghost use Rattle.diagram.specs.Shapes.{group_start, line, mark, stroke_open, stroke_start, stroke_way, text_at, text_start, title_end, title_start, text_end, group_end, stroke_end};
+
+use std::alloc::AllocError;
+
+/// Adds what a text at a place begins with.
+#[tactic(auto, unfolding(crate::specs::Shapes::text_start))]
+pub(crate) fn put_text_start(
+    out: &mut String,
+    class: &str,
+    x: u128,
+    y: u128,
+) -> Result<(), AllocError>
+    ensures { OnOk result (string_bytes out.new ≡ string_bytes out.old ++ text_start class.now x y) }
+{
+    write!(out, "<text class=\"{class}\" x=\"{x}\" y=\"{y}\">")
+}
+
+/// Adds what it ends in.
+pub(crate) fn put_text_end(out: &mut String) -> Result<(), AllocError>
+    ensures { OnOk result (string_bytes out.new ≡ string_bytes out.old ++ text_end) }
+{
+    out.push_str("</text>\n")
+}
+
+/// Adds words at a place.
+pub(crate) fn put_words(
+    out: &mut String,
+    class: &str,
+    x: u128,
+    y: u128,
+    words: &str,
+) -> Result<(), AllocError>
+    ensures { OnOk result (string_bytes out.new ≡ string_bytes out.old ++ text_at class.now x y words.now) }
+{
+    put_text_start(out, class, x, y)?;
+    out.push_str(words)?;
+    put_text_end(out)
+}
+
+/// Adds a line from one place to another.
+#[tactic(auto, unfolding(crate::specs::Shapes::line))]
+pub(crate) fn put_line(
+    out: &mut String,
+    class: &str,
+    x: u128,
+    y: u128,
+    u: u128,
+    v: u128,
+) -> Result<(), AllocError>
+    ensures { OnOk result (string_bytes out.new ≡ string_bytes out.old ++ line class.now x y u v) }
+{
+    write!(out, "<path class=\"{class}\" d=\"M{x} {y}L{u} {v}\"/>\n")
+}
+
+/// Adds what a stroke from one place to another begins with.
+pub(crate) fn put_stroke_start(
+    out: &mut String,
+    kind: &str,
+    width: u128,
+    x: u128,
+    y: u128,
+    u: u128,
+    v: u128,
+) -> Result<(), AllocError>
+    ensures { OnOk result (string_bytes out.new ≡ string_bytes out.old ++ stroke_start kind.now width x y u v) }
+{
+    put_stroke_open(out, kind, width)?;
+    put_way(out, x, y, u, v)
+}
+
+/// Adds its class and its width.
+#[tactic(auto, unfolding(crate::specs::Shapes::stroke_open))]
+fn put_stroke_open(out: &mut String, kind: &str, width: u128) -> Result<(), AllocError>
+    ensures { OnOk result (string_bytes out.new ≡ string_bytes out.old ++ stroke_open kind.now width) }
+{
+    write!(
+        out,
+        "<path class=\"stroke {kind}\" stroke-width=\"{width}\" d=\""
+    )
+}
+
+/// Adds its way, and ends its first tag.
+#[tactic(auto, unfolding(crate::specs::Shapes::stroke_way))]
+fn put_way(out: &mut String, x: u128, y: u128, u: u128, v: u128) -> Result<(), AllocError>
+    ensures { OnOk result (string_bytes out.new ≡ string_bytes out.old ++ stroke_way x y u v) }
+{
+    write!(out, "M{x} {y}L{u} {v}\">")
+}
+
+/// Adds what it ends in.
+pub(crate) fn put_stroke_end(out: &mut String) -> Result<(), AllocError>
+    ensures { OnOk result (string_bytes out.new ≡ string_bytes out.old ++ stroke_end) }
+{
+    out.push_str("</path>\n")
+}
+
+/// Adds what a group at a place begins with.
+#[tactic(auto, unfolding(crate::specs::Shapes::group_start))]
+pub(crate) fn put_group_start(out: &mut String, x: u128, y: u128) -> Result<(), AllocError>
+    ensures { OnOk result (string_bytes out.new ≡ string_bytes out.old ++ group_start x y) }
+{
+    write!(out, "<g transform=\"translate({x} {y})\">\n")
+}
+
+/// Adds what it ends in.
+pub(crate) fn put_group_end(out: &mut String) -> Result<(), AllocError>
+    ensures { OnOk result (string_bytes out.new ≡ string_bytes out.old ++ group_end) }
+{
+    out.push_str("</g>\n")
+}
+
+/// Adds a mark of this outline.
+#[tactic(auto, unfolding(crate::specs::Shapes::mark))]
+pub(crate) fn put_mark(out: &mut String, kind: &str, outline: &str) -> Result<(), AllocError>
+    ensures { OnOk result (string_bytes out.new ≡ string_bytes out.old ++ mark kind.now outline.now) }
+{
+    write!(out, "<path class=\"mark {kind}\" d=\"{outline}\"/>\n")
+}
+
+/// Adds what a title begins with.
+pub(crate) fn put_title_start(out: &mut String) -> Result<(), AllocError>
+    ensures { OnOk result (string_bytes out.new ≡ string_bytes out.old ++ title_start) }
+{
+    out.push_str("<title>")
+}
+
+/// Adds what it ends in.
+pub(crate) fn put_title_end(out: &mut String) -> Result<(), AllocError>
+    ensures { OnOk result (string_bytes out.new ≡ string_bytes out.old ++ title_end) }
+{
+    out.push_str("</title>\n")
+}

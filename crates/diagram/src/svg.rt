@@ -1,0 +1,209 @@
+//! A campaign as a picture in SVG.
+ghost use Rattle.std.specs.Prelude.{◌≡◌, ◌<◌, ◌++◌, codes, flat_map, string_bytes, IfOk, OnOk};
+ghost use Rattle.std.specs.List.{range_with_len};
+ghost use Rattle.diagram.specs.Shapes.{text_at};
+ghost use Rattle.diagram.specs.Words.{general_words};
+ghost use Rattle.diagram.specs.Svg.{board_head, box_words, campaign_words, general_head, head, head_of, heads, key, look, start, svg_text};
+
+use crate::bands::put_bands;
+use crate::facts::strokes;
+use crate::foot::{put_foot, shape_of, sort_of};
+use crate::layout::{board, column, top_of, width};
+use crate::shapes::{
+    put_group_end, put_group_start, put_mark, put_text_end, put_text_start, put_title_end,
+    put_title_start, put_words,
+};
+use crate::stroke::Stroke;
+use crate::words::{put_general, role_words};
+use board::Access;
+use book::Table;
+use round::Scenario;
+use std::alloc::{AllocError, Global};
+use world::Chronicle;
+
+/// The campaign of a chronicle, whose letters tell this message table, in SVG.
+///
+/// # Errors
+///
+/// No memory for the text.
+#[tactic(auto, unfolding(crate::specs::Svg::svg_text))]
+pub fn campaign_svg(
+    alloc: Global,
+    table: &Table,
+    chronicle: &Chronicle,
+) -> Result<String, AllocError>
+    ensures { IfOk result (λ text. string_bytes text ≡ svg_text table.now chronicle.now) }
+{
+    let scenario = chronicle.scenario();
+    let accesses = chronicle.accesses();
+    let strokes = strokes(alloc, table, scenario.order())?;
+    let generals = scenario.generals();
+    let rounds = scenario.bound() + 1;
+    let wide = width(alloc, generals, accesses)?;
+    let bottom = top_of(generals, strokes.as_slice(), accesses, rounds);
+    let mut text = String::from_str(alloc, start())?;
+    put_box(&mut text, wide + 16, bottom + 124)?;
+    put_head(&mut text, scenario)?;
+    put_heads(&mut text, scenario, accesses)?;
+    put_bands(
+        &mut text,
+        generals,
+        strokes.as_slice(),
+        accesses,
+        wide,
+        rounds,
+    )?;
+    put_foot(&mut text, chronicle, wide, bottom)?;
+    text.push_str("</svg>\n")?;
+    Ok(text)
+}
+
+/// What every picture begins with.
+#[tactic(auto, unfolding(crate::specs::Svg::start))]
+fn start() -> &'static str
+    ensures { result.now ≡ start }
+{
+    "<svg xmlns=\"http://www.w3.org/2000/svg\" role=\"img\""
+}
+
+/// Adds the size of a picture, and its units, which are those of its size, and ends its first tag.
+#[tactic(auto, unfolding(crate::specs::Svg::box_words))]
+fn put_box(out: &mut String, width: u128, height: u128) -> Result<(), AllocError>
+    ensures { OnOk result (string_bytes out.new ≡ string_bytes out.old ++ box_words width height) }
+{
+    write!(
+        out,
+        " width=\"{width}\" height=\"{height}\" viewBox=\"0 0 {width} {height}\">\n"
+    )
+}
+
+/// Adds what stands before the columns: which campaign it is, what the picture shows, and how it looks.
+fn put_head(out: &mut String, scenario: &Scenario) -> Result<(), AllocError>
+    ensures { OnOk result (string_bytes out.new ≡ string_bytes out.old ++ head scenario.now) }
+{
+    put_title_start(out)?;
+    put_campaign(
+        out,
+        scenario.generals(),
+        scenario.bound(),
+        scenario.commander(),
+        scenario.order(),
+    )?;
+    put_title_end(out)?;
+    out.push_str(key())?;
+    out.push_str(look())?;
+    put_text_start(out, "head", 16, 28)?;
+    put_campaign(
+        out,
+        scenario.generals(),
+        scenario.bound(),
+        scenario.commander(),
+        scenario.order(),
+    )?;
+    put_text_end(out)
+}
+
+/// Adds a campaign's numbers, in words.
+#[tactic(auto, unfolding(crate::specs::Svg::campaign_words))]
+fn put_campaign(
+    out: &mut String,
+    generals: u8,
+    bound: u8,
+    commander: u8,
+    order: u32,
+) -> Result<(), AllocError>
+    ensures { OnOk result (string_bytes out.new ≡ string_bytes out.old ++ campaign_words generals bound commander order) }
+{
+    write!(
+        out,
+        "{generals} generals, traitors provided for: {bound}; commander {commander} was given order {order}"
+    )
+}
+
+/// What is told of the picture to those who do not see it.
+#[tactic(auto, unfolding(crate::specs::Svg::key))]
+fn key() -> &'static str
+    ensures { result.now ≡ key }
+{
+    "<desc>A column for each general, and a band for each round, from above. In a band a line leads from who tells something \
+     to whom he tells it, as wide as he tells it of labels, and below stands in the column of the receiver what he was told. \
+     Circle and plain line: as an honest relay tells it. Diamond and dashes: something else. Cross and dots: nothing, where \
+     something was to be told. Above the lines stand the accesses to the board, in its order. Square: a traitor.</desc>\n"
+}
+
+/// How it looks: on paper, and on a dark ground where one is wished for.
+#[tactic(auto, unfolding(crate::specs::Svg::look))]
+fn look() -> &'static str
+    ensures { result.now ≡ look }
+{
+    "<style>svg{background:#fff}text{fill:#111;font:13px sans-serif}.head{font:bold 16px sans-serif}.round{font-weight:bold}\
+     .small{font-size:11px}.life{stroke:#8a8a8a}.rule{stroke:#8a8a8a;stroke-dasharray:2 4}.access{stroke:#0b5fa5}\
+     .stroke{fill:none;stroke:#111;stroke-opacity:.45}.stroke.lie{stroke:#b00020;stroke-opacity:1;stroke-dasharray:9 4}\
+     .stroke.none{stroke:#b00020;stroke-opacity:1;stroke-dasharray:2 5}.mark{fill:#fff;stroke:#111;stroke-width:1.5}\
+     .mark.lie{fill:#b00020;stroke:#b00020}.mark.none{fill:none;stroke:#b00020;stroke-width:2.5}.mark.point{fill:#0b5fa5;stroke:#0b5fa5}\
+     .mark.traitor{fill:#b00020}@media(prefers-color-scheme:dark){svg{background:#111}text{fill:#eee}.stroke,.mark{stroke:#eee}\
+     .mark{fill:#111}.access{stroke:#6cb8f5}.mark.point{fill:#6cb8f5;stroke:#6cb8f5}.stroke.lie,.stroke.none,.mark.none{stroke:#ff8095}\
+     .mark.lie{fill:#ff8095;stroke:#ff8095}.mark.traitor{fill:#ff8095}}</style>\n"
+}
+
+/// Adds who has which column.
+fn put_heads(out: &mut String, scenario: &Scenario, accesses: &[Access]) -> Result<(), AllocError>
+    ensures { OnOk result (string_bytes out.new ≡ string_bytes out.old ++ heads scenario.now accesses.now) }
+{
+    put_board_head(out, scenario.generals(), accesses)?;
+    put_general_heads(out, scenario)
+}
+
+/// Adds the head of each general's column.
+fn put_general_heads(out: &mut String, scenario: &Scenario) -> Result<(), AllocError>
+    ensures { OnOk result (string_bytes out.new ≡ string_bytes out.old ++ flat_map (head_of scenario.now) (range_with_len 0 scenario.now.generals)) }
+{
+    for general in 0..scenario.generals() {
+        put_head_of(out, scenario, general)?;
+    }
+    Ok(())
+}
+
+/// Adds the head of a general's column, in a campaign.
+fn put_head_of(out: &mut String, scenario: &Scenario, general: u8) -> Result<(), AllocError>
+    requires { general < scenario.now.generals }
+    ensures { OnOk result (string_bytes out.new ≡ string_bytes out.old ++ head_of scenario.now general) }
+{
+    let is_commander = general == scenario.commander();
+    put_general_head(out, general, is_commander, scenario.is_traitor(general))
+}
+
+/// Adds the head of the board's column, where there are accesses.
+fn put_board_head(out: &mut String, generals: u8, accesses: &[Access]) -> Result<(), AllocError>
+    ensures { OnOk result (string_bytes out.new ≡ string_bytes out.old ++ board_head generals accesses.now) }
+{
+    match accesses {
+        [] => Ok(()),
+        [_, ..] => { put_words(out, "name", board(generals), 54, "board") }
+    }
+}
+
+/// Adds the head of a general's column.
+fn put_general_head(
+    out: &mut String,
+    general: u8,
+    is_commander: bool,
+    is_traitor: bool,
+) -> Result<(), AllocError>
+    ensures { OnOk result (string_bytes out.new ≡ string_bytes out.old ++ general_head general is_commander is_traitor) }
+{
+    put_group_start(out, column(u32::from(general)), 50)?;
+    put_mark(out, sort_of(is_traitor), shape_of(is_traitor))?;
+    put_name(out, general)?;
+    put_words(out, "small", 12, 20, role_words(is_commander, is_traitor))?;
+    put_group_end(out)
+}
+
+/// Adds a general's name beside his shape.
+fn put_name(out: &mut String, general: u8) -> Result<(), AllocError>
+    ensures { OnOk result (string_bytes out.new ≡ string_bytes out.old ++ text_at (codes "name") 12 4 (general_words general)) }
+{
+    put_text_start(out, "name", 12, 4)?;
+    put_general(out, u32::from(general))?;
+    put_text_end(out)
+}

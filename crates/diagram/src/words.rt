@@ -1,0 +1,228 @@
+//! What a picture says, in words.
+ghost use Rattle.std.specs.Prelude.{◌≡◌, ◌++◌, string_bytes, flat_map, OnOk};
+ghost use Rattle.semantics.specs.Replies.{words_in};
+ghost use Rattle.diagram.specs.Words.{answer_words, access_words, asked_words, copy_words, differs_words, kind, labels_words, order_words, outline, from_words, general_words, is_copy, kind_of, outline_of, role_words, row_words, shown_words, stroke_words, swap_words, tells_words, word_words};
+
+use crate::stroke::Stroke;
+use board::Access;
+use semantics::{Reply, Request};
+use std::alloc::AllocError;
+
+/// Adds an order, or that nothing was told.
+fn put_order(out: &mut String, told: Option<u32>) -> Result<(), AllocError>
+    ensures { OnOk result (string_bytes out.new ≡ string_bytes out.old ++ order_words told) }
+{
+    match told {
+        Some(order) => write!(out, "{order}"),
+        None => out.push_str("nothing"),
+    }
+}
+
+/// Adds a number of labels.
+fn put_labels(out: &mut String, labels: usize) -> Result<(), AllocError>
+    ensures { OnOk result (string_bytes out.new ≡ string_bytes out.old ++ labels_words labels) }
+{
+    if labels == 1 {
+        out.push_str("")
+    } else {
+        write!(out, ", {labels} labels")
+    }
+}
+
+/// What is said of a stroke that an honest relay would not make.
+fn differs_words(differs: bool) -> &'static str
+    ensures { result.now ≡ differs_words differs }
+{
+    if differs {
+        "; an honest relay would tell something else"
+    } else {
+        ""
+    }
+}
+
+/// Adds what is said of a stroke.
+pub(crate) fn put_stroke_words(out: &mut String, stroke: &Stroke) -> Result<(), AllocError>
+    ensures { OnOk result (string_bytes out.new ≡ string_bytes out.old ++ stroke_words stroke.now) }
+{
+    put_tells(out, stroke.teller, stroke.receiver)?;
+    put_order(out, stroke.told)?;
+    put_labels(out, stroke.labels)?;
+    out.push_str(differs_words(stroke.differs))
+}
+
+/// Adds who tells whom.
+#[tactic(auto, unfolding(crate::specs::Words::tells_words))]
+fn put_tells(out: &mut String, teller: u8, receiver: u8) -> Result<(), AllocError>
+    ensures { OnOk result (string_bytes out.new ≡ string_bytes out.old ++ tells_words teller receiver) }
+{
+    write!(out, "general {teller} tells general {receiver}: ")
+}
+
+/// Adds what is written of a stroke in its receiver's column.
+pub(crate) fn put_row_words(out: &mut String, stroke: &Stroke) -> Result<(), AllocError>
+    ensures { OnOk result (string_bytes out.new ≡ string_bytes out.old ++ row_words stroke.now) }
+{
+    put_from(out, stroke.teller)?;
+    put_order(out, stroke.told)?;
+    put_labels(out, stroke.labels)
+}
+
+/// Adds whom it is from.
+#[tactic(auto, unfolding(crate::specs::Words::from_words))]
+fn put_from(out: &mut String, teller: u8) -> Result<(), AllocError>
+    ensures { OnOk result (string_bytes out.new ≡ string_bytes out.old ++ from_words teller) }
+{
+    write!(out, "from {teller}: ")
+}
+
+/// The class of what was told.
+pub(crate) fn kind(stroke: &Stroke) -> &'static str
+    ensures { result.now ≡ kind stroke.now }
+{
+    kind_of(stroke.differs, stroke.told)
+}
+
+/// The class of an order that differs, or does not, from what an honest relay tells.
+fn kind_of(differs: bool, told: Option<u32>) -> &'static str
+    ensures { result.now ≡ kind_of differs told }
+{
+    match (differs, told) {
+        (false, _) => "told",
+        (true, Some(_)) => "lie",
+        (true, None) => "none",
+    }
+}
+
+/// Its outline: a circle, a diamond or a cross.
+pub(crate) fn outline(stroke: &Stroke) -> &'static str
+    ensures { result.now ≡ outline stroke.now }
+{
+    outline_of(stroke.differs, stroke.told)
+}
+
+fn outline_of(differs: bool, told: Option<u32>) -> &'static str
+    ensures { result.now ≡ outline_of differs told }
+{
+    match (differs, told) {
+        (false, _) => "M0-4a4 4 0 0 1 0 8a4 4 0 0 1 0-8z",
+        (true, Some(_)) => "M0-6l6 6l-6 6l-6-6z",
+        (true, None) => "M-5-5L5 5M5-5L-5 5",
+    }
+}
+
+/// Adds what was asked of the board.
+fn put_asked(out: &mut String, request: &Request) -> Result<(), AllocError>
+    ensures { OnOk result (string_bytes out.new ≡ string_bytes out.old ++ asked_words request.now) }
+{
+    match *request {
+        Request::Get { slot } => {
+            let slot = slot.number();
+            write!(out, "reads word {slot}")
+        }
+        Request::Swap { slot, value } => put_swap(out, value, slot.number()),
+        Request::Add { slot, value } => {
+            let slot = slot.number();
+            write!(out, "adds {value} to word {slot}")
+        }
+        Request::Cas {
+            slot,
+            expected,
+            new,
+        } => {
+            put_swap(out, new, slot.number())?;
+            write!(out, " if it is {expected}")
+        }
+        Request::Copy { span } => put_copy(out, span.count(), span.slot()),
+    }
+}
+
+/// Adds that a word is written.
+#[tactic(auto, unfolding(crate::specs::Words::swap_words))]
+fn put_swap(out: &mut String, value: u64, slot: usize) -> Result<(), AllocError>
+    ensures { OnOk result (string_bytes out.new ≡ string_bytes out.old ++ swap_words value slot) }
+{
+    write!(out, "writes {value} into word {slot}")
+}
+
+/// Adds that words are copied.
+#[tactic(auto, unfolding(crate::specs::Words::copy_words))]
+fn put_copy(out: &mut String, count: usize, slot: usize) -> Result<(), AllocError>
+    ensures { OnOk result (string_bytes out.new ≡ string_bytes out.old ++ copy_words count slot) }
+{
+    write!(out, "copies {count} words from word {slot}")
+}
+
+/// Adds what the board answered.
+fn put_answer(out: &mut String, reply: &Reply) -> Result<(), AllocError>
+    ensures { OnOk result (string_bytes out.new ≡ string_bytes out.old ++ answer_words (words_in reply.now)) }
+{
+    out.push_str("; answer")?;
+    match reply {
+        Reply::Word(word) => put_word(out, *word),
+        Reply::Words(copied) => put_all(out, copied.as_slice()),
+    }
+}
+
+/// Adds a word of the board, behind a space.
+fn put_word(out: &mut String, word: u64) -> Result<(), AllocError>
+    ensures { OnOk result (string_bytes out.new ≡ string_bytes out.old ++ word_words word) }
+{
+    write!(out, " {word}")
+}
+
+/// Adds words of the board, each behind a space.
+fn put_all(out: &mut String, words: &[u64]) -> Result<(), AllocError>
+    ensures { OnOk result (string_bytes out.new ≡ string_bytes out.old ++ flat_map word_words words.now) }
+{
+    for word in words {
+        put_word(out, *word)?;
+    }
+    Ok(())
+}
+
+/// Adds who asked what of the board, and its answer.
+pub(crate) fn put_access_words(out: &mut String, access: &Access) -> Result<(), AllocError>
+    ensures { OnOk result (string_bytes out.new ≡ string_bytes out.old ++ access_words access.now) }
+{
+    put_general(out, access.general)?;
+    out.push_str(" ")?;
+    put_asked(out, &access.request)?;
+    put_answer(out, access.reply())
+}
+
+/// Adds a general's name.
+pub(crate) fn put_general(out: &mut String, general: u32) -> Result<(), AllocError>
+    ensures { OnOk result (string_bytes out.new ≡ string_bytes out.old ++ general_words general) }
+{
+    write!(out, "general {general}")
+}
+
+/// Adds what is written of an access beside the board: all but its general, and the words of a copy.
+pub(crate) fn put_shown(out: &mut String, access: &Access) -> Result<(), AllocError>
+    ensures { OnOk result (string_bytes out.new ≡ string_bytes out.old ++ shown_words access.now) }
+{
+    put_asked(out, &access.request)?;
+    if is_copy(&access.request) {
+        return Ok(());
+    }
+    put_answer(out, access.reply())
+}
+
+/// Whether words are copied.
+fn is_copy(request: &Request) -> bool
+    ensures { result ≡ is_copy request.now }
+{
+    matches!(request, Request::Copy { .. })
+}
+
+/// What a general is.
+pub(crate) fn role_words(is_commander: bool, is_traitor: bool) -> &'static str
+    ensures { result.now ≡ role_words is_commander is_traitor }
+{
+    match (is_commander, is_traitor) {
+        (true, true) => "commander, traitor",
+        (true, false) => "commander, loyal",
+        (false, true) => "lieutenant, traitor",
+        (false, false) => "lieutenant, loyal",
+    }
+}
