@@ -4,6 +4,7 @@
 
 mod folder;
 mod input;
+mod progress;
 mod target;
 
 ghost use Rattle.std.specs.Prelude.{◌≡◌, IfOk, IfErr, max, option_map};
@@ -17,6 +18,7 @@ use folder::FolderOf;
 use input::Input;
 use lab::FileName;
 use neighbours::{Untaken, reads_scenario, with_files};
+use progress::Progress;
 use std::env;
 use std::fmt::Display;
 use std::io::{self, Cursor, ErrorKind, Read};
@@ -48,13 +50,16 @@ fn called(rt: &HostRuntime) -> io::Result<u8> {
     for word in &words {
         texts.push(word.as_str())?;
     }
+    let requests = each(alloc, texts.as_slice())?;
+    let progress = Progress::of(rt, requests.len());
     let mut worst = 0;
-    for request in &each(alloc, texts.as_slice())? {
+    for (index, request) in requests.iter().enumerate() {
         let status = match answered(rt, request.as_slice()) {
             Ok(status) => status,
             Err(error) => lacking(rt, error.kind()),
         };
         worst = worse(worst, status);
+        let _ = progress.tell(index + 1);
     }
     Ok(worst)
 }

@@ -1,2 +1,3 @@
 pub mod Printing
 pub mod Serving
+pub mod Several

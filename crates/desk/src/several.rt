@@ -1,19 +1,45 @@
 //! Words that name several files.
+ghost use Rattle.std.specs.Prelude.{◌≡◌, IfOk, [], ◌∷◌, false, map};
+ghost use Rattle.desk.specs.Several.{has_verdicts};
+
 use std::alloc::{AllocError, Global};
 
-/// The words of each single request: where `--verdicts` stands among the words, one for the files of each, with all flags; else
+/// The words of each single request: where `--verdicts` stands among the flags, one for the files of each, with all flags; else
 /// the words themselves.
-pub fn each<'a>(alloc: Global, words: &[&'a str]) -> Result<Vec<Vec<&'a str>>, AllocError> {
+///
+/// # Errors
+///
+/// `AllocError` where memory is refused.
+pub fn each<'a>(alloc: Global, words: &[&'a str]) -> Result<Vec<Vec<&'a str>>, AllocError>
+    ensures alone { has_verdicts words.now ≡ false → IfOk result (λ requests. map (λ request. request.items) requests.items ≡ words.now ∷ []) }
+{
+    if has_verdicts(words) {
+        by_files(alloc, words)
+    } else {
+        alone(alloc, words)
+    }
+}
+
+/// The words themselves, as the only request.
+fn alone<'a>(alloc: Global, words: &[&'a str]) -> Result<Vec<Vec<&'a str>>, AllocError>
+    ensures { IfOk result (λ requests. map (λ request. request.items) requests.items ≡ words.now ∷ []) }
+{
+    let mut requests = Vec::new(alloc);
+    requests.push(words.to_vec(alloc)?)?;
+    Ok(requests)
+}
+
+/// The words of a request for the files of each, where the switch stands among the flags.
+fn by_files<'a>(alloc: Global, words: &[&'a str]) -> Result<Vec<Vec<&'a str>>, AllocError> {
     let (flags, files) = parted(alloc, words)?;
-    let number = match (words.first(), has_verdicts(flags.as_slice())) {
-        (Some(name), true) => files_of(name),
+    let number = match words.first() {
+        Some(name) if has_verdicts(flags.as_slice()) => files_of(name),
         _ => 0,
     };
-    let mut requests = Vec::new(alloc);
     if number == 0 || files.len() % number != 0 || files.is_empty() {
-        requests.push(words.to_vec(alloc)?)?;
-        return Ok(requests);
+        return alone(alloc, words);
     }
+    let mut requests = Vec::new(alloc);
     for group in files.as_slice().chunks(number) {
         let mut request = flags.clone()?;
         request.push("--")?;
@@ -32,14 +58,11 @@ fn files_of(name: &str) -> usize {
     }
 }
 
-/// Whether the switch stands among the flags.
-fn has_verdicts(flags: &[&str]) -> bool {
-    for flag in flags {
-        if *flag == "--verdicts" {
-            return true;
-        }
-    }
-    false
+/// Whether the switch stands among the words.
+fn has_verdicts(words: &[&str]) -> bool
+    ensures { result ≡ has_verdicts words.now }
+{
+    words.iter().any(|word| *word == "--verdicts")
 }
 
 /// Whether the value of an option stands in the next word.
