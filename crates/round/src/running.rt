@@ -97,7 +97,7 @@ impl Running {
             program: self.program.clone()?,
             context: Vec::from_slice(alloc, self.context.as_slice())?,
             patience: self.patience,
-            activation: self.activation.copy(alloc)?,
+            activation: self.activation.twin(alloc)?,
             over: self.over,
         })
     }
