@@ -11,11 +11,7 @@ use std::alloc::{AllocError, Global};
 /// # Errors
 ///
 /// `AllocError` where memory is refused.
-pub fn explored(
-    alloc: Global,
-    scenario: &Scenario,
-    most: Option<u64>,
-) -> Result<String, AllocError>
+pub fn explored(alloc: Global, scenario: &Scenario, most: Option<u64>) -> Result<String, AllocError>
     ensures { IfOk result (λ text. IsExplored scenario.now (limit most) (string_bytes text)) }
 {
     scenario.recall();

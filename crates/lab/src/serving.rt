@@ -116,7 +116,15 @@ where
         Ok(FirstAnswer::Text(text)) => Ok(text.into_bytes()),
         Ok(FirstAnswer::Bytes(bytes)) => Ok(bytes),
         Ok(FirstAnswer::Trial(program, traced)) => {
-            trial_of(alloc, task, bytes.as_slice(), &program, traced, file, second)
+            trial_of(
+                alloc,
+                task,
+                bytes.as_slice(),
+                &program,
+                traced,
+                file,
+                second,
+            )
         }
         Ok(FirstAnswer::Play(campaign, account, explained)) => {
             play_by(alloc, campaign, account, explained, reported, file, second)
@@ -163,7 +171,13 @@ fn trial_of<'a, R: Source>(
 {
     let bytes = read_second(alloc, file, second)?;
     match tried_by(alloc, program, traced, bytes.as_slice()) {
-        Ok(lines) => match with_explanation(alloc, lines, explained_in(task), first, program.program()) {
+        Ok(lines) => match with_explanation(
+            alloc,
+            lines,
+            explained_in(task),
+            first,
+            program.program(),
+        ) {
             Ok(text) => Ok(text.into_bytes()),
             Err(_) => Err(Failure::Memory),
         },

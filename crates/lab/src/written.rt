@@ -39,11 +39,7 @@ fn in_text(alloc: Global, bytes: &[u8]) -> Result<Vec<String>, AllocError>
 }
 
 /// That of an object's entry.
-fn in_object(
-    alloc: Global,
-    object: &[u8],
-    entry: Option<&str>,
-) -> Result<Vec<String>, AllocError>
+fn in_object(alloc: Global, object: &[u8], entry: Option<&str>) -> Result<Vec<String>, AllocError>
     ensures { IfOk result (λ places. AreEntryPlaces object.now (function_of object.now (asked entry.entry)) (map string_bytes places.items)) }
 {
     match entry {

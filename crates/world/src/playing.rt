@@ -188,10 +188,7 @@ fn named_round<W: Plays>(world: &mut W, names: &[u8]) -> Result<(), AllocError>
 /// # Errors
 ///
 /// `AllocError` where memory is refused. No more is said of the world then than of every world of its kind: let it go.
-pub fn play_listed<W: Plays>(
-    world: &mut W,
-    schedule: &Schedule,
-) -> Result<(), AllocError>
+pub fn play_listed<W: Plays>(world: &mut W, schedule: &Schedule) -> Result<(), AllocError>
     ensures { OnOk result (W.seen world.new ≡ run W.kind (W.seen world.old) (listed_rounds (W.seen world.old).scenario (suc (W.seen world.old).scenario.bound) (lines_by schedule.now))) }
 {
     let rounds = usize::from(world.campaign().bound()) + 1;
@@ -207,10 +204,7 @@ pub fn play_listed<W: Plays>(
 /// # Errors
 ///
 /// `AllocError` where memory is refused. No more is said of the world then than of every world of its kind: let it go.
-pub fn play_named<W: Plays>(
-    world: &mut W,
-    names: &[Vec<u8>],
-) -> Result<(), AllocError>
+pub fn play_named<W: Plays>(world: &mut W, names: &[Vec<u8>]) -> Result<(), AllocError>
     ensures { OnOk result (W.seen world.new ≡ run W.kind (W.seen world.old) (replayed_rounds W.kind (W.seen world.old) (suc (W.seen world.old).scenario.bound) (lists_in names.now))) }
 {
     let rounds = usize::from(world.campaign().bound()) + 1;

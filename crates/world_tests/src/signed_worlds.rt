@@ -99,11 +99,7 @@ fn are_done(world: &mut SignedWorld, events: &[Event]) -> bool {
 }
 
 /// Whether each of these events is refused for this reason, and the decisions stay.
-fn are_refused(
-    world: &mut SignedWorld,
-    events: &[Event],
-    reason: EventError,
-) -> bool {
+fn are_refused(world: &mut SignedWorld, events: &[Event], reason: EventError) -> bool {
     let before = world.decisions();
     for event in events {
         if world.apply(*event) != Err(reason) {
