@@ -11,5 +11,5 @@ mod subcommands;
 mod tasks;
 
 pub use errors::{Misuse, TaskError};
-pub use reading::task;
-pub use tasks::{Account, Filling, Lieutenants, Notation, Spelling, Task};
+pub use reading::request;
+pub use tasks::{Account, Filling, Lieutenants, Notation, Request, Spelling, Task};
