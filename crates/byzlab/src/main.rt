@@ -12,8 +12,8 @@ ghost use Rattle.std.specs.IoError.{error_kind};
 ghost use Rattle.byzlab.specs.Files.{IsInputIf};
 ghost use Rattle.byzlab.specs.Telling.{failure_of};
 
-use command_line::{Request, TaskError};
-use desk::{each, serve, turned_down};
+use command_line::{Request, TaskError, each};
+use desk::{serve, turned_down};
 use folder::FolderOf;
 use input::Input;
 use lab::FileName;
@@ -42,7 +42,7 @@ fn lacking(rt: &HostRuntime, kind: ErrorKind) -> u8
     status
 }
 
-/// Reads the words, and does each request of theirs. The result is the worst exit status.
+/// Reads the words, and does each request of theirs, up to the first that is none. The result is the worst exit status.
 fn called(rt: &HostRuntime) -> io::Result<u8> {
     let alloc = rt.alloc();
     let words: Vec<String> = env::args(rt)?.skip(1).collect(alloc)?;
@@ -53,8 +53,12 @@ fn called(rt: &HostRuntime) -> io::Result<u8> {
     let requests = each(alloc, texts.as_slice())?;
     let progress = Progress::of(rt, requests.len());
     let mut worst = 0;
-    for (index, request) in requests.iter().enumerate() {
-        let status = match answered(rt, request.as_slice()) {
+    for (index, words) in requests.iter().enumerate() {
+        let request = match command_line::request(alloc, words.as_slice()) {
+            Ok(request) => request,
+            Err(error) => return unasked(rt, error),
+        };
+        let status = match answered(rt, &request) {
             Ok(status) => status,
             Err(error) => lacking(rt, error.kind()),
         };
@@ -71,29 +75,25 @@ fn worse(first: u8, second: u8) -> u8
     if first < second { second } else { first }
 }
 
-/// Does what the words of one request ask for. The result is the exit status.
-fn answered(rt: &HostRuntime, words: &[&str]) -> io::Result<u8> {
-    let request = match command_line::request(rt.alloc(), words) {
-        Ok(request) => request,
-        Err(error) => return unasked(rt, error),
-    };
-    let Some(first) = opened(rt, &request, request.task.file())? else {
+/// Does what is asked for. The result is the exit status.
+fn answered(rt: &HostRuntime, request: &Request) -> io::Result<u8> {
+    let Some(first) = opened(rt, request, request.task.file())? else {
         return Ok(1);
     };
     let second = match request.task.second() {
         None => None,
-        name => match opened(rt, &request, name)? {
+        name => match opened(rt, request, name)? {
             Some(file) => Some(file),
             None => return Ok(1),
         },
     };
-    let Some(first) = completed(rt, &request, first)? else {
+    let Some(first) = completed(rt, request, first)? else {
         return Ok(1);
     };
     Ok(serve(
         rt,
         rt.alloc(),
-        &request,
+        request,
         first,
         second,
         &mut Target::of(rt, request.task.target()),

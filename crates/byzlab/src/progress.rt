@@ -2,8 +2,8 @@
 use std::io::{self, IsTerminal, Write};
 use std::time::Instant;
 
-/// How far a call with several files is, told on standard error where that is a terminal and standard output is none, from the
-/// first second on.
+/// How far a call with several files is, told on standard error where that is a terminal, from the first second on: on a
+/// line over which the next one is written.
 pub struct Progress<'a> {
     rt: &'a HostRuntime,
     /// When the call began; none where nothing is to be told.
@@ -14,8 +14,12 @@ pub struct Progress<'a> {
 impl<'a> Progress<'a> {
     /// Of so many files.
     pub fn of(rt: &'a HostRuntime, all: usize) -> Progress<'a> {
-        let is_watched = 1 < all && rt.stderr().is_terminal() && !rt.stdout().is_terminal();
-        let start = if is_watched { Instant::now(rt).ok() } else { None };
+        let is_watched = 1 < all && rt.stderr().is_terminal();
+        let start = if is_watched {
+            Instant::now(rt).ok()
+        } else {
+            None
+        };
         Progress { rt, start, all }
     }
 
@@ -32,7 +36,7 @@ impl<'a> Progress<'a> {
             return Ok(());
         }
         let all = self.all;
-        let end = if done == all { "\n" } else { "" };
+        let end = if done == all { '\n' } else { '\r' };
         let mut stderr = self.rt.stderr();
         write!(stderr, "\r{done} of {all} files{end}")?;
         stderr.flush()

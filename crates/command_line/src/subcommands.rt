@@ -24,7 +24,7 @@ const SCENARIO: Place<'static> = Place {
     help: "The campaign, as TOML: the generals, the order, the traitors' programs",
 };
 
-const CHECK: Subcommand<'static> = Subcommand {
+pub(crate) const CHECK: Subcommand<'static> = Subcommand {
     name: "check",
     about: "Verifies a program and runs it",
     places: &[BYTECODE],
@@ -192,7 +192,7 @@ const MUSTER: Subcommand<'static> = Subcommand {
     ],
 };
 
-const PLAY: Subcommand<'static> = Subcommand {
+pub(crate) const PLAY: Subcommand<'static> = Subcommand {
     name: "play",
     about: "Plays a campaign and prints its chronicle",
     places: &[SCENARIO],
@@ -226,7 +226,7 @@ const PLAY: Subcommand<'static> = Subcommand {
     ],
 };
 
-const AUDIT: Subcommand<'static> = Subcommand {
+pub(crate) const AUDIT: Subcommand<'static> = Subcommand {
     name: "audit",
     about: "Replays a chronicle and says whether it is sound",
     places: &[

@@ -1,8 +1,8 @@
 //! What a call answers.
 use crate::shelf::{Content, Input, Output, Shelf};
 use anyhow::{Result, bail};
-use command_line::{Request, Task, TaskError, request};
-use desk::{each, serve, turned_down};
+use command_line::{Request, Task, TaskError, each, request};
+use desk::{serve, turned_down};
 use lab::FileName;
 use neighbours::{Untaken, reads_scenario, with_files};
 use std::alloc::{AllocError, Global};
@@ -19,6 +19,25 @@ pub struct Told {
 }
 
 impl Told {
+    /// Nothing.
+    fn nothing(alloc: Global) -> Told {
+        Told {
+            out: Vec::new(alloc),
+            err: Vec::new(alloc),
+            status: 0,
+        }
+    }
+
+    /// Adds what is told next, and the worse status.
+    fn add(&mut self, next: Told) -> Result<(), AllocError> {
+        self.out.extend_from_slice(next.out.as_slice())?;
+        self.err.extend_from_slice(next.err.as_slice())?;
+        if self.status < next.status {
+            self.status = next.status;
+        }
+        Ok(())
+    }
+
     /// A fault: this is all that is told.
     fn fault(alloc: Global, status: u8, text: String) -> Told {
         Told {
@@ -40,39 +59,32 @@ pub fn answered<R: Threads + Wait + Sync + AllocGlobal>(
     let alloc = rt.alloc();
     let requests = each(alloc, words)?;
     if let [one] = requests.as_slice() {
-        return answered_one(rt, one.as_slice(), shelf, output);
+        return match request(alloc, one.as_slice()) {
+            Ok(request) => answered_one(rt, &request, shelf, output),
+            Err(error) => refused(alloc, error),
+        };
     }
-    let mut all = Told {
-        out: Vec::new(alloc),
-        err: Vec::new(alloc),
-        status: 0,
-    };
-    for request in &requests {
+    let mut all = Told::nothing(alloc);
+    for words in &requests {
+        let request = match request(alloc, words.as_slice()) {
+            Ok(request) => request,
+            Err(error) => return refused(alloc, error),
+        };
         let kept = Output::Kept(Vec::new(alloc));
-        let told = answered_one(rt, request.as_slice(), shelf, kept)?;
-        all.out.extend_from_slice(told.out.as_slice())?;
-        all.err.extend_from_slice(told.err.as_slice())?;
-        if all.status < told.status {
-            all.status = told.status;
-        }
+        all.add(answered_one(rt, &request, shelf, kept)?)?;
     }
     Ok(all)
 }
 
-/// What the program answers to the words of one request.
+/// What the program answers to one request.
 fn answered_one<R: Threads + Wait + Sync + AllocGlobal>(
     rt: &R,
-    words: &[&str],
+    request: &Request,
     shelf: &mut Shelf,
     output: Output,
 ) -> Result<Told> {
-    let alloc = rt.alloc();
-    let request = match request(alloc, words) {
-        Ok(request) => request,
-        Err(error) => return refused(alloc, error),
-    };
-    let told = opened(rt, &request, shelf, output)?;
-    written(alloc, &request.task, shelf, told)
+    let told = opened(rt, request, shelf, output)?;
+    written(rt.alloc(), &request.task, shelf, told)
 }
 
 /// What is told of words that name no task.
