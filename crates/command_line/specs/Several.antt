@@ -1,5 +1,5 @@
 -- Words that name several files (own).
-use Rattle.std.specs.Prelude.{ℕ, ◌==◌, ◌%◌, ◌&&◌, ◌++◌, Bool, true, false, not, List, [], ◌∷◌, Option, codes, find, if◌then◌else◌, length, map, take}
+use Rattle.std.specs.Prelude.{ℕ, ◌==◌, ◌%◌, ◌&&◌, ◌||◌, ◌++◌, Bool, true, false, not, List, [], ◌∷◌, Option, codes, find, if◌then◌else◌, length, map, take}
 use Rattle.std.specs.List.{list_any}
 use Rattle.std.specs.Option.{option_map_or}
 use Rattle.std.specs.Str.{bytes_eq}
@@ -39,8 +39,12 @@ with_kept word rest = record { kept = word ∷ rest.kept; files = rest.files }
 abbrev pub with_file : Text → Parted → Parted
 with_file word rest = record { kept = rest.kept; files = word ∷ rest.files }
 
+-- the words of both
+abbrev pub onto : Parted → Parted → Parted
+onto parts more = record { kept = parts.kept ++ more.kept; files = parts.files ++ more.files }
+
 -- words, parted, where the first may be the value of an option; behind `--` stand files alone
-unfoldable pub parted : List Flag → Bool → List Text → Parted
+abbrev pub parted : List Flag → Bool → List Text → Parted
 parted flags is_value [] = record { kept = []; files = [] }
 parted flags true (word ∷ words) = with_kept word (parted flags false words)
 parted flags false (word ∷ words) =
@@ -52,7 +56,7 @@ parted flags false (word ∷ words) =
 abbrev pub singles : List Text → List (List Text)
 singles = map (λ file. file ∷ [])
 
-unfoldable pub pairs : List Text → List (List Text)
+abbrev pub pairs : List Text → List (List Text)
 pairs [] = []
 pairs (file ∷ []) = []
 pairs (file ∷ other ∷ files) = (file ∷ other ∷ []) ∷ pairs files
@@ -61,10 +65,11 @@ pairs (file ∷ other ∷ files) = (file ∷ other ∷ []) ∷ pairs files
 abbrev pub groups : ℕ → List Text → List (List Text)
 groups number files = if number == 2 then pairs files else singles files
 
--- the switch stands among the words, and the files go into groups of so many
+-- the switch stands among the words, and the files go into groups of so many, one or two
 abbrev pub are_several : ℕ → Parted → Bool
 are_several number parts =
-    list_any (λ word. bytes_eq word (codes "--verdicts")) parts.kept && not (length parts.files == 0) && length parts.files % number == 0
+    list_any (λ word. bytes_eq word (codes "--verdicts")) parts.kept
+    && not (length parts.files == 0) && (not (number == 2) || length parts.files % 2 == 0)
 
 -- the words for these files
 abbrev pub request_of : Text → List Text → List Text → List Text

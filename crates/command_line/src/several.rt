@@ -1,9 +1,11 @@
 //! Words that name several files.
-ghost use Rattle.std.specs.Prelude.{◌≡◌, ◌++◌, ◌∷◌, IfOk, OnOk, [], length, map, option_map};
+ghost use Rattle.std.specs.Prelude.{◌≡◌, ◌∷◌, IfOk, List, [], codes, false, map, option_map};
 ghost use Rattle.std.specs.List.{list_any};
+ghost use Rattle.std.specs.Str.{bytes_eq};
 ghost use Rattle.command_line.specs.Asked.{words_of};
-ghost use Rattle.command_line.specs.Several.{are_several, is_flag, is_option, judging, pairs, parted, parted_of, request_of, requests_by, requests_of, singles, wants_value};
+ghost use Rattle.command_line.specs.Several.{are_several, is_flag, is_option, judging, onto, pairs, parted, parted_of, request_of, requests_of, singles};
 ghost use Rattle.command_line.specs.Subcommand.{flag_of, usage_of};
+ghost use Rattle.command_line.specs.Usage.{Text};
 
 use crate::subcommand::{Flag, Subcommand};
 use crate::subcommands::{AUDIT, CHECK, PLAY};
@@ -25,7 +27,7 @@ struct Parts<'a> {
 pub fn each<'a>(alloc: Global, words: &[&'a str]) -> Result<Vec<Vec<&'a str>>, AllocError>
     ensures { IfOk result (λ requests. map (λ request. words_of request.items) requests.items ≡ requests_of (words_of words.now)) }
 {
-    let [name, rest @ ..] = words else {
+    let Some((name, rest)) = words.split_first() else {
         return alone(alloc, words);
     };
     let Some(subcommand) = judging(name) else {
@@ -37,9 +39,9 @@ pub fn each<'a>(alloc: Global, words: &[&'a str]) -> Result<Vec<Vec<&'a str>>, A
         return alone(alloc, words);
     }
     if number == 2 {
-        parts.pairs(alloc, name)
+        parts.pairs(alloc, *name)
     } else {
-        parts.singles(alloc, name)
+        parts.singles(alloc, *name)
     }
 }
 
@@ -85,7 +87,7 @@ fn is_option(flag: &Flag, word: &str) -> bool
 
 /// Whether the word is an option, whose value stands in the next one.
 fn wants_value(flags: &[Flag], word: &str) -> bool
-    ensures { result ≡ wants_value (map flag_of flags.now) word.now }
+    ensures { result ≡ list_any (λ flag. is_option word.now (flag_of flag)) flags.now }
 {
     flags.iter().any(|flag| is_option(flag, word))
 }
@@ -103,33 +105,50 @@ fn parted<'a>(
         files: Vec::new(alloc),
     };
     let mut is_value = false;
-    let mut rest = words;
-    while let [word, behind @ ..] = rest {
-        if is_value {
-            parts.kept.push(*word)?;
-            is_value = false;
-        } else if *word == "--" {
-            parts.files.extend_from_slice(behind)?;
+    for index in 0..words.len() {
+        let word = words[index];
+        if !is_value && word == "--" {
+            parts.files.extend_from_slice(&words[index + 1..])?;
             return Ok(parts);
-        } else if is_flag(word) {
-            parts.kept.push(*word)?;
-            is_value = wants_value(flags, word);
-        } else {
-            parts.files.push(*word)?;
         }
-        rest = behind;
+        is_value = parts.take(flags, is_value, word)?;
     }
     Ok(parts)
 }
 
 impl<'a> Parts<'a> {
-    /// Whether the switch stands among the words, and the files go into groups of so many.
+    /// Takes one word more, which is the value of an option or stands before `--`; the answer is whether the next is a value.
+    fn take(&mut self, flags: &[Flag], is_value: bool, word: &'a str) -> Result<bool, AllocError>
+        requires { is_value ≡ false → bytes_eq word.now (codes "--") ≡ false }
+        ensures { IfOk result (λ next. (rest : List Text) → onto (parted_of self.new) (parted (map flag_of flags.now) next rest)
+            ≡ onto (parted_of self.old) (parted (map flag_of flags.now) is_value (word.now ∷ rest))) }
+    {
+        if is_value {
+            self.kept.push(word)?;
+            return Ok(false);
+        }
+        if is_flag(word) {
+            self.kept.push(word)?;
+            return Ok(wants_value(flags, word));
+        }
+        self.files.push(word)?;
+        Ok(false)
+    }
+
+    /// Whether the switch stands among the words.
+    fn have_switch(&self) -> bool
+        ensures { result ≡ list_any (λ word. bytes_eq word.now (codes "--verdicts")) self.now.kept.items }
+    {
+        self.kept.iter().any(|word| *word == "--verdicts")
+    }
+
+    /// Whether the switch stands among the words, and the files go into groups of so many, one or two.
+    #[tactic(auto, using(crate::proofs::SeveralLemmas::any_word, crate::proofs::SeveralLemmas::as_many))]
     fn are_several(&self, number: usize) -> bool
         ensures { result ≡ are_several number (parted_of self.now) }
     {
-        self.kept.iter().any(|word| *word == "--verdicts")
-            && !self.files.is_empty()
-            && self.files.len() % number == 0
+        let files = self.files.len();
+        self.have_switch() && files != 0 && (number != 2 || files % 2 == 0)
     }
 
     /// The words for these files.
@@ -150,10 +169,8 @@ impl<'a> Parts<'a> {
             ≡ map (request_of name.now (parted_of self.now).kept) (singles (parted_of self.now).files)) }
     {
         let mut requests = Vec::new(alloc);
-        let mut rest = self.files.as_slice();
-        while let [file, behind @ ..] = rest {
+        for file in &self.files {
             requests.push(self.request(alloc, name, &[*file])?)?;
-            rest = behind;
         }
         Ok(requests)
     }
