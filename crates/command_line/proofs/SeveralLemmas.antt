@@ -1,5 +1,5 @@
 -- Words, parted one behind the other.
-use Rattle.std.proofs.Common.{◌≡◌, ◌||◌, ℕ, suc, Bool, true, false, codes, length, List, [], ◌∷◌, ◌++◌, Bor, Vec, Global, map, append-nil, refl, sym, ap, ◌∙◌}
+use Rattle.std.proofs.Common.{◌≡◌, ◌||◌, suc, Bool, true, false, codes, length, List, [], ◌∷◌, ◌++◌, Bor, Vec, Global, map, append-nil, refl, sym, ap, ◌∙◌}
 use Rattle.std.proofs.lemmas.List.{map-append}
 use Rattle.std.specs.List.{list_any}
 use Rattle.std.specs.Str.{bytes_eq}

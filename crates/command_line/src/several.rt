@@ -93,11 +93,7 @@ fn wants_value(flags: &[Flag], word: &str) -> bool
 }
 
 /// The words of a subcommand with these flags, parted.
-fn parted<'a>(
-    alloc: Global,
-    flags: &[Flag],
-    words: &[&'a str],
-) -> Result<Parts<'a>, AllocError>
+fn parted<'a>(alloc: Global, flags: &[Flag], words: &[&'a str]) -> Result<Parts<'a>, AllocError>
     ensures { IfOk result (λ parts. parted_of parts ≡ parted (map flag_of flags.now) false (words_of words.now)) }
 {
     let mut parts = Parts {
@@ -152,7 +148,12 @@ impl<'a> Parts<'a> {
     }
 
     /// The words for these files.
-    fn request(&self, alloc: Global, name: &'a str, files: &[&'a str]) -> Result<Vec<&'a str>, AllocError>
+    fn request(
+        &self,
+        alloc: Global,
+        name: &'a str,
+        files: &[&'a str],
+    ) -> Result<Vec<&'a str>, AllocError>
         ensures { IfOk result (λ request. words_of request.items ≡ request_of name.now (parted_of self.now).kept (words_of files.now)) }
     {
         let mut request = Vec::new(alloc);
