@@ -17,14 +17,15 @@ _byzlab() {
     *:prove:-*) offered="-h --help" ;;
     2:help:*) offered=$commands ;;
     *:help:*) offered= ;;
-    *:play:-*) offered="--table --explain --schedule --of -h --help" ;;
-    *:check:-*) offered="--asm --elf --explain --trace --context --entry -h --help" ;;
+    *:play:-*) offered="--table --explain --json --verdicts --schedule --of -h --help" ;;
+    *:check:-*) offered="--asm --elf --explain --trace --json --verdicts --context --entry -h --help" ;;
     *:asm:-*) offered="--raw --explain -o -h --help" ;;
     *:dis:-*) offered="--elf --units --explain --entry -h --help" ;;
-    *:book:-*) offered="--explain --traitors -h --help" ;;
+    *:book:-*) offered="--explain --json --traitors -h --help" ;;
     *:table:-*) offered="--loyal --lie -h --help" ;;
     *:explore:-*) offered="--most -h --help" ;;
-    *:muster:-* | *:audit:-*) offered="--explain --of -h --help" ;;
+    *:muster:-*) offered="--explain --json --of -h --help" ;;
+    *:audit:-*) offered="--explain --json --verdicts --of -h --help" ;;
     *) offered= ;;
     esac
     mapfile -t COMPREPLY < <(compgen -W "$offered" -- "$word")

@@ -4,154 +4,182 @@
 
 mod folder;
 mod input;
+mod progress;
 mod target;
 
-ghost use Rattle.std.specs.Prelude.{◌≡◌, IfOk, IfErr};
+ghost use Rattle.std.specs.Prelude.{◌≡◌, IfOk, IfErr, max, option_map};
 ghost use Rattle.std.specs.IoError.{error_kind};
-ghost use Rattle.byzlab.specs.Files.{IsInputOf};
+ghost use Rattle.byzlab.specs.Files.{IsInputIf};
 ghost use Rattle.byzlab.specs.Telling.{failure_of};
 
-use command_line::{Task, TaskError};
+use command_line::{Request, TaskError, each};
+use desk::{serve, turned_down};
 use folder::FolderOf;
 use input::Input;
-use lab::{FileName, serve};
+use lab::FileName;
 use neighbours::{Untaken, reads_scenario, with_files};
+use progress::Progress;
 use std::env;
+use std::fmt::Display;
 use std::io::{self, Cursor, ErrorKind, Read};
 use std::process::ExitCode;
 use target::Target;
 
 fn main(rt: HostRuntime) -> ExitCode {
-    let status = match prepare(&rt) {
-        Ok(
-            Ready::Task {
-                task,
-                first,
-                second,
-            },
-        ) => serve(
-            &rt,
-            rt.alloc(),
-            &task,
-            first,
-            second,
-            &mut Target::of(&rt, task.target()),
-            &mut rt.stderr(),
-        ),
-        Ok(Ready::Done(status)) => status,
-        Err(error) => {
-            let (line, status) = failure(error.kind());
-            let _ = rt.eprintln(line);
-            status
-        }
+    let status = match called(&rt) {
+        Ok(status) => status,
+        Err(error) => lacking(&rt, error.kind()),
     };
     ExitCode::from(status)
 }
 
-/// What the words come to.
-#[derive(Drop)]
-enum Ready {
-    /// A task, and its files, which are open.
-    Task {
-        task: Task,
-        first: Input,
-        second: Option<Input>,
-    },
-    /// No task is left: help or a fault has been told, with this exit status.
-    Done(u8),
+/// Says why nothing more is done. The result is the exit status.
+fn lacking(rt: &HostRuntime, kind: ErrorKind) -> u8
+    ensures { result ≡ (failure_of kind).1 }
+{
+    let (line, status) = failure(kind);
+    let _ = rt.eprintln(line);
+    status
 }
 
-/// Reads the words, and opens the files that they name.
-fn prepare(rt: &HostRuntime) -> io::Result<Ready> {
+/// Reads the words, and does each request of theirs, up to the first that is none. The result is the worst exit status.
+fn called(rt: &HostRuntime) -> io::Result<u8> {
     let alloc = rt.alloc();
     let words: Vec<String> = env::args(rt)?.skip(1).collect(alloc)?;
     let mut texts: Vec<&str> = Vec::with_capacity(alloc, words.len())?;
     for word in &words {
         texts.push(word.as_str())?;
     }
-    let task = match command_line::task(alloc, texts.as_slice()) {
-        Ok(task) => task,
-        Err(TaskError::Words(error)) => {
-            if error.use_stderr() {
-                let _ = error.print(rt);
-                return Ok(Ready::Done(2));
-            }
-            error.print(rt)?;
-            return Ok(Ready::Done(0));
-        }
-        Err(error @ TaskError::Misuse(_)) => {
-            let _ = rt.eprintln(error);
-            return Ok(Ready::Done(2));
-        }
-        Err(TaskError::Memory) => return Err(io::Error::from(ErrorKind::OutOfMemory)),
-    };
-    let first = match task.file() {
-        Some(name) => match opened(rt, name)? {
-            Some(file) => file,
-            None => return Ok(Ready::Done(1)),
-        },
-        None => Input::Nothing,
-    };
-    let second = match task.second() {
-        Some(name) => match opened(rt, name)? {
-            Some(file) => Some(file),
-            None => return Ok(Ready::Done(1)),
-        },
-        None => None,
-    };
-    let Some(first) = completed(rt, &task, first)? else {
-        return Ok(Ready::Done(1));
-    };
-    Ok(Ready::Task {
-        task,
-        first,
-        second,
-    })
+    let requests = each(alloc, texts.as_slice())?;
+    let progress = Progress::of(rt, requests.len());
+    let mut worst = 0;
+    for (index, words) in requests.iter().enumerate() {
+        let request = match command_line::request(alloc, words.as_slice()) {
+            Ok(request) => request,
+            Err(error) => return unasked(rt, error),
+        };
+        let status = match answered(rt, &request) {
+            Ok(status) => status,
+            Err(error) => lacking(rt, error.kind()),
+        };
+        worst = worse(worst, status);
+        let _ = progress.tell(index + 1);
+    }
+    Ok(worst)
 }
 
-/// The task's first file, in which a scenario has the files that it names; none where one of them is not taken, after the
-/// lines that say so.
-fn completed(rt: &HostRuntime, task: &Task, first: Input) -> io::Result<Option<Input>> {
-    let name = match task.file() {
-        Some(name) if reads_scenario(task) => name,
+/// The worse of two exit statuses.
+fn worse(first: u8, second: u8) -> u8
+    ensures { result ≡ max first second }
+{
+    if first < second { second } else { first }
+}
+
+/// Does what is asked for. The result is the exit status.
+fn answered(rt: &HostRuntime, request: &Request) -> io::Result<u8> {
+    let Some(first) = opened(rt, request, request.task.file())? else {
+        return Ok(1);
+    };
+    let second = match request.task.second() {
+        None => None,
+        name => match opened(rt, request, name)? {
+            Some(file) => Some(file),
+            None => return Ok(1),
+        },
+    };
+    let Some(first) = completed(rt, request, first)? else {
+        return Ok(1);
+    };
+    Ok(serve(
+        rt,
+        rt.alloc(),
+        request,
+        first,
+        second,
+        &mut Target::of(rt, request.task.target()),
+        &mut rt.stderr(),
+    ))
+}
+
+/// Says why the words name no task, or prints help. The result is the exit status.
+fn unasked(rt: &HostRuntime, error: TaskError) -> io::Result<u8> {
+    match error {
+        TaskError::Words(error) => {
+            if error.use_stderr() {
+                let _ = error.print(rt);
+                return Ok(2);
+            }
+            error.print(rt)?;
+            Ok(0)
+        }
+        error @ TaskError::Misuse(_) => {
+            let _ = rt.eprintln(error);
+            Ok(2)
+        }
+        TaskError::Memory => Err(io::Error::from(ErrorKind::OutOfMemory)),
+    }
+}
+
+/// The first file, in which a scenario has the files that it names; none where one of them is not taken, after what says so.
+fn completed(rt: &HostRuntime, request: &Request, first: Input) -> io::Result<Option<Input>> {
+    let name = match request.task.file() {
+        Some(name) if reads_scenario(&request.task) => name,
         _ => return Ok(Some(first)),
     };
-    let Some(bytes) = read(rt, name, first)? else {
+    let Some(bytes) = read(rt, request, name, first)? else {
         return Ok(None);
     };
     let folder = FolderOf { rt, scenario: name };
     match with_files(rt.alloc(), bytes, &folder) {
         Ok(bytes) => Ok(Some(Input::Text(Cursor::new(bytes)))),
         Err(Untaken::Told(text)) => {
-            let _ = rt.eprintln(text);
+            turn_down(rt, request, text.as_str())?;
             Ok(None)
         }
         Err(Untaken::Memory) => Err(io::Error::from(ErrorKind::OutOfMemory)),
     }
 }
 
-/// All bytes of the file of this name; none where it cannot be read, after the line that says so.
-fn read(rt: &HostRuntime, name: &str, file: Input) -> io::Result<Option<Vec<u8>>> {
+/// Says that the task is not done, by this line.
+fn turn_down<D: Display + Drop>(rt: &HostRuntime, request: &Request, line: D) -> io::Result<()>
+    ensures memory { IfErr result (λ error. error_kind error ≡ ErrorKind.OutOfMemory) }
+{
+    match turned_down(rt.alloc(), request, line, &mut rt.stdout(), &mut rt.stderr()) {
+        1 => Ok(()),
+        _ => Err(io::Error::from(ErrorKind::OutOfMemory)),
+    }
+}
+
+/// All bytes of the file of this name; none where it cannot be read, after what says so.
+fn read(
+    rt: &HostRuntime,
+    request: &Request,
+    name: &str,
+    file: Input,
+) -> io::Result<Option<Vec<u8>>> {
     let mut file = file;
     let mut bytes = Vec::new(rt.alloc());
     match file.read_to_end(&mut bytes) {
         Ok(_) => Ok(Some(bytes)),
         Err(error) if error.kind() == ErrorKind::OutOfMemory => Err(error),
         Err(_) => {
-            let _ = rt.eprintln(format_args!("fault read {}", FileName(name)));
+            turn_down(rt, request, format_args!("fault read {}", FileName(name)))?;
             Ok(None)
         }
     }
 }
 
-/// The file; none where it does not open, after the line that says so.
-fn opened(rt: &HostRuntime, name: &str) -> io::Result<Option<Input>>
-    ensures input { IfOk result (IsInputOf name.now) }
+/// The file of this name, or nothing to read where the task has none; none where it does not open, after what says so.
+fn opened(rt: &HostRuntime, request: &Request, name: Option<&str>) -> io::Result<Option<Input>>
+    ensures input { IfOk result (IsInputIf (option_map (λ n. n.now) name.entry)) }
     ensures memory { IfErr result (λ error. error_kind error ≡ ErrorKind.OutOfMemory) }
 {
+    let Some(name) = name else {
+        return Ok(Some(Input::Nothing));
+    };
     let input = Input::open(rt, name)?;
     if input.is_none() {
-        let _ = rt.eprintln(format_args!("fault read {}", FileName(name)));
+        turn_down(rt, request, format_args!("fault read {}", FileName(name)))?;
     }
     Ok(input)
 }

@@ -14,6 +14,7 @@ use Rattle.command_line.specs.declared.tasks.Lieutenants.{Lieutenants}
 use Rattle.command_line.specs.declared.tasks.Lieutenants.TheVariants.{All, One}
 use Rattle.command_line.specs.declared.tasks.Notation.{Notation}
 use Rattle.command_line.specs.declared.tasks.Notation.TheVariants.{Bytecode, Assembly, Object}
+use Rattle.command_line.specs.declared.tasks.Request.{Request}
 use Rattle.command_line.specs.declared.tasks.Spelling.{Spelling}
 use Rattle.command_line.specs.declared.tasks.Spelling.TheVariants.{Hex, Raw}
 use Rattle.command_line.specs.declared.tasks.Task.{Task}
@@ -120,6 +121,10 @@ Says told (Audit scenario chronicle explained) = (told.name ≡ codes "audit")
     × (word_of (codes "CHRONICLE") told ≡ Some (string_bytes chronicle)) × AreExplained told explained
 Says told (Explore scenario most) = (told.name ≡ codes "explore")
     × (word_of (codes "SCENARIO") told ≡ Some (string_bytes scenario)) × NamesCount (codes "most") told most
+
+-- the words ask for this: the task, and whether its answer is to be JSON, or one line
+abbrev pub Asks : Told → Request → Type 0
+Asks told request = Says told request.task × (has (codes "json") told ≡ request.json) × (has (codes "verdicts") told ≡ request.verdicts)
 
 -- ---- the names of the task's files: of its only or first, of the second, and of the one that it writes
 

@@ -7,7 +7,7 @@ abbrev pub check : Usage
 check = record {
   name = codes "check";
   places = codes "FILE" ∷ [];
-  flags = switch (codes "asm") ∷ switch (codes "elf") ∷ switch (codes "explain") ∷ switch (codes "trace") ∷ option (codes "context") ∷ option (codes "entry") ∷ [];
+  flags = switch (codes "asm") ∷ switch (codes "elf") ∷ switch (codes "explain") ∷ switch (codes "trace") ∷ switch (codes "json") ∷ switch (codes "verdicts") ∷ option (codes "context") ∷ option (codes "entry") ∷ [];
 }
 
 abbrev pub asm : Usage
@@ -28,7 +28,7 @@ abbrev pub book : Usage
 book = record {
   name = codes "book";
   places = codes "FILE" ∷ [];
-  flags = switch (codes "explain") ∷ option (codes "traitors") ∷ [];
+  flags = switch (codes "explain") ∷ switch (codes "json") ∷ option (codes "traitors") ∷ [];
 }
 
 abbrev pub table : Usage
@@ -39,20 +39,24 @@ table = record {
 }
 
 abbrev pub muster : Usage
-muster = record { name = codes "muster"; places = codes "SCENARIO" ∷ []; flags = switch (codes "explain") ∷ option (codes "of") ∷ [] }
+muster = record {
+  name = codes "muster";
+  places = codes "SCENARIO" ∷ [];
+  flags = switch (codes "explain") ∷ switch (codes "json") ∷ option (codes "of") ∷ [];
+}
 
 abbrev pub play : Usage
 play = record {
   name = codes "play";
   places = codes "SCENARIO" ∷ [];
-  flags = switch (codes "table") ∷ switch (codes "explain") ∷ option (codes "schedule") ∷ option (codes "of") ∷ [];
+  flags = switch (codes "table") ∷ switch (codes "explain") ∷ switch (codes "json") ∷ switch (codes "verdicts") ∷ option (codes "schedule") ∷ option (codes "of") ∷ [];
 }
 
 abbrev pub audit : Usage
 audit = record {
   name = codes "audit";
   places = codes "SCENARIO" ∷ codes "CHRONICLE" ∷ [];
-  flags = switch (codes "explain") ∷ option (codes "of") ∷ [];
+  flags = switch (codes "explain") ∷ switch (codes "json") ∷ switch (codes "verdicts") ∷ option (codes "of") ∷ [];
 }
 
 abbrev pub explore : Usage

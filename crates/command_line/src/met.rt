@@ -2,11 +2,11 @@ ghost use Rattle.std.specs.Prelude.{◌≡◌, if◌then◌else◌, IfOk, IfErr,
 ghost use Rattle.clap.specs.Words.{subcommand_rows_of};
 ghost use Rattle.command_line.specs.Lab.{is_given, task_met};
 ghost use Rattle.command_line.specs.Met.{has_places, told_by};
-ghost use Rattle.command_line.specs.Told.{AreExplained, IsErrorOf, IsFilling, IsNotation, NamesCount, NamesGeneral, Says, campaigns, has, is_of, is_raw, is_table, programs, word_of};
+ghost use Rattle.command_line.specs.Told.{AreExplained, Asks, IsErrorOf, IsFilling, IsNotation, NamesCount, NamesGeneral, Says, campaigns, has, is_of, is_raw, is_table, programs, word_of};
 
 use crate::errors::{Misuse, TaskError};
 use crate::generals::{GeneralsError, count, general, generals, order};
-use crate::tasks::{Account, Filling, Lieutenants, Notation, Spelling, Task};
+use crate::tasks::{Account, Filling, Lieutenants, Notation, Request, Spelling, Task};
 use clap::ArgMatches;
 use clap::parser::ValueSource;
 use std::alloc::{AllocError, Global};
@@ -65,8 +65,21 @@ impl<'m, 'a> Met<'m, 'a> {
         })
     }
 
+    /// What is asked for.
+    pub(crate) fn request(self, alloc: Global) -> Result<Request, TaskError>
+        requires { has_places (told_by self) ≡ true }
+        ensures request { IfOk result (Asks (told_by self.entry)) }
+        ensures refused { IfErr result (IsErrorOf (told_by self.entry)) }
+    {
+        Ok(Request {
+            json: self.has("json"),
+            verdicts: self.has("verdicts"),
+            task: self.task(alloc)?,
+        })
+    }
+
     /// The task of the subcommand.
-    pub(crate) fn task(self, alloc: Global) -> Result<Task, TaskError>
+    fn task(self, alloc: Global) -> Result<Task, TaskError>
         requires { has_places (told_by self) ≡ true }
         ensures task { IfOk result (Says (told_by self.entry)) }
         ensures refused { IfErr result (IsErrorOf (told_by self.entry)) }

@@ -8,6 +8,10 @@ const EXPLAIN_DECISIONS: &str = "Tells how each decision comes about, or why a f
 
 const ENTRY: &str = "The function of the object; without it, its only global one";
 
+const JSON: &str = "Prints JSON Lines, an object for each line, and what is refused as one too";
+
+const VERDICTS: &str = "Prints one line for each file, and takes several";
+
 const OF: &str = "Explains this lieutenant's decision alone";
 
 const BYTECODE: Place<'static> = Place {
@@ -20,7 +24,7 @@ const SCENARIO: Place<'static> = Place {
     help: "The campaign, as TOML: the generals, the order, the traitors' programs",
 };
 
-const CHECK: Subcommand<'static> = Subcommand {
+pub(crate) const CHECK: Subcommand<'static> = Subcommand {
     name: "check",
     about: "Verifies a program and runs it",
     places: &[BYTECODE],
@@ -40,6 +44,14 @@ const CHECK: Subcommand<'static> = Subcommand {
         Flag::Switch {
             name: "trace",
             help: "Tells each step of the run",
+        },
+        Flag::Switch {
+            name: "json",
+            help: JSON,
+        },
+        Flag::Switch {
+            name: "verdicts",
+            help: VERDICTS,
         },
         Flag::Option {
             name: "context",
@@ -116,6 +128,10 @@ const BOOK: Subcommand<'static> = Subcommand {
             name: "explain",
             help: "Tells how each decision comes about",
         },
+        Flag::Switch {
+            name: "json",
+            help: JSON,
+        },
         Flag::Option {
             name: "traitors",
             value: "G,H",
@@ -164,6 +180,10 @@ const MUSTER: Subcommand<'static> = Subcommand {
             name: "explain",
             help: EXPLAIN_DECISIONS,
         },
+        Flag::Switch {
+            name: "json",
+            help: JSON,
+        },
         Flag::Option {
             name: "of",
             value: "G",
@@ -172,7 +192,7 @@ const MUSTER: Subcommand<'static> = Subcommand {
     ],
 };
 
-const PLAY: Subcommand<'static> = Subcommand {
+pub(crate) const PLAY: Subcommand<'static> = Subcommand {
     name: "play",
     about: "Plays a campaign and prints its chronicle",
     places: &[SCENARIO],
@@ -184,6 +204,14 @@ const PLAY: Subcommand<'static> = Subcommand {
         Flag::Switch {
             name: "explain",
             help: EXPLAIN_DECISIONS,
+        },
+        Flag::Switch {
+            name: "json",
+            help: JSON,
+        },
+        Flag::Switch {
+            name: "verdicts",
+            help: VERDICTS,
         },
         Flag::Option {
             name: "schedule",
@@ -198,7 +226,7 @@ const PLAY: Subcommand<'static> = Subcommand {
     ],
 };
 
-const AUDIT: Subcommand<'static> = Subcommand {
+pub(crate) const AUDIT: Subcommand<'static> = Subcommand {
     name: "audit",
     about: "Replays a chronicle and says whether it is sound",
     places: &[
@@ -212,6 +240,14 @@ const AUDIT: Subcommand<'static> = Subcommand {
         Flag::Switch {
             name: "explain",
             help: EXPLAIN_DECISIONS,
+        },
+        Flag::Switch {
+            name: "json",
+            help: JSON,
+        },
+        Flag::Switch {
+            name: "verdicts",
+            help: VERDICTS,
         },
         Flag::Option {
             name: "of",

@@ -1,4 +1,14 @@
-/// What the words ask for: a subcommand with the names of its files, and what its flags say.
+/// What the words ask for: a task, and how its answer is printed.
+#[derive(Debug, Drop, PartialEq, Eq)]
+pub struct Request {
+    pub task: Task,
+    /// As JSON Lines, an object for each line.
+    pub json: bool,
+    /// By one line alone, behind the file's name.
+    pub verdicts: bool,
+}
+
+/// A subcommand with the names of its files, and what its flags say.
 #[derive(Debug, Drop, PartialEq, Eq)]
 pub enum Task {
     /// Verify a program and run it, in the context that a second file tells where one is named. Where it is asked for,

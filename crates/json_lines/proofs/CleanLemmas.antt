@@ -186,9 +186,9 @@ refused_clean told next =
 fault_clean : (told : List ℕ) → NoFloat (fault_object told)
 fault_clean told =
     let what = with_text (codes "fault") (before space told) (called (codes "fault")) in
-    let file = with_text (codes "file") (behind_stop space told) what in
+    let place = with_text (codes "place") (behind_stop space told) what in
     let first : NoFloat what = text_clean (codes "fault") (before space told) (called (codes "fault")) refl in
-    put_clean (codes "class") (string (codes "unreadable")) file refl (text_clean (codes "file") (behind_stop space told) what first)
+    put_clean (codes "class") (string (codes "unreadable")) place refl (text_clean (codes "place") (behind_stop space told) what first)
 
 unshaped_clean : (line : List ℕ) → NoFloat (unshaped line)
 unshaped_clean line = put_clean (codes "text") (string (utf8_lossy line)) (called (codes "text")) refl refl

@@ -37,11 +37,11 @@ refused_object told next =
     (put (codes "class") (string (class_of code))
     (with_text (codes "place") (behind_stop space told) (with_text (codes "code") code (called (codes "refused")))))
 
--- of a fault of a file: which fault, and the file
+-- of a fault of a file: which fault, and the file as the place
 abbrev pub fault_object : List ℕ → Members
 fault_object told =
     put (codes "class") (string (codes "unreadable"))
-    (with_text (codes "file") (behind_stop space told) (with_text (codes "fault") (before space told) (called (codes "fault"))))
+    (with_text (codes "place") (behind_stop space told) (with_text (codes "fault") (before space told) (called (codes "fault"))))
 
 -- by the first word of the first line
 unfoldable pub refusal_object : List ℕ → Members

@@ -104,7 +104,7 @@ fn fault(alloc: Global, told: &[u8]) -> Result<Map<String, Value>, AllocError>
     let (fault, file) = parted(SPACE, told);
     let mut object = called(alloc, "fault")?;
     put_text(alloc, &mut object, "fault", fault)?;
-    put_text(alloc, &mut object, "file", file)?;
+    put_text(alloc, &mut object, "place", file)?;
     put(
         &mut object,
         alloc,
@@ -132,7 +132,7 @@ pub(crate) fn refusal_object(alloc: Global, text: &[u8]) -> Result<Map<String, V
 }
 
 /// What is said where a task is not done, as a line of JSON: of a refusal its code, its place, whether the file is malformed or
-/// its program unsafe, and the sentence of its report, if there is one; of a fault of a file what it is, and the file.
+/// its program unsafe, and the sentence of its report, if there is one; of a fault of a file what it is, and as its place the file.
 ///
 /// # Errors
 ///

@@ -93,8 +93,12 @@ where
     }
 }
 
-/// The task's answer on its files.
-fn answered<'a, T, R>(
+/// The task's answer on its files, which `serve` prints.
+///
+/// # Errors
+///
+/// A file that cannot be read or is refused, or want of memory.
+pub fn answered<'a, T, R>(
     rt: &T,
     alloc: Global,
     task: &'a Task,

@@ -10,6 +10,7 @@ mod likeness;
 mod lines;
 mod reading;
 mod report;
+mod respelling;
 mod row;
 mod shelf;
 mod shelving;
