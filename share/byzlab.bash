@@ -6,7 +6,7 @@
 
 _byzlab() {
     local words=("${COMP_WORDS[@]}") at=$COMP_CWORD script="prove --try" offered
-    local commands="check asm dis book table muster play audit explore help"
+    local commands="check asm dis book table muster play audit explore tree help"
     # (behind --try stand the same words; it and prove are the script's)
     if [ "$at" -gt 1 ] && [ "${words[1]}" = --try ]; then
         words=("${words[0]}" "${words[@]:2}") at=$((at - 1)) script=
@@ -23,6 +23,7 @@ _byzlab() {
     *:dis:-*) offered="--elf --units --explain --entry -h --help" ;;
     *:book:-*) offered="--explain --traitors -h --help" ;;
     *:table:-*) offered="--loyal --lie -h --help" ;;
+    *:tree:-*) offered="--ascii --dot --svg --fold --of --traitors --depth -h --help" ;;
     *:explore:-*) offered="--most -h --help" ;;
     *:muster:-* | *:audit:-*) offered="--explain --of -h --help" ;;
     *) offered= ;;

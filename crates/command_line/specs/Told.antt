@@ -1,14 +1,16 @@
 -- What a task and its refusal say.
-use Rattle.std.specs.Prelude.{⊤, ℕ, ◌≡◌, Bool, true, false, List, [], ◌∷◌, Option, None, Some, codes, is_some, option_map}
+use Rattle.std.specs.Prelude.{⊤, ℕ, ◌≡◌, ◌&&◌, Bool, true, false, List, [], ◌∷◌, Option, None, Some, codes, is_some, option_map}
 use Rattle.std.specs.List.{list_any}
 use Rattle.std.specs.Str.{bytes_eq}
 use Rattle.std.specs.String.{string_bytes}
 use Rattle.text.specs.Options.{◌>>=◌}
 use Rattle.clap.specs.declared.error.Error.{Error}
-use Rattle.command_line.specs.Generals.{count_in, general_in, generals_in, order_in}
+use Rattle.command_line.specs.Generals.{count_in, depth_in, general_in, generals_in, order_in}
 use Rattle.command_line.specs.Usage.{Text}
 use Rattle.command_line.specs.declared.tasks.Account.{Account}
 use Rattle.command_line.specs.declared.tasks.Account.TheVariants.{Chronicle, Table}
+use Rattle.command_line.specs.declared.tasks.Drawing.{Drawing}
+use Rattle.command_line.specs.declared.tasks.Drawing.TheVariants.{Boxes, Ascii, Graph, Svg}
 use Rattle.command_line.specs.declared.tasks.Filling.{Filling}
 use Rattle.command_line.specs.declared.tasks.Lieutenants.{Lieutenants}
 use Rattle.command_line.specs.declared.tasks.Lieutenants.TheVariants.{All, One}
@@ -17,9 +19,9 @@ use Rattle.command_line.specs.declared.tasks.Notation.TheVariants.{Bytecode, Ass
 use Rattle.command_line.specs.declared.tasks.Spelling.{Spelling}
 use Rattle.command_line.specs.declared.tasks.Spelling.TheVariants.{Hex, Raw}
 use Rattle.command_line.specs.declared.tasks.Task.{Task}
-use Rattle.command_line.specs.declared.tasks.Task.TheVariants.{Check, Assemble, Disassemble, Book, ExplainDecisions, Form, Play, Muster, Audit, Explore}
+use Rattle.command_line.specs.declared.tasks.Task.TheVariants.{Check, Assemble, Disassemble, Book, ExplainDecisions, Form, Play, Muster, Audit, Explore, Tree}
 use Rattle.command_line.specs.declared.errors.Misuse.{Misuse}
-use Rattle.command_line.specs.declared.errors.Misuse.TheVariants.{Traitors, Of, Lie, Loyal, Most, TwoNotations, EntryAlone, OfAlone, LieAlone}
+use Rattle.command_line.specs.declared.errors.Misuse.TheVariants.{Traitors, Of, Lie, Loyal, Most, Depth, NobodyNamed, TwoDrawings, TwoNotations, EntryAlone, OfAlone, LieAlone}
 use Rattle.command_line.specs.declared.errors.TaskError.{TaskError}
 use Rattle.command_line.specs.declared.errors.TaskError.TheVariants as error
 
@@ -44,6 +46,13 @@ programs = codes "check" ∷ codes "dis" ∷ []
 
 abbrev pub campaigns : List Text
 campaigns = codes "play" ∷ codes "muster" ∷ codes "audit" ∷ []
+
+-- those that take the number of a lieutenant, and those that take names of traitors
+abbrev pub of_one : List Text
+of_one = codes "tree" ∷ campaigns
+
+abbrev pub of_traitors : List Text
+of_traitors = codes "book" ∷ codes "tree" ∷ []
 
 -- ---- what the words say of a part of a task
 
@@ -87,6 +96,17 @@ abbrev pub NamesCount : Text → Told → Option ℕ → Type 0
 NamesCount name told None = word_of name told ≡ None
 NamesCount name told (Some n) = (word_of name told >>= count_in) ≡ Some n
 
+abbrev pub IsDrawing : Told → Drawing → Type 0
+IsDrawing told Boxes = (has (codes "ascii") told ≡ false) × (has (codes "dot") told ≡ false) × (has (codes "svg") told ≡ false)
+IsDrawing told Ascii = (has (codes "ascii") told ≡ true) × (has (codes "dot") told ≡ false) × (has (codes "svg") told ≡ false)
+IsDrawing told Graph = (has (codes "ascii") told ≡ false) × (has (codes "dot") told ≡ true) × (has (codes "svg") told ≡ false)
+IsDrawing told Svg = (has (codes "ascii") told ≡ false) × (has (codes "dot") told ≡ false) × (has (codes "svg") told ≡ true)
+
+-- so many levels, all where none are named
+abbrev pub levels_in : Option Text → Option ℕ
+levels_in None = Some 4
+levels_in (Some word) = depth_in word
+
 -- ---- the words say this task
 
 abbrev pub Says : Told → Task → Type 0
@@ -120,6 +140,10 @@ Says told (Audit scenario chronicle explained) = (told.name ≡ codes "audit")
     × (word_of (codes "CHRONICLE") told ≡ Some (string_bytes chronicle)) × AreExplained told explained
 Says told (Explore scenario most) = (told.name ≡ codes "explore")
     × (word_of (codes "SCENARIO") told ≡ Some (string_bytes scenario)) × NamesCount (codes "most") told most
+Says told (Tree file general traitors drawing depth folded) = (told.name ≡ codes "tree")
+    × (word_of (codes "FILE") told ≡ Some (string_bytes file)) × NamesGeneral (codes "of") told (Some general)
+    × (named true (word_of (codes "traitors") told) ≡ Some traitors.items) × IsDrawing told drawing
+    × (levels_in (word_of (codes "depth") told) ≡ Some depth) × (has (codes "fold") told ≡ folded)
 
 -- ---- the names of the task's files: of its only or first, of the second, and of the one that it writes
 
@@ -134,6 +158,7 @@ file_of (Play scenario schedule account explained) = Some (string_bytes scenario
 file_of (Muster scenario explained) = Some (string_bytes scenario)
 file_of (Audit scenario chronicle explained) = Some (string_bytes scenario)
 file_of (Explore scenario most) = Some (string_bytes scenario)
+file_of (Tree file general traitors drawing depth folded) = Some (string_bytes file)
 
 abbrev pub second_of : Task → Option Text
 second_of (Check file notation context explained traced) = option_map string_bytes context
@@ -147,11 +172,17 @@ target_of _ = None
 
 -- ---- refusals
 
+-- two of these are there
+abbrev pub are_two : Bool → Bool → Bool → Bool
+are_two true true c = true
+are_two true false c = c
+are_two false b c = b && c
+
 -- the words are misused so
 abbrev pub IsMisused : Told → Misuse → Type 0
-IsMisused told (Traitors word) = (is_of (codes "book" ∷ []) told ≡ true)
+IsMisused told (Traitors word) = (is_of of_traitors told ≡ true)
     × (word_of (codes "traitors") told ≡ Some (string_bytes word)) × (generals_in (string_bytes word) ≡ None)
-IsMisused told (Of word) = (is_of campaigns told ≡ true)
+IsMisused told (Of word) = (is_of of_one told ≡ true)
     × (word_of (codes "of") told ≡ Some (string_bytes word)) × (general_in (string_bytes word) ≡ None)
 IsMisused told (Lie word) = (is_of (codes "table" ∷ []) told ≡ true)
     × (word_of (codes "lie") told ≡ Some (string_bytes word)) × (general_in (string_bytes word) ≡ None)
@@ -159,6 +190,11 @@ IsMisused told (Loyal word) = (is_of (codes "table" ∷ []) told ≡ true)
     × (word_of (codes "loyal") told ≡ Some (string_bytes word)) × (order_in (string_bytes word) ≡ None)
 IsMisused told (Most word) = (is_of (codes "explore" ∷ []) told ≡ true)
     × (word_of (codes "most") told ≡ Some (string_bytes word)) × (count_in (string_bytes word) ≡ None)
+IsMisused told (Depth word) = (is_of (codes "tree" ∷ []) told ≡ true)
+    × (word_of (codes "depth") told ≡ Some (string_bytes word)) × (depth_in (string_bytes word) ≡ None)
+IsMisused told NobodyNamed = (is_of (codes "tree" ∷ []) told ≡ true) × (has (codes "of") told ≡ false)
+IsMisused told TwoDrawings = (is_of (codes "tree" ∷ []) told ≡ true)
+    × (are_two (has (codes "ascii") told) (has (codes "dot") told) (has (codes "svg") told) ≡ true)
 IsMisused told TwoNotations = (is_of programs told ≡ true) × (has (codes "asm") told ≡ true) × (has (codes "elf") told ≡ true)
 IsMisused told EntryAlone = (is_of programs told ≡ true) × (has (codes "entry") told ≡ true) × (has (codes "elf") told ≡ false)
 IsMisused told OfAlone = (is_of campaigns told ≡ true) × (has (codes "of") told ≡ true) × (has (codes "explain") told ≡ false)

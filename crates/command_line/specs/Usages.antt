@@ -58,8 +58,16 @@ audit = record {
 abbrev pub explore : Usage
 explore = record { name = codes "explore"; places = codes "SCENARIO" ∷ []; flags = option (codes "most") ∷ [] }
 
+abbrev pub tree : Usage
+tree = record {
+  name = codes "tree";
+  places = codes "FILE" ∷ [];
+  flags = switch (codes "ascii") ∷ switch (codes "dot") ∷ switch (codes "svg") ∷ switch (codes "fold")
+      ∷ option (codes "of") ∷ option (codes "traitors") ∷ option (codes "depth") ∷ [];
+}
+
 abbrev pub usages : List Usage
-usages = check ∷ asm ∷ dis ∷ book ∷ table ∷ muster ∷ play ∷ audit ∷ explore ∷ []
+usages = check ∷ asm ∷ dis ∷ book ∷ table ∷ muster ∷ play ∷ audit ∷ explore ∷ tree ∷ []
 
 abbrev pub usage_named : Text → Option Usage
 usage_named name = find (λ usage. bytes_eq usage.name name) usages

@@ -1,12 +1,13 @@
 ghost use Rattle.std.specs.Prelude.{◌≡◌, if◌then◌else◌, IfOk, IfErr, IsSome, None, Some, [], ◌∷◌, codes, option_map, string_bytes, true};
 ghost use Rattle.clap.specs.Words.{subcommand_rows_of};
 ghost use Rattle.command_line.specs.Lab.{is_given, task_met};
+ghost use Rattle.command_line.specs.Told.{IsDrawing, levels_in, named};
 ghost use Rattle.command_line.specs.Met.{has_places, told_by};
 ghost use Rattle.command_line.specs.Told.{AreExplained, IsErrorOf, IsFilling, IsNotation, NamesCount, NamesGeneral, Says, campaigns, has, is_of, is_raw, is_table, programs, word_of};
 
 use crate::errors::{Misuse, TaskError};
-use crate::generals::{GeneralsError, count, general, generals, order};
-use crate::tasks::{Account, Filling, Lieutenants, Notation, Spelling, Task};
+use crate::generals::{GeneralsError, count, depth, general, generals, order};
+use crate::tasks::{Account, Drawing, Filling, Lieutenants, Notation, Spelling, Task};
 use clap::ArgMatches;
 use clap::parser::ValueSource;
 use std::alloc::{AllocError, Global};
@@ -81,6 +82,7 @@ impl<'m, 'a> Met<'m, 'a> {
             "play" => self.play(alloc),
             "audit" => self.audit(alloc),
             "explore" => self.explore(alloc),
+            "tree" => self.tree(alloc),
             _ => unreachable!(),
         }
     }
@@ -243,6 +245,89 @@ impl<'m, 'a> Met<'m, 'a> {
         match count(word.as_bytes()) {
             Some(most) => Ok(Some(most)),
             None => Err(TaskError::Misuse(Misuse::Most(String::from_str(alloc, word)?))),
+        }
+    }
+
+    /// The task of `tree`.
+    fn tree(self, alloc: Global) -> Result<Task, TaskError>
+        requires name { self.name.now ≡ codes "tree" }
+        requires file { has (codes "FILE") (told_by self) ≡ true }
+        ensures task { IfOk result (Says (told_by self.entry)) }
+        ensures refused { IfErr result (IsErrorOf (told_by self.entry)) }
+    {
+        Ok(Task::Tree {
+            table: self.required(alloc, "FILE")?,
+            general: self.whose(alloc)?,
+            traitors: self.traitors(alloc)?,
+            drawing: self.drawing()?,
+            depth: self.depth(alloc)?,
+            folded: self.has("fold"),
+        })
+    }
+
+    /// Whose tree is drawn.
+    fn whose(self, alloc: Global) -> Result<u8, TaskError>
+        requires { is_of (codes "tree" ∷ []) (told_by self) ≡ true }
+        ensures named { IfOk result (λ g. NamesGeneral (codes "of") (told_by self.entry) (Some g)) }
+        ensures refused { IfErr result (IsErrorOf (told_by self.entry)) }
+    {
+        let Some(word) = self.value("of") else {
+            return Err(TaskError::Misuse(Misuse::NobodyNamed));
+        };
+        match general(word.as_bytes()) {
+            Some(general) => Ok(general),
+            None => Err(TaskError::Misuse(Misuse::Of(String::from_str(alloc, word)?))),
+        }
+    }
+
+    /// Whose lies are marked.
+    fn traitors(self, alloc: Global) -> Result<Vec<u8>, TaskError>
+        requires { is_of (codes "tree" ∷ []) (told_by self) ≡ true }
+        ensures named { IfOk result (λ traitors. named true (word_of (codes "traitors") (told_by self.entry)) ≡ Some traitors.items) }
+        ensures refused { IfErr result (IsErrorOf (told_by self.entry)) }
+    {
+        let Some(word) = self.value("traitors") else {
+            return Ok(Vec::new(alloc));
+        };
+        match generals(alloc, word) {
+            Ok(traitors) => Ok(traitors),
+            Err(GeneralsError::NoGeneral) => {
+                let word = String::from_str(alloc, word)?;
+                Err(TaskError::Misuse(Misuse::Traitors(word)))
+            }
+            Err(GeneralsError::Memory) => Err(TaskError::Memory),
+        }
+    }
+
+    /// How a tree is drawn.
+    fn drawing(self) -> Result<Drawing, TaskError>
+        requires { is_of (codes "tree" ∷ []) (told_by self) ≡ true }
+        ensures drawing { IfOk result (IsDrawing (told_by self.entry)) }
+        ensures refused { IfErr result (IsErrorOf (told_by self.entry)) }
+    {
+        match (self.has("ascii"), self.has("dot"), self.has("svg")) {
+            (false, false, false) => Ok(Drawing::Boxes),
+            (true, false, false) => Ok(Drawing::Ascii),
+            (false, true, false) => Ok(Drawing::Graph),
+            (false, false, true) => Ok(Drawing::Svg),
+            (true, true, _) | (true, _, true) | (_, true, true) => {
+                Err(TaskError::Misuse(Misuse::TwoDrawings))
+            }
+        }
+    }
+
+    /// How many levels of a tree are drawn.
+    fn depth(self, alloc: Global) -> Result<u8, TaskError>
+        requires { is_of (codes "tree" ∷ []) (told_by self) ≡ true }
+        ensures levels { IfOk result (λ depth. levels_in (word_of (codes "depth") (told_by self.entry)) ≡ Some depth) }
+        ensures refused { IfErr result (IsErrorOf (told_by self.entry)) }
+    {
+        let Some(word) = self.value("depth") else {
+            return Ok(4);
+        };
+        match depth(word.as_bytes()) {
+            Some(depth) => Ok(depth),
+            None => Err(TaskError::Misuse(Misuse::Depth(String::from_str(alloc, word)?))),
         }
     }
 

@@ -15,6 +15,11 @@ const BYTECODE: Place<'static> = Place {
     help: "The program, as raw bytecode",
 };
 
+const TOLD: Place<'static> = Place {
+    name: "FILE",
+    help: "The message table: who told whom what",
+};
+
 const SCENARIO: Place<'static> = Place {
     name: "SCENARIO",
     help: "The campaign, as TOML: the generals, the order, the traitors' programs",
@@ -107,10 +112,7 @@ const DIS: Subcommand<'static> = Subcommand {
 const BOOK: Subcommand<'static> = Subcommand {
     name: "book",
     about: "Computes the decisions of a message table",
-    places: &[Place {
-        name: "FILE",
-        help: "The message table: who told whom what",
-    }],
+    places: &[TOLD],
     flags: &[
         Flag::Switch {
             name: "explain",
@@ -232,7 +234,46 @@ const EXPLORE: Subcommand<'static> = Subcommand {
     }],
 };
 
+const TREE: Subcommand<'static> = Subcommand {
+    name: "tree",
+    about: "Draws what a lieutenant was told, by a message table",
+    places: &[TOLD],
+    flags: &[
+        Flag::Switch {
+            name: "ascii",
+            help: "Draws lines by characters of ASCII in place of box-drawing ones",
+        },
+        Flag::Switch {
+            name: "dot",
+            help: "Draws a graph, for the program dot of Graphviz",
+        },
+        Flag::Switch {
+            name: "svg",
+            help: "Draws a picture in SVG",
+        },
+        Flag::Switch {
+            name: "fold",
+            help: "Leaves out what is below a label where all tell the same",
+        },
+        Flag::Option {
+            name: "of",
+            value: "G",
+            help: "The lieutenant",
+        },
+        Flag::Option {
+            name: "traitors",
+            value: "G,H",
+            help: "Marks the lies of these generals",
+        },
+        Flag::Option {
+            name: "depth",
+            value: "D",
+            help: "How many levels below the commander's are drawn; without it all",
+        },
+    ],
+};
+
 /// All subcommands, as help lists them.
 pub(crate) const SUBCOMMANDS: &[Subcommand<'static>] = &[
-    CHECK, ASM, DIS, BOOK, TABLE, MUSTER, PLAY, AUDIT, EXPLORE,
+    CHECK, ASM, DIS, BOOK, TABLE, MUSTER, PLAY, AUDIT, EXPLORE, TREE,
 ];

@@ -61,6 +61,16 @@ pub enum Task {
         scenario: String,
         most: Option<u64>,
     },
+    /// Draw what this general was told by a message table, so many levels below the commander's, 0 to 4, with the lies of
+    /// these marked, and without what is below a label where all tell the same, if it is to be folded.
+    Tree {
+        table: String,
+        general: u8,
+        traitors: Vec<u8>,
+        drawing: Drawing,
+        depth: u8,
+        folded: bool,
+    },
 }
 
 /// How a program is written.
@@ -89,6 +99,19 @@ pub struct Filling {
     pub order: u32,
     /// The general whose lines are left to be edited.
     pub liar: Option<u8>,
+}
+
+/// How a tree is drawn.
+#[derive(Clone, Copy, Debug, PartialEq, Eq)]
+pub enum Drawing {
+    /// As lines of text, by box-drawing characters.
+    Boxes,
+    /// As lines of text, by characters of ASCII.
+    Ascii,
+    /// As a graph, for Graphviz.
+    Graph,
+    /// In SVG.
+    Svg,
 }
 
 /// How a campaign that is played is told.
@@ -126,7 +149,8 @@ impl Task {
             | Task::Play { scenario: file, .. }
             | Task::Muster { scenario: file, .. }
             | Task::Audit { scenario: file, .. }
-            | Task::Explore { scenario: file, .. } => Some(file.as_str()),
+            | Task::Explore { scenario: file, .. }
+            | Task::Tree { table: file, .. } => Some(file.as_str()),
             Task::Form { .. } => None,
         }
     }

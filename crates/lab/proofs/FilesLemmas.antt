@@ -7,7 +7,7 @@ use Rattle.command_line.specs.Told.{file_of, second_of}
 use Rattle.command_line.specs.declared.tasks.Account.{Account}
 use Rattle.command_line.specs.declared.tasks.Lieutenants.{Lieutenants}
 use Rattle.command_line.specs.declared.tasks.Task.{Task}
-use Rattle.command_line.specs.declared.tasks.Task.TheVariants.{Check, Assemble, Disassemble, Book, ExplainDecisions, Form, Play, Muster, Audit, Explore}
+use Rattle.command_line.specs.declared.tasks.Task.TheVariants.{Check, Assemble, Disassemble, Book, ExplainDecisions, Form, Play, Muster, Audit, Explore, Tree}
 use Rattle.round.specs.Scenario.{Scenario}
 use Rattle.scenario.specs.declared.messages.Campaign.{Campaign}
 use Rattle.world.specs.declared.schedule.Repeat.{Repeat}
@@ -62,6 +62,7 @@ answered_played (Play scenario listing account explained) files first text s tol
 answered_played (Muster scenario explained) files first text s told why are comes by = absurd comes
 answered_played (Audit scenario chronicle explained) files first text s told why are comes by = absurd comes
 answered_played (Explore scenario most) files first text s told why are comes by = absurd comes
+answered_played (Tree file general marked drawing depth folded) files first text s told why are comes by = absurd comes
 
 -- an answer of threads
 pub answered_mustered : (task : Task) (files : Files) (first text : List ℕ) (s : Scenario) (why : Option Lieutenants) → AreBytes files.first first
@@ -78,6 +79,7 @@ answered_mustered (Muster scenario explained) files first text s why are comes m
     let some = some_second files.second in (first, are, (some.0, some.1, (s, comes.0, subst (λ (e : Option Lieutenants). IsMustered s e text) comes.1 mustered)))
 answered_mustered (Audit scenario chronicle explained) files first text s why are comes mustered = absurd comes
 answered_mustered (Explore scenario most) files first text s why are comes mustered = absurd comes
+answered_mustered (Tree file general marked drawing depth folded) files first text s why are comes mustered = absurd comes
 
 -- an answer on the second file
 pub answered_audited : (task : Task) (files : Files) (first text : List ℕ) (s : Campaign) (why : Option Lieutenants) → AreBytes files.first first
@@ -96,6 +98,7 @@ answered_audited (Audit scenario chronicle explained) files first text s why are
     let same = subst (λ (own : List ℕ). IsAudited s why own text) second.2 audited in
     (first, are, (second.0, second.1, (s, comes.0, subst (λ (e : Option Lieutenants). IsAudited s e (unwrap_or second.0 []) text) comes.1 same)))
 answered_audited (Explore scenario most) files first text s why are comes audit = absurd comes
+answered_audited (Tree file general marked drawing depth folded) files first text s why are comes audit = absurd comes
 
 -- an answer in the second file's setting
 pub answered_tried : (task : Task) (files : Files) (first text : List ℕ) (program : List Insn) (steps : Bool) → AreBytes files.first first
@@ -118,6 +121,7 @@ answered_tried (Play scenario listing account explained) files first text progra
 answered_tried (Muster scenario explained) files first text program steps are comes tried = absurd comes
 answered_tried (Audit scenario chronicle explained) files first text program steps are comes tried = absurd comes
 answered_tried (Explore scenario most) files first text program steps are comes tried = absurd comes
+answered_tried (Tree file general marked drawing depth folded) files first text program steps are comes tried = absurd comes
 
 -- why a task has no answer behind a first file with which it goes on
 pub prevented_later : (task : Task) (files : Files) (unread second_unread : Type 0) (first name : List ℕ) (more : FirstAnswer) (explained : Bool) (fault : Failure)

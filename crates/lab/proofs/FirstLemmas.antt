@@ -68,6 +68,7 @@ asks (task.Play scenario schedule account explained) notation is = absurd cc
 asks (task.Muster scenario explained) notation is = absurd cc
 asks (task.Audit scenario chronicle explained) notation is = absurd cc
 asks (task.Explore scenario most) notation is = absurd cc
+asks (task.Tree file general marked drawing depth folded) notation is = absurd cc
 
 pub explained_first : (task : Task) (notation : Notation) (known : Option (List ℕ)) (bytes : List ℕ) (refusal : Refusal) (text : String Global) → AreBytes known bytes
     → Refuses task bytes refusal → asked_of refusal task ≡ Some notation → IsWhy notation bytes (string_bytes text)
@@ -173,6 +174,7 @@ not_judged (task.Play scenario schedule account explained) bytes (Verifier fault
 not_judged (task.Muster scenario explained) bytes (Verifier fault) refuses is none = absurd refuses
 not_judged (task.Audit scenario chronicle explained) bytes (Verifier fault) refuses is none = absurd (no_campaign (is_plain Chronicle explained) bytes fault refuses)
 not_judged (task.Explore scenario most) bytes (Verifier fault) refuses is none = absurd refuses
+not_judged (task.Tree file general marked drawing depth folded) bytes (Verifier fault) refuses is none = absurd refuses
 not_judged task bytes (Codec error) refuses is none = tt
 not_judged task bytes (Object fault) refuses is none = tt
 not_judged task bytes (Assembly error) refuses is none = tt
@@ -250,6 +252,7 @@ checks_in (task.Play scenario schedule account explained) notation bytes refusal
 checks_in (task.Muster scenario explained) notation bytes refusal is refuses = absurd cc
 checks_in (task.Audit scenario chronicle explained) notation bytes refusal is refuses = absurd cc
 checks_in (task.Explore scenario most) notation bytes refusal is refuses = absurd cc
+checks_in (task.Tree file general marked drawing depth folded) notation bytes refusal is refuses = absurd cc
 
 -- it cannot be told, since the file has no program
 pub unread_first : (task : Task) (notation : Notation) (known : Option (List ℕ)) (bytes : List ℕ) (first refusal : Refusal) (file : Bor (List ℕ)) (fault : Failure) → AreBytes known bytes

@@ -10,7 +10,7 @@ use Rattle.asm.specs.Printing.{text_of, unit_lines}
 use Rattle.command_line.specs.declared.tasks.Notation.{Notation}
 use Rattle.command_line.specs.declared.tasks.Spelling.TheVariants.{Hex, Raw}
 use Rattle.command_line.specs.declared.tasks.Task.{Task}
-use Rattle.command_line.specs.declared.tasks.Task.TheVariants.{Check, Assemble, Disassemble, Book, ExplainDecisions, Form, Play, Muster, Audit, Explore}
+use Rattle.command_line.specs.declared.tasks.Task.TheVariants.{Check, Assemble, Disassemble, Book, ExplainDecisions, Form, Play, Muster, Audit, Explore, Tree}
 use Rattle.command_line.specs.declared.tasks.Account.TheVariants.{Chronicle}
 use Rattle.scenario.specs.Told.{Tells}
 use Rattle.tables.specs.Answers.{DecidesTable, ExplainsTable, IsFilled, IsFormOf}
@@ -23,6 +23,7 @@ use Rattle.lab.specs.Exploring.{Explores}
 use Rattle.lab.specs.Hints.{HasProgram, IsBehind, if_asked}
 use Rattle.lab.specs.Campaigns.{Audits, Musters, Plays, TellsCampaign, is_plain}
 use Rattle.lab.specs.Lines.{checked_lines, hex_line}
+use Rattle.lab.specs.Picturing.{Pictures}
 use Rattle.lab.specs.declared.checking.Checked.{Checked}
 use Rattle.lab.specs.declared.first_answer.FirstAnswer.{FirstAnswer}
 use Rattle.lab.specs.declared.first_answer.FirstAnswer.TheVariants as answer
@@ -99,6 +100,7 @@ Prints (Play scenario schedule account explained) first second text = Plays acco
 Prints (Muster scenario explained) first second text = Musters explained first text
 Prints (Audit scenario chronicle explained) first second text = Audits explained first second text
 Prints (Explore scenario most) first second text = Explores most first text
+Prints (Tree file general traitors drawing depth folded) first second text = Pictures general traitors.items drawing depth folded first text
 
 -- the task goes on with this behind its first file: a program to try, with its steps or without them, or a campaign
 abbrev pub GoesOn : Task → List ℕ → FirstAnswer → Type 0

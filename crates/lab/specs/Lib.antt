@@ -5,6 +5,7 @@ pub mod Faults
 pub mod Whys
 pub mod Hints
 pub mod Lines
+pub mod Picturing
 pub mod Reading
 pub mod Refusals
 pub mod Seeming

@@ -37,7 +37,7 @@ use Rattle.command_line.specs.declared.tasks.Account.TheVariants as accounts
 use Rattle.command_line.specs.declared.tasks.Notation.{Notation}
 use Rattle.command_line.specs.declared.tasks.Notation.TheVariants as notation
 use Rattle.command_line.specs.declared.tasks.Task.{Task}
-use Rattle.command_line.specs.declared.tasks.Task.TheVariants.{Check, Assemble, Disassemble, Book, ExplainDecisions, Form, Play, Muster, Audit, Explore}
+use Rattle.command_line.specs.declared.tasks.Task.TheVariants.{Check, Assemble, Disassemble, Book, ExplainDecisions, Form, Play, Muster, Audit, Explore, Tree}
 use Rattle.tables.specs.Numbers.{numbers_in}
 use Rattle.lab.specs.Campaigns.{is_plain}
 use Rattle.lab.specs.declared.refusal.Refusal.{Refusal}
@@ -201,3 +201,4 @@ Refuses (Play scenario schedule account explained) bytes refusal = RefusesText (
 Refuses (Muster scenario explained) bytes refusal = RefusesText RefusesScenario bytes refusal
 Refuses (Audit scenario chronicle explained) bytes refusal = RefusesText (RefusesAsked (is_plain accounts.Chronicle explained)) bytes refusal
 Refuses (Explore scenario most) bytes refusal = RefusesText RefusesScenario bytes refusal
+Refuses (Tree file general traitors drawing depth folded) bytes refusal = RefusesText RefusesTable bytes refusal

@@ -9,11 +9,13 @@ use crate::explaining::with_explanation;
 use crate::exploring::explored as orders_of;
 use crate::first_answer::FirstAnswer;
 use crate::forming::{filled, formed};
+use crate::picturing::pictured;
 use crate::playing::{asked_campaign, campaign};
 use crate::refusal::Refusal;
 use crate::steps::with_steps;
 use crate::texts::as_text;
 use command_line::{Account, Notation, Spelling, Task};
+use drawing::View;
 use std::alloc::Global;
 use trial::Setting;
 
@@ -78,6 +80,27 @@ pub fn answer(alloc: Global, task: &Task, bytes: &[u8]) -> Result<FirstAnswer, R
             commander.as_str(),
             *filling,
         )?,
+        Task::Tree {
+            general,
+            traitors,
+            drawing,
+            depth,
+            folded,
+            ..
+        } => {
+            let view = View {
+                depth: *depth,
+                folds: *folded,
+            };
+            pictured(
+                alloc,
+                as_text(bytes)?,
+                *general,
+                traitors.as_slice(),
+                *drawing,
+                view,
+            )?
+        }
         Task::Explore { most, .. } => orders_of(alloc, &campaign(alloc, bytes)?, *most)?,
         Task::Play {
             account,

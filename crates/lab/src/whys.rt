@@ -41,7 +41,7 @@ pub(crate) fn is_explained(task: &Task) -> bool
         Task::Play { explained, .. }
         | Task::Muster { explained, .. }
         | Task::Audit { explained, .. } => explained.is_some(),
-        Task::Book(_) | Task::Form { .. } | Task::Explore { .. } => false,
+        Task::Book(_) | Task::Form { .. } | Task::Explore { .. } | Task::Tree { .. } => false,
     }
 }
 

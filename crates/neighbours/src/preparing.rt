@@ -22,7 +22,8 @@ pub fn reads_scenario(task: &Task) -> bool
         | Task::Disassemble { .. }
         | Task::Book(_)
         | Task::ExplainDecisions { .. }
-        | Task::Form { .. } => false,
+        | Task::Form { .. }
+        | Task::Tree { .. } => false,
     }
 }
 
