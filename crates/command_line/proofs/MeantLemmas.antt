@@ -4,9 +4,11 @@ use Rattle.std.proofs.lemmas.Bool.{and_from, and_left, and_right, or_right}
 use Rattle.std.specs.Option.{option_map_or}
 use Rattle.text.specs.Options.{◌>>=◌}
 use Rattle.clap.specs.Walk.{Text}
-use Rattle.command_line.specs.Asked.{has_filling, has_notation, has_tree, if_of, is_meant, reads, wants}
+use Rattle.command_line.specs.Asked.{has_filling, excludes, has_notation, has_tree, if_of, is_meant, reads, wants}
 use Rattle.command_line.specs.Generals.{count_in, depth_in, general_in, generals_in, order_in}
-use Rattle.command_line.specs.Told.{AreExplained, IsDrawing, IsFilling, IsMisused, IsNotation, NamesCount, NamesGeneral, Says, Told, are_two, campaigns, has, is_of, levels_in, named, of_one, of_traitors, programs, word_of}
+use Rattle.command_line.specs.Told.{AreExplained, IsCourse, IsDrawing, IsFilling, IsMisused, IsNotation, NamesCount, NamesGeneral, Says, Told, are_two, campaigns, has, is_of, levels_in, named, of_one, of_traitors, programs, word_of}
+use Rattle.command_line.specs.declared.tasks.Course.{Course}
+use Rattle.command_line.specs.declared.tasks.Course.TheVariants.{Scheduled, Recorded}
 use Rattle.command_line.specs.declared.tasks.Drawing.{Drawing}
 use Rattle.command_line.specs.declared.tasks.Drawing.TheVariants.{Boxes, Ascii, Graph, Svg}
 use Rattle.command_line.specs.declared.tasks.Filling.{Filling}
@@ -15,9 +17,9 @@ use Rattle.command_line.specs.declared.tasks.Lieutenants.TheVariants.{All, One}
 use Rattle.command_line.specs.declared.tasks.Notation.{Notation}
 use Rattle.command_line.specs.declared.tasks.Notation.TheVariants.{Bytecode, Assembly, Object}
 use Rattle.command_line.specs.declared.tasks.Task.{Task}
-use Rattle.command_line.specs.declared.tasks.Task.TheVariants.{Check, Assemble, Disassemble, Book, ExplainDecisions, Form, Play, Muster, Audit, Explore, Tree}
+use Rattle.command_line.specs.declared.tasks.Task.TheVariants.{Check, Assemble, AssemblePartly, Disassemble, DisassemblePartly, Book, ExplainDecisions, Form, Play, Muster, Audit, Explore, Tree, Draw, Retrace}
 use Rattle.command_line.specs.declared.errors.Misuse.{Misuse}
-use Rattle.command_line.specs.declared.errors.Misuse.TheVariants.{Traitors, Of, Lie, Loyal, Most, Depth, NobodyNamed, TwoDrawings, TwoNotations, EntryAlone, OfAlone, LieAlone}
+use Rattle.command_line.specs.declared.errors.Misuse.TheVariants.{Traitors, Of, Lie, Loyal, Most, Depth, NobodyNamed, TwoDrawings, TwoNotations, UnitsOfParts, TwoCourses, EntryAlone, OfAlone, LieAlone}
 
 -- ---- the rules hold
 
@@ -86,10 +88,16 @@ module _ (told : Told) where
   traitors_hold explained None traitors is = refl
   traitors_hold explained (Some word) traitors is = ap (λ o. is_some o) is
 
+  course_holds : (course : Course) → IsCourse told course → excludes (codes "chronicle") (codes "schedule") told ≡ true
+  course_holds (Scheduled file) is = rw is.1 refl
+  course_holds (Recorded file) is = rw (is.0, is.1) refl
+
 pub says_meant : (told : Told) (task : Task) → Says told task → is_meant told ≡ true
 says_meant told (Check file notation context explained traced) says = rw says.0 (rw (notation_holds told notation says.2) refl)
 says_meant told (Assemble file spelling target explained) says = rw says.0 refl
-says_meant told (Disassemble file notation units explained) says = rw says.0 (rw (notation_holds told notation says.2) refl)
+says_meant told (AssemblePartly file spelling target explained) says = rw says.0 refl
+says_meant told (Disassemble file notation units explained) says = rw says.0 (rw (notation_holds told notation says.2, says.5) refl)
+says_meant told (DisassemblePartly file notation explained) says = rw says.0 (rw (notation_holds told notation says.2, says.3, says.5) refl)
 says_meant told (Book file) says = rw says.0 (rw says.3 refl)
 says_meant told (ExplainDecisions file traitors) says =
     rw says.0 (rw (traitors_hold told (has (codes "explain") told) (word_of (codes "traitors") told) traitors.items says.2) refl)
@@ -99,8 +107,13 @@ says_meant told (Muster scenario explained) says = rw says.0 (rw (lieutenant_hol
 says_meant told (Audit scenario chronicle explained) says = rw says.0 (rw (lieutenant_holds told explained says.3, explanation_holds told explained says.3) refl)
 says_meant told (Explore scenario most) says = rw says.0 (rw (count_holds told (codes "most") most says.2) refl)
 says_meant told (Tree file general traitors drawing depth folded) says =
-    rw says.0 (rw (traitors_hold told true (word_of (codes "traitors") told) traitors.items says.3, general_holds told (codes "of") (Some general) says.2,
-    tree_holds told general depth drawing says.2 says.4 says.5) refl)
+    rw says.0 (rw (
+      traitors_hold told true (word_of (codes "traitors") told) traitors.items says.3,
+      general_holds told (codes "of") (Some general) says.2,
+      tree_holds told general depth drawing says.2 says.4 says.5,
+    ) refl)
+says_meant told (Draw scenario course) says = rw says.0 (rw (course_holds told course says.2) refl)
+says_meant told (Retrace scenario chronicle) says = rw says.0 refl
 
 -- ---- a rule is broken
 
@@ -132,6 +145,17 @@ module _ (a b c d e f g : Bool) where
   seventh_broken : g ≡ false → a && b && c && d && e && f && g ≡ false
   seventh_broken is = and_right (a && b && c && d && e && f) g is
 
+-- the same of two more behind them
+module _ (first h i : Bool) where
+  either_broken : first ≡ false → first && h && i ≡ false
+  either_broken is = and_left (first && h) i (and_left first h is)
+
+  eighth_broken : h ≡ false → first && h && i ≡ false
+  eighth_broken is = and_left (first && h) i (and_right first h is)
+
+  ninth_broken : i ≡ false → first && h && i ≡ false
+  ninth_broken is = and_right (first && h) i is
+
 module _ (told : Told) where
   abbrev of_program : Bool
   of_program = if_of programs told (has_notation told)
@@ -154,26 +178,41 @@ module _ (told : Told) where
   abbrev of_tree : Bool
   of_tree = if_of (codes "tree" ∷ []) told (has_tree told)
 
+  abbrev of_listing : Bool
+  of_listing = if_of (codes "dis" ∷ []) told (excludes (codes "partial") (codes "units") told)
+
+  abbrev of_course : Bool
+  of_course = if_of (codes "draw" ∷ []) told (excludes (codes "chronicle") (codes "schedule") told)
+
+  abbrev of_first : Bool
+  of_first = of_program && of_naming && of_table && of_lieutenant && of_explanation && of_exploration && of_tree
+
+  listing_broken : is_of (codes "dis" ∷ []) told ≡ true → excludes (codes "partial") (codes "units") told ≡ false → is_meant told ≡ false
+  listing_broken of fails = eighth_broken of_first of_listing of_course (broken (codes "dis" ∷ []) told (excludes (codes "partial") (codes "units") told) of fails)
+
+  course_broken : is_of (codes "draw" ∷ []) told ≡ true → excludes (codes "chronicle") (codes "schedule") told ≡ false → is_meant told ≡ false
+  course_broken of fails = ninth_broken of_first of_listing of_course (broken (codes "draw" ∷ []) told (excludes (codes "chronicle") (codes "schedule") told) of fails)
+
   program_broken : is_of programs told ≡ true → has_notation told ≡ false → is_meant told ≡ false
-  program_broken of fails = first_broken of_program of_naming of_table of_lieutenant of_explanation of_exploration of_tree (broken programs told (has_notation told) of fails)
+  program_broken of fails = either_broken of_first of_listing of_course (first_broken of_program of_naming of_table of_lieutenant of_explanation of_exploration of_tree (broken programs told (has_notation told) of fails))
 
   naming_broken : is_of of_traitors told ≡ true → reads generals_in (codes "traitors") told ≡ false → is_meant told ≡ false
-  naming_broken of fails = second_broken of_program of_naming of_table of_lieutenant of_explanation of_exploration of_tree (broken of_traitors told (reads generals_in (codes "traitors") told) of fails)
+  naming_broken of fails = either_broken of_first of_listing of_course (second_broken of_program of_naming of_table of_lieutenant of_explanation of_exploration of_tree (broken of_traitors told (reads generals_in (codes "traitors") told) of fails))
 
   table_broken : is_of (codes "table" ∷ []) told ≡ true → has_filling told ≡ false → is_meant told ≡ false
-  table_broken of fails = third_broken of_program of_naming of_table of_lieutenant of_explanation of_exploration of_tree (broken (codes "table" ∷ []) told (has_filling told) of fails)
+  table_broken of fails = either_broken of_first of_listing of_course (third_broken of_program of_naming of_table of_lieutenant of_explanation of_exploration of_tree (broken (codes "table" ∷ []) told (has_filling told) of fails))
 
   lieutenant_broken : is_of of_one told ≡ true → reads general_in (codes "of") told ≡ false → is_meant told ≡ false
-  lieutenant_broken of fails = fourth_broken of_program of_naming of_table of_lieutenant of_explanation of_exploration of_tree (broken of_one told (reads general_in (codes "of") told) of fails)
+  lieutenant_broken of fails = either_broken of_first of_listing of_course (fourth_broken of_program of_naming of_table of_lieutenant of_explanation of_exploration of_tree (broken of_one told (reads general_in (codes "of") told) of fails))
 
   explanation_broken : is_of campaigns told ≡ true → wants (codes "of") (codes "explain") told ≡ false → is_meant told ≡ false
-  explanation_broken of fails = fifth_broken of_program of_naming of_table of_lieutenant of_explanation of_exploration of_tree (broken campaigns told (wants (codes "of") (codes "explain") told) of fails)
+  explanation_broken of fails = either_broken of_first of_listing of_course (fifth_broken of_program of_naming of_table of_lieutenant of_explanation of_exploration of_tree (broken campaigns told (wants (codes "of") (codes "explain") told) of fails))
 
   exploration_broken : is_of (codes "explore" ∷ []) told ≡ true → reads count_in (codes "most") told ≡ false → is_meant told ≡ false
-  exploration_broken of fails = sixth_broken of_program of_naming of_table of_lieutenant of_explanation of_exploration of_tree (broken (codes "explore" ∷ []) told (reads count_in (codes "most") told) of fails)
+  exploration_broken of fails = either_broken of_first of_listing of_course (sixth_broken of_program of_naming of_table of_lieutenant of_explanation of_exploration of_tree (broken (codes "explore" ∷ []) told (reads count_in (codes "most") told) of fails))
 
   tree_broken : is_of (codes "tree" ∷ []) told ≡ true → has_tree told ≡ false → is_meant told ≡ false
-  tree_broken of fails = seventh_broken of_program of_naming of_table of_lieutenant of_explanation of_exploration of_tree (broken (codes "tree" ∷ []) told (has_tree told) of fails)
+  tree_broken of fails = either_broken of_first of_listing of_course (seventh_broken of_program of_naming of_table of_lieutenant of_explanation of_exploration of_tree (broken (codes "tree" ∷ []) told (has_tree told) of fails))
 
   not_wanted : (name other : Text) → has name told ≡ true → has other told ≡ false → wants name other told ≡ false
   not_wanted name other there lacks = rw (there, lacks) refl
@@ -207,6 +246,8 @@ misused_not_meant told (Depth word) is = tree_broken told is.0 (no_depth told (n
 misused_not_meant told NobodyNamed is = tree_broken told is.0 (nobody told is.1)
 misused_not_meant told TwoDrawings is = tree_broken told is.0 (two_drawn told is.1)
 misused_not_meant told TwoNotations is = program_broken told is.0 (rw (is.1, is.2) refl)
+misused_not_meant told UnitsOfParts is = listing_broken told is.0 (rw (is.1, is.2) refl)
+misused_not_meant told TwoCourses is = course_broken told is.0 (rw (is.1, is.2) refl)
 misused_not_meant told EntryAlone is = program_broken told is.0 (and_right (not (has (codes "asm") told && has (codes "elf") told)) (wants (codes "entry") (codes "elf") told) (not_wanted told (codes "entry") (codes "elf") is.1 is.2))
 misused_not_meant told OfAlone is = explanation_broken told is.0 (not_wanted told (codes "of") (codes "explain") is.1 is.2)
 misused_not_meant told LieAlone is = table_broken told is.0

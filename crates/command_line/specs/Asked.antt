@@ -44,6 +44,10 @@ abbrev pub has_tree : Told → Bool
 has_tree told = has (codes "of") told && reads depth_in (codes "depth") told
     && not (are_two (has (codes "ascii") told) (has (codes "dot") told) (has (codes "svg") told))
 
+-- the one does not stand with the other
+abbrev pub excludes : Text → Text → Told → Bool
+excludes name other told = not (has name told && has other told)
+
 -- a rule for these subcommands alone
 abbrev pub if_of : List Text → Told → Bool → Bool
 if_of names told holds = not (is_of names told) || holds
@@ -56,6 +60,8 @@ is_meant told = if_of programs told (has_notation told)
     && if_of campaigns told (wants (codes "of") (codes "explain") told)
     && if_of (codes "explore" ∷ []) told (reads count_in (codes "most") told)
     && if_of (codes "tree" ∷ []) told (has_tree told)
+    && if_of (codes "dis" ∷ []) told (excludes (codes "partial") (codes "units") told)
+    && if_of (codes "draw" ∷ []) told (excludes (codes "chronicle") (codes "schedule") told)
 
 -- what the words ask for: what they spell, where that is no misuse
 abbrev pub asked : List Text → Option Told

@@ -9,6 +9,8 @@ use Rattle.command_line.specs.Generals.{count_in, depth_in, general_in, generals
 use Rattle.command_line.specs.Usage.{Text}
 use Rattle.command_line.specs.declared.tasks.Account.{Account}
 use Rattle.command_line.specs.declared.tasks.Account.TheVariants.{Chronicle, Table}
+use Rattle.command_line.specs.declared.tasks.Course.{Course}
+use Rattle.command_line.specs.declared.tasks.Course.TheVariants.{Scheduled, Recorded}
 use Rattle.command_line.specs.declared.tasks.Drawing.{Drawing}
 use Rattle.command_line.specs.declared.tasks.Drawing.TheVariants.{Boxes, Ascii, Graph, Svg}
 use Rattle.command_line.specs.declared.tasks.Filling.{Filling}
@@ -19,9 +21,9 @@ use Rattle.command_line.specs.declared.tasks.Notation.TheVariants.{Bytecode, Ass
 use Rattle.command_line.specs.declared.tasks.Spelling.{Spelling}
 use Rattle.command_line.specs.declared.tasks.Spelling.TheVariants.{Hex, Raw}
 use Rattle.command_line.specs.declared.tasks.Task.{Task}
-use Rattle.command_line.specs.declared.tasks.Task.TheVariants.{Check, Assemble, Disassemble, Book, ExplainDecisions, Form, Play, Muster, Audit, Explore, Tree}
+use Rattle.command_line.specs.declared.tasks.Task.TheVariants.{Check, Assemble, AssemblePartly, Disassemble, DisassemblePartly, Book, ExplainDecisions, Form, Play, Muster, Audit, Explore, Tree, Draw, Retrace}
 use Rattle.command_line.specs.declared.errors.Misuse.{Misuse}
-use Rattle.command_line.specs.declared.errors.Misuse.TheVariants.{Traitors, Of, Lie, Loyal, Most, Depth, NobodyNamed, TwoDrawings, TwoNotations, EntryAlone, OfAlone, LieAlone}
+use Rattle.command_line.specs.declared.errors.Misuse.TheVariants.{Traitors, Of, Lie, Loyal, Most, Depth, NobodyNamed, TwoDrawings, TwoNotations, UnitsOfParts, TwoCourses, EntryAlone, OfAlone, LieAlone}
 use Rattle.command_line.specs.declared.errors.TaskError.{TaskError}
 use Rattle.command_line.specs.declared.errors.TaskError.TheVariants as error
 
@@ -107,6 +109,10 @@ abbrev pub levels_in : Option Text → Option ℕ
 levels_in None = Some 4
 levels_in (Some word) = depth_in word
 
+abbrev pub IsCourse : Told → Course → Type 0
+IsCourse told (Scheduled file) = (word_of (codes "schedule") told ≡ option_map string_bytes file) × (word_of (codes "chronicle") told ≡ None)
+IsCourse told (Recorded file) = (word_of (codes "schedule") told ≡ None) × (word_of (codes "chronicle") told ≡ Some (string_bytes file))
+
 -- ---- the words say this task
 
 abbrev pub Says : Told → Task → Type 0
@@ -117,9 +123,17 @@ Says told (Check file notation context explained traced) = (told.name ≡ codes 
 Says told (Assemble file spelling target explained) = (told.name ≡ codes "asm")
     × (word_of (codes "FILE") told ≡ Some (string_bytes file)) × (has (codes "raw") told ≡ is_raw spelling)
     × (word_of (codes "target") told ≡ option_map string_bytes target) × (has (codes "explain") told ≡ explained)
+    × (has (codes "partial") told ≡ false)
+Says told (AssemblePartly file spelling target explained) = (told.name ≡ codes "asm")
+    × (word_of (codes "FILE") told ≡ Some (string_bytes file)) × (has (codes "raw") told ≡ is_raw spelling)
+    × (word_of (codes "target") told ≡ option_map string_bytes target) × (has (codes "explain") told ≡ explained)
+    × (has (codes "partial") told ≡ true)
 Says told (Disassemble file notation units explained) = (told.name ≡ codes "dis")
     × (word_of (codes "FILE") told ≡ Some (string_bytes file)) × IsNotation told notation
-    × (has (codes "units") told ≡ units) × (has (codes "explain") told ≡ explained)
+    × (has (codes "units") told ≡ units) × (has (codes "explain") told ≡ explained) × (has (codes "partial") told ≡ false)
+Says told (DisassemblePartly file notation explained) = (told.name ≡ codes "dis")
+    × (word_of (codes "FILE") told ≡ Some (string_bytes file)) × IsNotation told notation
+    × (has (codes "units") told ≡ false) × (has (codes "explain") told ≡ explained) × (has (codes "partial") told ≡ true)
 Says told (Book file) = (told.name ≡ codes "book")
     × (word_of (codes "FILE") told ≡ Some (string_bytes file))
     × (has (codes "explain") told ≡ false) × (word_of (codes "traitors") told ≡ None)
@@ -144,13 +158,20 @@ Says told (Tree file general traitors drawing depth folded) = (told.name ≡ cod
     × (word_of (codes "FILE") told ≡ Some (string_bytes file)) × NamesGeneral (codes "of") told (Some general)
     × (named true (word_of (codes "traitors") told) ≡ Some traitors.items) × IsDrawing told drawing
     × (levels_in (word_of (codes "depth") told) ≡ Some depth) × (has (codes "fold") told ≡ folded)
+Says told (Draw scenario course) = (told.name ≡ codes "draw")
+    × (word_of (codes "SCENARIO") told ≡ Some (string_bytes scenario)) × IsCourse told course
+Says told (Retrace scenario chronicle) = (told.name ≡ codes "schedule")
+    × (word_of (codes "SCENARIO") told ≡ Some (string_bytes scenario))
+    × (word_of (codes "CHRONICLE") told ≡ Some (string_bytes chronicle))
 
 -- ---- the names of the task's files: of its only or first, of the second, and of the one that it writes
 
 abbrev pub file_of : Task → Option Text
 file_of (Check file notation context explained traced) = Some (string_bytes file)
 file_of (Assemble file spelling target explained) = Some (string_bytes file)
+file_of (AssemblePartly file spelling target explained) = Some (string_bytes file)
 file_of (Disassemble file notation units explained) = Some (string_bytes file)
+file_of (DisassemblePartly file notation explained) = Some (string_bytes file)
 file_of (Book file) = Some (string_bytes file)
 file_of (ExplainDecisions file traitors) = Some (string_bytes file)
 file_of (Form n m c filling) = None
@@ -159,15 +180,21 @@ file_of (Muster scenario explained) = Some (string_bytes scenario)
 file_of (Audit scenario chronicle explained) = Some (string_bytes scenario)
 file_of (Explore scenario most) = Some (string_bytes scenario)
 file_of (Tree file general traitors drawing depth folded) = Some (string_bytes file)
+file_of (Draw scenario course) = Some (string_bytes scenario)
+file_of (Retrace scenario chronicle) = Some (string_bytes scenario)
 
 abbrev pub second_of : Task → Option Text
 second_of (Check file notation context explained traced) = option_map string_bytes context
 second_of (Play scenario schedule account explained) = option_map string_bytes schedule
 second_of (Audit scenario chronicle explained) = Some (string_bytes chronicle)
+second_of (Draw scenario (Scheduled schedule)) = option_map string_bytes schedule
+second_of (Draw scenario (Recorded chronicle)) = Some (string_bytes chronicle)
+second_of (Retrace scenario chronicle) = Some (string_bytes chronicle)
 second_of _ = None
 
 abbrev pub target_of : Task → Option Text
 target_of (Assemble file spelling target explained) = option_map string_bytes target
+target_of (AssemblePartly file spelling target explained) = option_map string_bytes target
 target_of _ = None
 
 -- ---- refusals
@@ -196,6 +223,9 @@ IsMisused told NobodyNamed = (is_of (codes "tree" ∷ []) told ≡ true) × (has
 IsMisused told TwoDrawings = (is_of (codes "tree" ∷ []) told ≡ true)
     × (are_two (has (codes "ascii") told) (has (codes "dot") told) (has (codes "svg") told) ≡ true)
 IsMisused told TwoNotations = (is_of programs told ≡ true) × (has (codes "asm") told ≡ true) × (has (codes "elf") told ≡ true)
+IsMisused told UnitsOfParts = (is_of (codes "dis" ∷ []) told ≡ true) × (has (codes "units") told ≡ true) × (has (codes "partial") told ≡ true)
+IsMisused told TwoCourses = (is_of (codes "draw" ∷ []) told ≡ true)
+    × (has (codes "schedule") told ≡ true) × (has (codes "chronicle") told ≡ true)
 IsMisused told EntryAlone = (is_of programs told ≡ true) × (has (codes "entry") told ≡ true) × (has (codes "elf") told ≡ false)
 IsMisused told OfAlone = (is_of campaigns told ≡ true) × (has (codes "of") told ≡ true) × (has (codes "explain") told ≡ false)
 IsMisused told LieAlone = (is_of (codes "table" ∷ []) told ≡ true) × (has (codes "lie") told ≡ true) × (has (codes "loyal") told ≡ false)

@@ -30,6 +30,10 @@ pub enum Misuse {
     Depth(String),
     /// A file is said to be assembly text and an ELF object.
     TwoNotations,
+    /// Units are to stand before parts of which not all are instructions.
+    UnitsOfParts,
+    /// A campaign is to take two courses.
+    TwoCourses,
     /// `--entry` stands without `--elf`.
     EntryAlone,
     /// `--of` is wanting.
@@ -96,6 +100,12 @@ impl fmt::Display for Misuse {
             Misuse::TwoNotations => {
                 f.write_str("the argument '--elf' cannot be used with '--asm'")
             }
+            Misuse::UnitsOfParts => {
+                f.write_str("the argument '--units' cannot be used with '--partial'")
+            }
+            Misuse::TwoCourses => f.write_str(
+                "the argument '--schedule <FILE>' cannot be used with '--chronicle <FILE>'",
+            ),
             Misuse::EntryAlone => {
                 f.write_str("the argument '--entry <NAME>' cannot be used without '--elf'")
             }

@@ -89,9 +89,5 @@ pub(crate) fn depth(word: &[u8]) -> Option<u8>
     ensures { result ≡ depth_in word.now }
 {
     let number = decimal(word)?;
-    if number < 5 {
-        Some(number as u8)
-    } else {
-        None
-    }
+    if number < 5 { Some(number as u8) } else { None }
 }

@@ -12,4 +12,4 @@ mod tasks;
 
 pub use errors::{Misuse, TaskError};
 pub use reading::task;
-pub use tasks::{Account, Drawing, Filling, Lieutenants, Notation, Spelling, Task};
+pub use tasks::{Account, Course, Drawing, Filling, Lieutenants, Notation, Spelling, Task};

@@ -3,11 +3,11 @@ ghost use Rattle.clap.specs.Words.{subcommand_rows_of};
 ghost use Rattle.command_line.specs.Lab.{is_given, task_met};
 ghost use Rattle.command_line.specs.Told.{IsDrawing, levels_in, named};
 ghost use Rattle.command_line.specs.Met.{has_places, told_by};
-ghost use Rattle.command_line.specs.Told.{AreExplained, IsErrorOf, IsFilling, IsNotation, NamesCount, NamesGeneral, Says, campaigns, has, is_of, is_raw, is_table, programs, word_of};
+ghost use Rattle.command_line.specs.Told.{AreExplained, IsCourse, IsErrorOf, IsFilling, IsNotation, NamesCount, NamesGeneral, Says, campaigns, has, is_of, is_raw, is_table, programs, word_of};
 
 use crate::errors::{Misuse, TaskError};
 use crate::generals::{GeneralsError, count, depth, general, generals, order};
-use crate::tasks::{Account, Drawing, Filling, Lieutenants, Notation, Spelling, Task};
+use crate::tasks::{Account, Course, Drawing, Filling, Lieutenants, Notation, Spelling, Task};
 use clap::ArgMatches;
 use clap::parser::ValueSource;
 use std::alloc::{AllocError, Global};
@@ -83,6 +83,8 @@ impl<'m, 'a> Met<'m, 'a> {
             "audit" => self.audit(alloc),
             "explore" => self.explore(alloc),
             "tree" => self.tree(alloc),
+            "draw" => self.draw(alloc),
+            "schedule" => self.retrace(alloc),
             _ => unreachable!(),
         }
     }
@@ -110,7 +112,26 @@ impl<'m, 'a> Met<'m, 'a> {
         ensures task { IfOk result (Says (told_by self.entry)) }
         ensures refused { IfErr result (IsErrorOf (told_by self.entry)) }
     {
+        if self.has("partial") {
+            return self.assemble_partly(alloc);
+        }
         Ok(Task::Assemble {
+            text: self.required(alloc, "FILE")?,
+            spelling: self.spelling(),
+            target: self.optional(alloc, "target")?,
+            explained: self.has("explain"),
+        })
+    }
+
+    /// The task of `asm --partial`.
+    fn assemble_partly(self, alloc: Global) -> Result<Task, TaskError>
+        requires name { self.name.now ≡ codes "asm" }
+        requires file { has (codes "FILE") (told_by self) ≡ true }
+        requires partial { has (codes "partial") (told_by self) ≡ true }
+        ensures task { IfOk result (Says (told_by self.entry)) }
+        ensures refused { IfErr result (IsErrorOf (told_by self.entry)) }
+    {
+        Ok(Task::AssemblePartly {
             text: self.required(alloc, "FILE")?,
             spelling: self.spelling(),
             target: self.optional(alloc, "target")?,
@@ -125,10 +146,31 @@ impl<'m, 'a> Met<'m, 'a> {
         ensures task { IfOk result (Says (told_by self.entry)) }
         ensures refused { IfErr result (IsErrorOf (told_by self.entry)) }
     {
+        if self.has("partial") {
+            return self.disassemble_partly(alloc);
+        }
         Ok(Task::Disassemble {
             program: self.required(alloc, "FILE")?,
             notation: self.notation(alloc)?,
             units: self.has("units"),
+            explained: self.has("explain"),
+        })
+    }
+
+    /// The task of `dis --partial`.
+    fn disassemble_partly(self, alloc: Global) -> Result<Task, TaskError>
+        requires name { self.name.now ≡ codes "dis" }
+        requires file { has (codes "FILE") (told_by self) ≡ true }
+        requires partial { has (codes "partial") (told_by self) ≡ true }
+        ensures task { IfOk result (Says (told_by self.entry)) }
+        ensures refused { IfErr result (IsErrorOf (told_by self.entry)) }
+    {
+        if self.has("units") {
+            return Err(TaskError::Misuse(Misuse::UnitsOfParts));
+        }
+        Ok(Task::DisassemblePartly {
+            program: self.required(alloc, "FILE")?,
+            notation: self.notation(alloc)?,
             explained: self.has("explain"),
         })
     }
@@ -329,6 +371,51 @@ impl<'m, 'a> Met<'m, 'a> {
             Some(depth) => Ok(depth),
             None => Err(TaskError::Misuse(Misuse::Depth(String::from_str(alloc, word)?))),
         }
+    }
+
+    /// The task of `draw`.
+    fn draw(self, alloc: Global) -> Result<Task, TaskError>
+        requires name { self.name.now ≡ codes "draw" }
+        requires scenario { has (codes "SCENARIO") (told_by self) ≡ true }
+        ensures task { IfOk result (Says (told_by self.entry)) }
+        ensures refused { IfErr result (IsErrorOf (told_by self.entry)) }
+    {
+        Ok(Task::Draw {
+            scenario: self.required(alloc, "SCENARIO")?,
+            course: self.course(alloc)?,
+        })
+    }
+
+    /// Which course a campaign takes.
+    fn course(self, alloc: Global) -> Result<Course, TaskError>
+        requires { is_of (codes "draw" ∷ []) (told_by self) ≡ true }
+        ensures course { IfOk result (IsCourse (told_by self.entry)) }
+        ensures refused { IfErr result (IsErrorOf (told_by self.entry)) }
+    {
+        let schedule = self.optional(alloc, "schedule")?;
+        let Some(chronicle) = self.optional(alloc, "chronicle")? else {
+            return Ok(Course::Scheduled(schedule));
+        };
+        if schedule.is_some() {
+            return Err(TaskError::Misuse(Misuse::TwoCourses));
+        }
+        Ok(Course::Recorded(chronicle))
+    }
+
+    /// The task of `schedule`.
+    fn retrace(self, alloc: Global) -> Result<Task, TaskError>
+        requires name { self.name.now ≡ codes "schedule" }
+        requires scenario { has (codes "SCENARIO") (told_by self) ≡ true }
+        requires chronicle { has (codes "CHRONICLE") (told_by self) ≡ true }
+        ensures task { IfOk result (Says (told_by self.entry)) }
+        ensures refused { IfErr result (IsErrorOf (told_by self.entry)) }
+    {
+        let scenario = self.required(alloc, "SCENARIO")?;
+        let chronicle = self.required(alloc, "CHRONICLE")?;
+        Ok(Task::Retrace {
+            scenario,
+            chronicle,
+        })
     }
 
     /// How the program is written.

@@ -25,6 +25,11 @@ const SCENARIO: Place<'static> = Place {
     help: "The campaign, as TOML: the generals, the order, the traitors' programs",
 };
 
+const CHRONICLE: Place<'static> = Place {
+    name: "CHRONICLE",
+    help: "What `play` or `muster` has printed of this campaign",
+};
+
 const CHECK: Subcommand<'static> = Subcommand {
     name: "check",
     about: "Verifies a program and runs it",
@@ -75,6 +80,10 @@ const ASM: Subcommand<'static> = Subcommand {
             name: "explain",
             help: "Shows a refused line, and says what was wanted there",
         },
+        Flag::Switch {
+            name: "partial",
+            help: "Takes units as bytes too, as `dis --partial` writes them",
+        },
         Flag::Letter {
             name: "target",
             letter: 'o',
@@ -100,6 +109,10 @@ const DIS: Subcommand<'static> = Subcommand {
         Flag::Switch {
             name: "explain",
             help: "Says what is wrong with refused bytes",
+        },
+        Flag::Switch {
+            name: "partial",
+            help: "Writes a unit that cannot be decoded as bytes, and why, and goes on",
         },
         Flag::Option {
             name: "entry",
@@ -203,13 +216,7 @@ const PLAY: Subcommand<'static> = Subcommand {
 const AUDIT: Subcommand<'static> = Subcommand {
     name: "audit",
     about: "Replays a chronicle and says whether it is sound",
-    places: &[
-        SCENARIO,
-        Place {
-            name: "CHRONICLE",
-            help: "What `play` or `muster` has printed of this campaign",
-        },
-    ],
+    places: &[SCENARIO, CHRONICLE],
     flags: &[
         Flag::Switch {
             name: "explain",
@@ -273,7 +280,32 @@ const TREE: Subcommand<'static> = Subcommand {
     ],
 };
 
+const DRAW: Subcommand<'static> = Subcommand {
+    name: "draw",
+    about: "Draws a campaign as a space-time diagram in SVG",
+    places: &[SCENARIO],
+    flags: &[
+        Flag::Option {
+            name: "schedule",
+            value: "FILE",
+            help: "The order of the turns; without it each round is punctual",
+        },
+        Flag::Option {
+            name: "chronicle",
+            value: "FILE",
+            help: "Draws what this chronicle tells",
+        },
+    ],
+};
+
+const SCHEDULE: Subcommand<'static> = Subcommand {
+    name: "schedule",
+    about: "Prints the schedule by which a campaign has a chronicle",
+    places: &[SCENARIO, CHRONICLE],
+    flags: &[],
+};
+
 /// All subcommands, as help lists them.
 pub(crate) const SUBCOMMANDS: &[Subcommand<'static>] = &[
-    CHECK, ASM, DIS, BOOK, TABLE, MUSTER, PLAY, AUDIT, EXPLORE, TREE,
+    CHECK, ASM, DIS, BOOK, TABLE, MUSTER, PLAY, AUDIT, EXPLORE, TREE, DRAW, SCHEDULE,
 ];

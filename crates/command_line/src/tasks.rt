@@ -17,11 +17,24 @@ pub enum Task {
         target: Option<String>,
         explained: bool,
     },
+    /// The same of a text that has units as bytes, line by line, where names stand for nothing.
+    AssemblePartly {
+        text: String,
+        spelling: Spelling,
+        target: Option<String>,
+        explained: bool,
+    },
     /// Translate a program into assembly, with the unit before each instruction where `units` is set.
     Disassemble {
         program: String,
         notation: Notation,
         units: bool,
+        explained: bool,
+    },
+    /// Translate what of it can be decoded, and the other units as bytes.
+    DisassemblePartly {
+        program: String,
+        notation: Notation,
         explained: bool,
     },
     /// Compute the decisions of a message table.
@@ -71,6 +84,16 @@ pub enum Task {
         depth: u8,
         folded: bool,
     },
+    /// Draw a campaign that takes this course.
+    Draw {
+        scenario: String,
+        course: Course,
+    },
+    /// Print the schedule by which a campaign has a chronicle.
+    Retrace {
+        scenario: String,
+        chronicle: String,
+    },
 }
 
 /// How a program is written.
@@ -114,6 +137,15 @@ pub enum Drawing {
     Svg,
 }
 
+/// Which course a campaign takes.
+#[derive(Debug, Drop, PartialEq, Eq)]
+pub enum Course {
+    /// That of the schedule of this file or, where none is named, of the empty one.
+    Scheduled(Option<String>),
+    /// That which the chronicle of this file tells.
+    Recorded(String),
+}
+
 /// How a campaign that is played is told.
 #[derive(Clone, Copy, Debug, PartialEq, Eq)]
 pub enum Account {
@@ -143,14 +175,18 @@ impl Task {
         match self {
             Task::Check { program: file, .. }
             | Task::Assemble { text: file, .. }
+            | Task::AssemblePartly { text: file, .. }
             | Task::Disassemble { program: file, .. }
+            | Task::DisassemblePartly { program: file, .. }
             | Task::Book(file)
             | Task::ExplainDecisions { table: file, .. }
             | Task::Play { scenario: file, .. }
             | Task::Muster { scenario: file, .. }
             | Task::Audit { scenario: file, .. }
             | Task::Explore { scenario: file, .. }
-            | Task::Tree { table: file, .. } => Some(file.as_str()),
+            | Task::Tree { table: file, .. }
+            | Task::Draw { scenario: file, .. }
+            | Task::Retrace { scenario: file, .. } => Some(file.as_str()),
             Task::Form { .. } => None,
         }
     }
@@ -162,7 +198,17 @@ impl Task {
         match self {
             Task::Check { context, .. } => context.as_deref(),
             Task::Play { schedule, .. } => schedule.as_deref(),
-            Task::Audit { chronicle, .. } => Some(chronicle.as_str()),
+            Task::Audit { chronicle, .. } | Task::Retrace { chronicle, .. } => {
+                Some(chronicle.as_str())
+            }
+            Task::Draw {
+                course: Course::Scheduled(schedule),
+                ..
+            } => schedule.as_deref(),
+            Task::Draw {
+                course: Course::Recorded(chronicle),
+                ..
+            } => Some(chronicle.as_str()),
             _ => None,
         }
     }
@@ -173,6 +219,7 @@ impl Task {
     {
         match self {
             Task::Assemble { target, .. } => target.as_deref(),
+            Task::AssemblePartly { target, .. } => target.as_deref(),
             _ => None,
         }
     }
