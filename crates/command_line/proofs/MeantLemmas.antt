@@ -72,10 +72,10 @@ module _ (told : Told) where
   there (Some word) g is = refl
 
   drawing_holds : (drawing : Drawing) → IsDrawing told drawing → not (are_two (has (codes "ascii") told) (has (codes "dot") told) (has (codes "svg") told)) ≡ true
-  drawing_holds Boxes is = rw (is.0, is.1, is.2) refl
+  drawing_holds Boxes is = rw (is.0, is.1) refl
   drawing_holds Ascii is = rw (is.0, is.1, is.2) refl
   drawing_holds Graph is = rw (is.0, is.1, is.2) refl
-  drawing_holds Svg is = rw (is.0, is.1, is.2) refl
+  drawing_holds Svg is = rw (is.0, is.1) refl
 
   tree_holds : (g depth : ℕ) (drawing : Drawing) → NamesGeneral (codes "of") told (Some g) → IsDrawing told drawing
       → levels_in (word_of (codes "depth") told) ≡ Some depth → has_tree told ≡ true
