@@ -16,10 +16,17 @@ pub fn reads_scenario(task: &Task) -> bool
     ensures { result ≡ reads_scenario task.now }
 {
     match task {
-        Task::Play { .. } | Task::Muster { .. } | Task::Audit { .. } | Task::Explore { .. } => true,
+        Task::Play { .. }
+        | Task::Muster { .. }
+        | Task::Audit { .. }
+        | Task::Explore { .. }
+        | Task::Draw { .. }
+        | Task::Retrace { .. } => true,
         Task::Check { .. }
         | Task::Assemble { .. }
+        | Task::AssemblePartly { .. }
         | Task::Disassemble { .. }
+        | Task::DisassemblePartly { .. }
         | Task::Book(_)
         | Task::ExplainDecisions { .. }
         | Task::Form { .. }
