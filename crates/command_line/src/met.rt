@@ -298,7 +298,7 @@ impl<'m, 'a> Met<'m, 'a> {
         ensures refused { IfErr result (IsErrorOf (told_by self.entry)) }
     {
         Ok(Task::Tree {
-            table: self.required(alloc, "FILE")?,
+            file: self.required(alloc, "FILE")?,
             general: self.whose(alloc)?,
             traitors: self.traitors(alloc)?,
             drawing: self.drawing()?,

@@ -243,8 +243,11 @@ const EXPLORE: Subcommand<'static> = Subcommand {
 
 const TREE: Subcommand<'static> = Subcommand {
     name: "tree",
-    about: "Draws what a lieutenant was told, by a message table",
-    places: &[TOLD],
+    about: "Draws what a lieutenant was told, by a message table or in a campaign",
+    places: &[Place {
+        name: "FILE",
+        help: "A message table, or a campaign as TOML, which is played without a schedule",
+    }],
     flags: &[
         Flag::Switch {
             name: "ascii",

@@ -74,10 +74,10 @@ pub enum Task {
         scenario: String,
         most: Option<u64>,
     },
-    /// Draw what this general was told by a message table, so many levels below the commander's, 0 to 4, with the lies of
+    /// Draw what this general was told by a message table or in a campaign, so many levels below the commander's, 0 to 4, with the lies of
     /// these marked, and without what is below a label where all tell the same, if it is to be folded.
     Tree {
-        table: String,
+        file: String,
         general: u8,
         traitors: Vec<u8>,
         drawing: Drawing,
@@ -184,7 +184,7 @@ impl Task {
             | Task::Muster { scenario: file, .. }
             | Task::Audit { scenario: file, .. }
             | Task::Explore { scenario: file, .. }
-            | Task::Tree { table: file, .. }
+            | Task::Tree { file, .. }
             | Task::Draw { scenario: file, .. }
             | Task::Retrace { scenario: file, .. } => Some(file.as_str()),
             Task::Form { .. } => None,

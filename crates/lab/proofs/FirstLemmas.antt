@@ -9,9 +9,10 @@ use Rattle.command_line.specs.declared.tasks.Task.{Task}
 use Rattle.command_line.specs.declared.tasks.Task.TheVariants as task
 use Rattle.command_line.specs.declared.tasks.Account.TheVariants.{Chronicle}
 use Rattle.lab.specs.Campaigns.{is_plain}
+use Rattle.lab.specs.Picturing.{is_toml}
 use Rattle.lab.specs.Faults.{IsTold, IsUnjudged, Prevents, Stops, StopsFirst, fault_of_bytes}
 use Rattle.lab.specs.Hints.{IsHint, IsHintBy, IsSaid, IsWhy, asked_of, bytecode_in, explained_in, hint_behind, is_reported, seems_behind}
-use Rattle.lab.specs.Refusals.{Refuses, RefusesAsked, RefusesCheck, RefusesCheckIn, RefusesDisassembly, RefusesNotation, RefusesParts}
+use Rattle.lab.specs.Refusals.{Refuses, RefusesAsked, RefusesCheck, RefusesCheckIn, RefusesDisassembly, RefusesEither, RefusesNotation, RefusesParts}
 use Rattle.lab.specs.Serving.{Files, IsRefused, first_name}
 use Rattle.lab.specs.Whys.{TellsWhyOf, is_explained}
 use Rattle.lab.specs.Whys.{Nothing}
@@ -165,6 +166,11 @@ no_program Texts bytes fault refuses = refuses
 no_program (Objects entry) bytes fault (inl (other, is, none)) = absurd cc
 no_program (Objects entry) bytes fault (inr (code, is, refuses)) = not_spelt code fault refuses
 
+-- nor a table
+no_tree : (own : Bool) (bytes : List ℕ) (fault : VerifyError) → RefusesEither own bytes (Verifier fault) → ⊥
+no_tree true bytes fault refuses = refuses
+no_tree false bytes fault refuses = refuses
+
 -- nor code that is cut
 no_parts : (notation : Notation) (bytes : List ℕ) (fault : VerifyError) → RefusesParts notation bytes (Verifier fault) → ⊥
 no_parts Bytecode bytes fault refuses = refuses
@@ -187,7 +193,7 @@ not_judged (task.Play scenario schedule account explained) bytes (Verifier fault
 not_judged (task.Muster scenario explained) bytes (Verifier fault) refuses is none = absurd refuses
 not_judged (task.Audit scenario chronicle explained) bytes (Verifier fault) refuses is none = absurd (no_campaign (is_plain Chronicle explained) bytes fault refuses)
 not_judged (task.Explore scenario most) bytes (Verifier fault) refuses is none = absurd refuses
-not_judged (task.Tree file general marked drawing depth folded) bytes (Verifier fault) refuses is none = absurd refuses
+not_judged (task.Tree file general marked drawing depth folded) bytes (Verifier fault) refuses is none = absurd (no_tree (is_toml bytes) bytes fault refuses)
 not_judged (task.Draw scenario course) bytes (Verifier fault) refuses is none = absurd refuses
 not_judged (task.Retrace scenario chronicle) bytes (Verifier fault) refuses is none = absurd refuses
 not_judged task bytes (Codec error) refuses is none = tt

@@ -42,6 +42,7 @@ use Rattle.command_line.specs.declared.tasks.Task.TheVariants.{Check, Assemble, 
 use Rattle.partial.specs.Reading.{bytes_said}
 use Rattle.tables.specs.Numbers.{numbers_in}
 use Rattle.lab.specs.Campaigns.{is_plain}
+use Rattle.lab.specs.Picturing.{is_toml}
 use Rattle.lab.specs.declared.refusal.Refusal.{Refusal}
 use Rattle.lab.specs.declared.refusal.Refusal.TheVariants.{Codec, Object, Verifier, Assembly, Table, Scenario, Setting, Trace, Threads, NotText, Memory}
 
@@ -131,6 +132,14 @@ abbrev pub RefusesScenario : List ℕ → Refusal → Type 0
 RefusesScenario text (Scenario error) = (error ≢ scenario.Memory) × Reads (parse_document text) (Err error)
 RefusesScenario text Memory = Unit {0}
 RefusesScenario text _ = ⊥
+
+-- the text tells no table or, where it is TOML, no oral campaign
+abbrev pub RefusesEither : Bool → List ℕ → Refusal → Type 0
+RefusesEither false text refusal = RefusesTable text refusal
+RefusesEither true text refusal = RefusesScenario text refusal
+
+abbrev pub RefusesTree : List ℕ → Refusal → Type 0
+RefusesTree text refusal = RefusesEither (is_toml text) text refusal
 
 -- the text tells no campaign, oral or signed, by this first fault
 abbrev pub RefusesCampaign : List ℕ → Refusal → Type 0
@@ -233,6 +242,6 @@ Refuses (Play scenario schedule account explained) bytes refusal = RefusesText (
 Refuses (Muster scenario explained) bytes refusal = RefusesText RefusesScenario bytes refusal
 Refuses (Audit scenario chronicle explained) bytes refusal = RefusesText (RefusesAsked (is_plain accounts.Chronicle explained)) bytes refusal
 Refuses (Explore scenario most) bytes refusal = RefusesText RefusesScenario bytes refusal
-Refuses (Tree file general traitors drawing depth folded) bytes refusal = RefusesText RefusesTable bytes refusal
+Refuses (Tree file general traitors drawing depth folded) bytes refusal = RefusesText RefusesTree bytes refusal
 Refuses (Draw scenario course) bytes refusal = RefusesText RefusesScenario bytes refusal
 Refuses (Retrace scenario chronicle) bytes refusal = RefusesText RefusesScenario bytes refusal

@@ -1,19 +1,25 @@
-ghost use Rattle.std.specs.Prelude.{◌≡◌, IfErr, IfOk, string_bytes};
+ghost use Rattle.std.specs.Prelude.{◌≡◌, ℕ, List, [], IfErr, IfOk, string_bytes};
 ghost use Rattle.drawing.specs.Drawn.{DrawsTable};
-ghost use Rattle.lab.specs.Picturing.{form_of};
-ghost use Rattle.lab.specs.Refusals.{RefusesTable};
+ghost use Rattle.lab.specs.Campaigns.{played};
+ghost use Rattle.lab.specs.Picturing.{IsTableIn, form_of, is_toml};
+ghost use Rattle.lab.specs.Refusals.{RefusesTree};
+ghost use Rattle.retold.specs.Retold.{table_of};
 
 use crate::refusal::Refusal;
+use book::TableError;
 use command_line::Drawing;
 use drawing::{Form, Style, View, drawn};
-use std::alloc::Global;
+use retold::table;
+use round::Scenario;
+use std::alloc::{AllocError, Global};
+use world::{Schedule, play};
 
-/// What this general was told by the message table, drawn so far, where these generals are named as traitors; nothing where
-/// he is no lieutenant of the table.
+/// What this general was told by the message table or, where the text is TOML, in the oral campaign that it tells, without a
+/// schedule; drawn so far, where these generals are named as traitors. Nothing where he is no lieutenant.
 ///
 /// # Errors
 ///
-/// What the table refuses, or want of memory.
+/// What the table or the scenario refuses, or want of memory.
 pub fn pictured(
     alloc: Global,
     text: &str,
@@ -22,10 +28,57 @@ pub fn pictured(
     drawing: Drawing,
     view: View,
 ) -> Result<String, Refusal>
-    ensures drawn { IfOk result (λ picture. DrawsTable text.now traitors.now view (form_of drawing) general (string_bytes picture)) }
-    ensures refused { IfErr result (RefusesTable text.now) }
+    ensures drawn { IfOk result (λ picture. (table : List ℕ) × IsTableIn (is_toml text.now) text.now table
+        × DrawsTable table traitors.now view (form_of drawing) general (string_bytes picture)) }
+    ensures refused { IfErr result (RefusesTree text.now) }
 {
-    Ok(drawn(alloc, text, traitors, view, form(drawing), general)?)
+    let form = form(drawing);
+    if !is_toml(alloc, text)? {
+        return Ok(drawn(alloc, text, traitors, view, form, general)?);
+    }
+    let scenario = scenario::read(alloc, text)?;
+    Ok(campaign_pictured(alloc, scenario, traitors, view, form, general)?)
+}
+
+/// Whether the text is TOML.
+fn is_toml(alloc: Global, text: &str) -> Result<bool, AllocError>
+    ensures { IfOk result (λ is. is ≡ is_toml text.now) }
+{
+    match toml::table_from_str(alloc, text) {
+        Ok(_) => Ok(true),
+        Err(error) => {
+            if error.is_memory() {
+                return Err(AllocError);
+            }
+            Ok(false)
+        }
+    }
+}
+
+/// What he was told in the campaign.
+#[tactic(auto, using(crate::proofs::CampaignLemmas::played_wholly))]
+fn campaign_pictured(
+    alloc: Global,
+    scenario: Scenario,
+    traitors: &[u8],
+    view: View,
+    form: Form,
+    general: u8,
+) -> Result<String, AllocError>
+    ensures { IfOk result (λ picture. DrawsTable (table_of (played scenario [])) traitors.now view form general (string_bytes picture)) }
+{
+    scenario.recall();
+    let schedule = Schedule {
+        lines: Vec::new(alloc),
+    };
+    let chronicle = play(alloc, scenario, &schedule)?;
+    let text = table(alloc, &chronicle)?;
+    match drawn(alloc, text.as_str(), traitors, view, form, general) {
+        Ok(picture) => Ok(picture),
+        Err(TableError::Memory) => Err(AllocError),
+        // The table is one that `book` reads.
+        Err(TableError::At(_, _)) => unreachable!(),
+    }
 }
 
 /// The form of a drawing.

@@ -11,7 +11,7 @@ use command_line::Task;
 use references::{Beside, Reference, asked, resolved};
 use std::alloc::{AllocError, Global};
 
-/// Whether the task's first file is a scenario.
+/// Whether the task's first file is a scenario, or may be one.
 pub fn reads_scenario(task: &Task) -> bool
     ensures { result ≡ reads_scenario task.now }
 {
@@ -20,6 +20,7 @@ pub fn reads_scenario(task: &Task) -> bool
         | Task::Muster { .. }
         | Task::Audit { .. }
         | Task::Explore { .. }
+        | Task::Tree { .. }
         | Task::Draw { .. }
         | Task::Retrace { .. } => true,
         Task::Check { .. }
@@ -29,8 +30,7 @@ pub fn reads_scenario(task: &Task) -> bool
         | Task::DisassemblePartly { .. }
         | Task::Book(_)
         | Task::ExplainDecisions { .. }
-        | Task::Form { .. }
-        | Task::Tree { .. } => false,
+        | Task::Form { .. } => false,
     }
 }
 
