@@ -6,4 +6,6 @@ pub mod FilesLemmas
 pub mod ReadLemmas
 pub mod RefusalLemmas
 pub mod ScheduleLemmas
+pub mod PartLemmas
+pub mod PicturingLemmas
 pub mod FirstLemmas

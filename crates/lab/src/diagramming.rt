@@ -31,7 +31,7 @@ pub fn diagrammed(
 {
     scenario.recall();
     let chronicle = play(alloc, scenario, schedule)?;
-    diagram_of(alloc, &chronicle)
+    Ok(diagram_of(alloc, &chronicle)?)
 }
 
 /// The oral campaign whose chronicle these bytes are.
@@ -60,7 +60,7 @@ fn diagram_of(alloc: Global, chronicle: &Chronicle) -> Result<String, AllocError
 {
     let text = table(alloc, chronicle)?;
     match read_table(alloc, text.as_str()) {
-        Ok(table) => campaign_svg(alloc, &table, chronicle),
+        Ok(table) => Ok(campaign_svg(alloc, &table, chronicle)?),
         Err(TableError::Memory) => Err(AllocError),
         // The table is one that `book` reads.
         Err(TableError::At(_, _)) => unreachable!(),

@@ -72,12 +72,13 @@ fn of_code(alloc: Global, bytes: &[u8]) -> Result<String, Refusal>
 }
 
 /// That of the bytes that a text says.
+#[tactic(auto, using(crate::proofs::PartLemmas::cut_said))]
 fn of_text(alloc: Global, text: &str) -> Result<String, Refusal>
     ensures text { IfOk result (λ own. DisassemblesPartly Texts text.now (string_bytes own)) }
     ensures refused { IfErr result (RefusesSaid text.now) }
 {
     let bytes = assemble(alloc, text)?;
-    of_code(alloc, bytes.as_slice())
+    Ok(of_code(alloc, bytes.as_slice())?)
 }
 
 /// That of the code of an object's entry.

@@ -2,8 +2,9 @@ ghost use Rattle.std.specs.Prelude.{◌≡◌, ℕ, List, [], IfErr, IfOk, strin
 ghost use Rattle.drawing.specs.Drawn.{DrawsTable};
 ghost use Rattle.lab.specs.Campaigns.{played};
 ghost use Rattle.lab.specs.Picturing.{IsTableIn, form_of, is_toml};
-ghost use Rattle.lab.specs.Refusals.{RefusesTree};
+ghost use Rattle.lab.specs.Refusals.{RefusesScenario, RefusesTable, RefusesTree};
 ghost use Rattle.retold.specs.Retold.{table_of};
+ghost use Rattle.scenario.specs.Told.{Tells};
 
 use crate::refusal::Refusal;
 use book::TableError;
@@ -20,6 +21,7 @@ use world::{Schedule, play};
 /// # Errors
 ///
 /// What the table or the scenario refuses, or want of memory.
+#[tactic(auto, using(crate::proofs::PicturingLemmas::of_table, crate::proofs::PicturingLemmas::of_campaign, crate::proofs::PicturingLemmas::no_table, crate::proofs::PicturingLemmas::no_campaign))]
 pub fn pictured(
     alloc: Global,
     text: &str,
@@ -34,10 +36,33 @@ pub fn pictured(
 {
     let form = form(drawing);
     if !is_toml(alloc, text)? {
-        return Ok(drawn(alloc, text, traitors, view, form, general)?);
+        return table_pictured(alloc, text, traitors, view, form, general);
     }
-    let scenario = scenario::read(alloc, text)?;
+    let scenario = scenario_in(alloc, text)?;
     Ok(campaign_pictured(alloc, scenario, traitors, view, form, general)?)
+}
+
+/// What he was told by the message table.
+fn table_pictured(
+    alloc: Global,
+    text: &str,
+    traitors: &[u8],
+    view: View,
+    form: Form,
+    general: u8,
+) -> Result<String, Refusal>
+    ensures drawn { IfOk result (λ picture. DrawsTable text.now traitors.now view form general (string_bytes picture)) }
+    ensures refused { IfErr result (RefusesTable text.now) }
+{
+    Ok(drawn(alloc, text, traitors, view, form, general)?)
+}
+
+/// The oral campaign that the text tells.
+fn scenario_in(alloc: Global, text: &str) -> Result<Scenario, Refusal>
+    ensures told { IfOk result (Tells text.now) }
+    ensures refused { IfErr result (RefusesScenario text.now) }
+{
+    Ok(scenario::read(alloc, text)?)
 }
 
 /// Whether the text is TOML.
@@ -56,7 +81,7 @@ fn is_toml(alloc: Global, text: &str) -> Result<bool, AllocError>
 }
 
 /// What he was told in the campaign.
-#[tactic(auto, using(crate::proofs::CampaignLemmas::played_wholly))]
+#[tactic(auto, using(crate::proofs::CampaignLemmas::played_wholly, crate::proofs::PicturingLemmas::of_chronicle))]
 fn campaign_pictured(
     alloc: Global,
     scenario: Scenario,
