@@ -28,7 +28,7 @@ pub(crate) fn draw_by<'a, R: Source>(
 {
     let schedule = scheduled(alloc, reported, file, second)?;
     match diagrammed(alloc, scenario, &schedule) {
-        Ok(picture) => Ok(picture.into_bytes()),
+        Ok(picture) => Ok(picture),
         Err(_) => Err(Failure::Memory),
     }
 }
@@ -47,7 +47,7 @@ pub(crate) fn draw_record<'a, R: Source>(
 {
     let bytes = read_second(alloc, file, second)?;
     match record_diagrammed(alloc, scenario, bytes.as_slice()) {
-        Ok(picture) => Ok(picture.into_bytes()),
+        Ok(picture) => Ok(picture),
         Err(refusal) => {
             Err(later(
                 alloc,
@@ -75,7 +75,7 @@ pub(crate) fn retrace_of<'a, R: Source>(
 {
     let bytes = read_second(alloc, file, second)?;
     match retraced(alloc, scenario, bytes.as_slice()) {
-        Ok(lines) => Ok(lines.into_bytes()),
+        Ok(lines) => Ok(lines),
         Err(refusal) => {
             Err(later(
                 alloc,

@@ -1,5 +1,5 @@
 //! Campaigns as pictures.
-ghost use Rattle.std.specs.Prelude.{◌≡◌, IfErr, IfOk, string_bytes};
+ghost use Rattle.std.specs.Prelude.{◌≡◌, IfErr, IfOk};
 ghost use Rattle.lab.specs.Campaigns.{played};
 ghost use Rattle.lab.specs.Diagrams.{IsDiagram, IsRecordDrawn};
 ghost use Rattle.lab.specs.Refusals.{RefusesChronicle, RefusesText};
@@ -26,8 +26,8 @@ pub fn diagrammed(
     alloc: Global,
     scenario: Scenario,
     schedule: &Schedule,
-) -> Result<String, AllocError>
-    ensures { IfOk result (λ picture. IsDiagram (played scenario schedule.now) (string_bytes picture)) }
+) -> Result<Vec<u8>, AllocError>
+    ensures { IfOk result (λ picture. IsDiagram (played scenario schedule.now) picture.items) }
 {
     scenario.recall();
     let chronicle = play(alloc, scenario, schedule)?;
@@ -44,8 +44,8 @@ pub fn record_diagrammed(
     alloc: Global,
     scenario: &Scenario,
     bytes: &[u8],
-) -> Result<String, Refusal>
-    ensures drawn { IfOk result (λ picture. IsRecordDrawn scenario.now bytes.now (string_bytes picture)) }
+) -> Result<Vec<u8>, Refusal>
+    ensures drawn { IfOk result (λ picture. IsRecordDrawn scenario.now bytes.now picture.items) }
     ensures refused { IfErr result (RefusesText (RefusesChronicle (Oral scenario.now)) bytes.now) }
 {
     scenario.recall();
@@ -54,13 +54,13 @@ pub fn record_diagrammed(
 }
 
 /// The picture of a chronicle, with the message table that its letters tell.
-fn diagram_of(alloc: Global, chronicle: &Chronicle) -> Result<String, AllocError>
+fn diagram_of(alloc: Global, chronicle: &Chronicle) -> Result<Vec<u8>, AllocError>
     requires { IsWhole chronicle.now }
-    ensures { IfOk result (λ picture. IsDiagram chronicle.now (string_bytes picture)) }
+    ensures { IfOk result (λ picture. IsDiagram chronicle.now picture.items) }
 {
     let text = table(alloc, chronicle)?;
     match read_table(alloc, text.as_str()) {
-        Ok(table) => Ok(campaign_svg(alloc, &table, chronicle)?),
+        Ok(table) => Ok(campaign_svg(alloc, &table, chronicle)?.into_bytes()),
         Err(TableError::Memory) => Err(AllocError),
         // The table is one that `book` reads.
         Err(TableError::At(_, _)) => unreachable!(),

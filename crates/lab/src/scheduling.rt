@@ -1,4 +1,4 @@
-ghost use Rattle.std.specs.Prelude.{IfErr, IfOk, string_bytes};
+ghost use Rattle.std.specs.Prelude.{IfErr, IfOk};
 ghost use Rattle.lab.specs.Refusals.{RefusesChronicle, RefusesText};
 ghost use Rattle.lab.specs.Retracing.{IsScheduleFor};
 ghost use Rattle.scenario.specs.declared.messages.Campaign.TheVariants.{Oral};
@@ -13,9 +13,9 @@ use std::alloc::Global;
 /// # Errors
 ///
 /// The first line that is not the chronicle's, or want of memory.
-pub fn retraced(alloc: Global, scenario: &Scenario, bytes: &[u8]) -> Result<String, Refusal>
-    ensures retraced { IfOk result (λ lines. IsScheduleFor scenario.now bytes.now (string_bytes lines)) }
+pub fn retraced(alloc: Global, scenario: &Scenario, bytes: &[u8]) -> Result<Vec<u8>, Refusal>
+    ensures retraced { IfOk result (λ lines. IsScheduleFor scenario.now bytes.now lines.items) }
     ensures refused { IfErr result (RefusesText (RefusesChronicle (Oral scenario.now)) bytes.now) }
 {
-    Ok(retracing::retraced(alloc, scenario, as_text(bytes)?)?)
+    Ok(retracing::retraced(alloc, scenario, as_text(bytes)?)?.into_bytes())
 }
