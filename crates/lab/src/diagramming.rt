@@ -21,7 +21,7 @@ use world::{Chronicle, Schedule, play};
 /// # Errors
 ///
 /// `AllocError` where memory is refused.
-#[tactic(auto, using(crate::proofs::CampaignLemmas::played_wholly))]
+#[tactic(auto, using(crate::proofs::CampaignLemmas::played_wholly, crate::proofs::DiagramLemmas::of_same))]
 pub fn diagrammed(
     alloc: Global,
     scenario: Scenario,
@@ -39,7 +39,7 @@ pub fn diagrammed(
 /// # Errors
 ///
 /// The first line that is not the chronicle's, or want of memory.
-#[tactic(auto, using(crate::proofs::CampaignLemmas::told_wholly))]
+#[tactic(auto, using(crate::proofs::CampaignLemmas::told_wholly, crate::proofs::DiagramLemmas::of_same))]
 pub fn record_diagrammed(
     alloc: Global,
     scenario: &Scenario,
@@ -54,6 +54,7 @@ pub fn record_diagrammed(
 }
 
 /// The picture of a chronicle, with the message table that its letters tell.
+#[tactic(auto, using(crate::proofs::DiagramLemmas::is_diagram))]
 fn diagram_of(alloc: Global, chronicle: &Chronicle) -> Result<Vec<u8>, AllocError>
     requires { IsWhole chronicle.now }
     ensures { IfOk result (λ picture. IsDiagram chronicle.now picture.items) }
