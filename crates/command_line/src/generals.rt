@@ -1,5 +1,5 @@
 ghost use Rattle.std.specs.Prelude.{◌≡◌, ◌≢◌, IfOk, IfErr, Some, None};
-ghost use Rattle.command_line.specs.Generals.{count_in, general_in, generals_in, order_in};
+ghost use Rattle.command_line.specs.Generals.{count_in, depth_in, general_in, generals_in, order_in};
 ghost use Rattle.command_line.specs.declared.generals.GeneralsError.TheVariants.{Memory};
 
 use std::alloc::{AllocError, Global};
@@ -81,4 +81,13 @@ pub(crate) fn count(word: &[u8]) -> Option<u64>
     } else {
         None
     }
+}
+
+/// A number of levels of a tree.
+#[tactic(auto, unfolding(crate::specs::Generals::depth_in))]
+pub(crate) fn depth(word: &[u8]) -> Option<u8>
+    ensures { result ≡ depth_in word.now }
+{
+    let number = decimal(word)?;
+    if number < 5 { Some(number as u8) } else { None }
 }

@@ -14,4 +14,4 @@ mod tasks;
 pub use errors::{Misuse, TaskError};
 pub use reading::request;
 pub use several::each;
-pub use tasks::{Account, Filling, Lieutenants, Notation, Request, Spelling, Task};
+pub use tasks::{Account, Course, Drawing, Filling, Lieutenants, Notation, Request, Spelling, Task};

@@ -9,9 +9,10 @@ use Rattle.command_line.specs.declared.tasks.Task.{Task}
 use Rattle.command_line.specs.declared.tasks.Task.TheVariants as task
 use Rattle.command_line.specs.declared.tasks.Account.TheVariants.{Chronicle}
 use Rattle.lab.specs.Campaigns.{is_plain}
+use Rattle.lab.specs.Picturing.{is_toml}
 use Rattle.lab.specs.Faults.{IsTold, IsUnjudged, Prevents, Stops, StopsFirst, fault_of_bytes}
 use Rattle.lab.specs.Hints.{IsHint, IsHintBy, IsSaid, IsWhy, asked_of, bytecode_in, explained_in, hint_behind, is_reported, seems_behind}
-use Rattle.lab.specs.Refusals.{Refuses, RefusesAsked, RefusesCheck, RefusesCheckIn, RefusesDisassembly, RefusesNotation}
+use Rattle.lab.specs.Refusals.{Refuses, RefusesAsked, RefusesCheck, RefusesCheckIn, RefusesDisassembly, RefusesEither, RefusesNotation, RefusesParts}
 use Rattle.lab.specs.Serving.{Files, IsRefused, first_name}
 use Rattle.lab.specs.Whys.{TellsWhyOf, is_explained}
 use Rattle.lab.specs.Whys.{Nothing}
@@ -60,7 +61,9 @@ asks : (task : Task) (notation : Notation) → explained_in task ≡ Some notati
 asks (task.Check file own context true traced) notation is = refl
 asks (task.Check file own context false traced) notation is = absurd cc
 asks (task.Assemble file spelling target explained) notation is = absurd cc
+asks (task.AssemblePartly file spelling target explained) notation is = absurd cc
 asks (task.Disassemble file own units explained) notation is = absurd cc
+asks (task.DisassemblePartly file own explained) notation is = absurd cc
 asks (task.Book file) notation is = absurd cc
 asks (task.ExplainDecisions file traitors) notation is = absurd cc
 asks (task.Form n m c filling) notation is = absurd cc
@@ -68,6 +71,9 @@ asks (task.Play scenario schedule account explained) notation is = absurd cc
 asks (task.Muster scenario explained) notation is = absurd cc
 asks (task.Audit scenario chronicle explained) notation is = absurd cc
 asks (task.Explore scenario most) notation is = absurd cc
+asks (task.Tree file general marked drawing depth folded) notation is = absurd cc
+asks (task.Draw scenario course) notation is = absurd cc
+asks (task.Retrace scenario chronicle) notation is = absurd cc
 
 pub explained_first : (task : Task) (notation : Notation) (known : Option (List ℕ)) (bytes : List ℕ) (refusal : Refusal) (text : String Global) → AreBytes known bytes
     → Refuses task bytes refusal → asked_of refusal task ≡ Some notation → IsWhy notation bytes (string_bytes text)
@@ -160,12 +166,26 @@ no_program Texts bytes fault refuses = refuses
 no_program (Objects entry) bytes fault (inl (other, is, none)) = absurd cc
 no_program (Objects entry) bytes fault (inr (code, is, refuses)) = not_spelt code fault refuses
 
+-- nor a table
+no_tree : (own : Bool) (bytes : List ℕ) (fault : VerifyError) → RefusesEither own bytes (Verifier fault) → ⊥
+no_tree true bytes fault refuses = refuses
+no_tree false bytes fault refuses = refuses
+
+-- nor code that is cut
+no_parts : (notation : Notation) (bytes : List ℕ) (fault : VerifyError) → RefusesParts notation bytes (Verifier fault) → ⊥
+no_parts Bytecode bytes fault refuses = refuses
+no_parts Texts bytes fault refuses = refuses
+no_parts (Objects entry) bytes fault (inl (other, is, none)) = absurd cc
+no_parts (Objects entry) bytes fault (inr (code, is, refuses)) = refuses
+
 -- so it refuses only the program of a check, which is explained where more is asked for
 pub not_judged : (task : Task) (bytes : List ℕ) (refusal : Refusal) → Refuses task bytes refusal → is_reported task refusal ≡ true → asked_of refusal task ≡ None → IsNotJudged refusal
 not_judged (task.Check file own context true traced) bytes (Verifier fault) refuses is none = absurd cc
 not_judged (task.Check file own context false traced) bytes (Verifier fault) refuses is none = absurd cc
 not_judged (task.Assemble file spelling target explained) bytes (Verifier fault) refuses is none = absurd refuses
+not_judged (task.AssemblePartly file spelling target explained) bytes (Verifier fault) refuses is none = absurd refuses
 not_judged (task.Disassemble file own units explained) bytes (Verifier fault) refuses is none = absurd (no_program own bytes fault refuses)
+not_judged (task.DisassemblePartly file own explained) bytes (Verifier fault) refuses is none = absurd (no_parts own bytes fault refuses)
 not_judged (task.Book file) bytes (Verifier fault) refuses is none = absurd refuses
 not_judged (task.ExplainDecisions file traitors) bytes (Verifier fault) refuses is none = absurd refuses
 not_judged (task.Form n m c filling) bytes (Verifier fault) refuses is none = absurd refuses
@@ -173,6 +193,9 @@ not_judged (task.Play scenario schedule account explained) bytes (Verifier fault
 not_judged (task.Muster scenario explained) bytes (Verifier fault) refuses is none = absurd refuses
 not_judged (task.Audit scenario chronicle explained) bytes (Verifier fault) refuses is none = absurd (no_campaign (is_plain Chronicle explained) bytes fault refuses)
 not_judged (task.Explore scenario most) bytes (Verifier fault) refuses is none = absurd refuses
+not_judged (task.Tree file general marked drawing depth folded) bytes (Verifier fault) refuses is none = absurd (no_tree (is_toml bytes) bytes fault refuses)
+not_judged (task.Draw scenario course) bytes (Verifier fault) refuses is none = absurd refuses
+not_judged (task.Retrace scenario chronicle) bytes (Verifier fault) refuses is none = absurd refuses
 not_judged task bytes (Codec error) refuses is none = tt
 not_judged task bytes (Object fault) refuses is none = tt
 not_judged task bytes (Assembly error) refuses is none = tt
@@ -242,7 +265,9 @@ checks_in (task.Check file own context true traced) notation bytes refusal is re
     let same : notation ≡ own = cc in subst (λ (n : Notation). RefusesCheckIn n bytes refusal) same refuses
 checks_in (task.Check file own context false traced) notation bytes refusal is refuses = absurd cc
 checks_in (task.Assemble file spelling target explained) notation bytes refusal is refuses = absurd cc
+checks_in (task.AssemblePartly file spelling target explained) notation bytes refusal is refuses = absurd cc
 checks_in (task.Disassemble file own units explained) notation bytes refusal is refuses = absurd cc
+checks_in (task.DisassemblePartly file own explained) notation bytes refusal is refuses = absurd cc
 checks_in (task.Book file) notation bytes refusal is refuses = absurd cc
 checks_in (task.ExplainDecisions file traitors) notation bytes refusal is refuses = absurd cc
 checks_in (task.Form n m c filling) notation bytes refusal is refuses = absurd cc
@@ -250,6 +275,9 @@ checks_in (task.Play scenario schedule account explained) notation bytes refusal
 checks_in (task.Muster scenario explained) notation bytes refusal is refuses = absurd cc
 checks_in (task.Audit scenario chronicle explained) notation bytes refusal is refuses = absurd cc
 checks_in (task.Explore scenario most) notation bytes refusal is refuses = absurd cc
+checks_in (task.Tree file general marked drawing depth folded) notation bytes refusal is refuses = absurd cc
+checks_in (task.Draw scenario course) notation bytes refusal is refuses = absurd cc
+checks_in (task.Retrace scenario chronicle) notation bytes refusal is refuses = absurd cc
 
 -- it cannot be told, since the file has no program
 pub unread_first : (task : Task) (notation : Notation) (known : Option (List ℕ)) (bytes : List ℕ) (first refusal : Refusal) (file : Bor (List ℕ)) (fault : Failure) → AreBytes known bytes

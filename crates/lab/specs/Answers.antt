@@ -10,8 +10,9 @@ use Rattle.asm.specs.Printing.{text_of, unit_lines}
 use Rattle.command_line.specs.declared.tasks.Notation.{Notation}
 use Rattle.command_line.specs.declared.tasks.Spelling.TheVariants.{Hex, Raw}
 use Rattle.command_line.specs.declared.tasks.Task.{Task}
-use Rattle.command_line.specs.declared.tasks.Task.TheVariants.{Check, Assemble, Disassemble, Book, ExplainDecisions, Form, Play, Muster, Audit, Explore}
+use Rattle.command_line.specs.declared.tasks.Task.TheVariants.{Check, Assemble, AssemblePartly, Disassemble, DisassemblePartly, Book, ExplainDecisions, Form, Play, Muster, Audit, Explore, Tree, Draw, Retrace}
 use Rattle.command_line.specs.declared.tasks.Account.TheVariants.{Chronicle}
+use Rattle.command_line.specs.declared.tasks.Course.TheVariants.{Scheduled, Recorded}
 use Rattle.scenario.specs.Told.{Tells}
 use Rattle.tables.specs.Answers.{DecidesTable, ExplainsTable, IsFilled, IsFormOf}
 use Rattle.verify.specs.Judgement.{judged}
@@ -22,7 +23,11 @@ use Rattle.tracing.specs.Trace.{trace}
 use Rattle.lab.specs.Exploring.{Explores}
 use Rattle.lab.specs.Hints.{HasProgram, IsBehind, if_asked}
 use Rattle.lab.specs.Campaigns.{Audits, Musters, Plays, TellsCampaign, is_plain}
+use Rattle.lab.specs.Diagrams.{Draws}
 use Rattle.lab.specs.Lines.{checked_lines, hex_line}
+use Rattle.lab.specs.Parts.{AssemblesPartly, AssemblesPartlyRaw, DisassemblesPartly}
+use Rattle.lab.specs.Picturing.{Pictures}
+use Rattle.lab.specs.Retracing.{Retraces}
 use Rattle.lab.specs.declared.checking.Checked.{Checked}
 use Rattle.lab.specs.declared.first_answer.FirstAnswer.{FirstAnswer}
 use Rattle.lab.specs.declared.first_answer.FirstAnswer.TheVariants as answer
@@ -90,7 +95,10 @@ Prints (Check file notation None explained traced) first second text = IsChecked
 Prints (Check file notation (Some context) explained traced) first second text = Tries notation explained traced first second text
 Prints (Assemble file Hex target explained) first second text = Assembles first text
 Prints (Assemble file Raw target explained) first second text = AssemblesRaw first text
+Prints (AssemblePartly file Hex target explained) first second text = AssemblesPartly first text
+Prints (AssemblePartly file Raw target explained) first second text = AssemblesPartlyRaw first text
 Prints (Disassemble file notation units explained) first second text = Disassembles notation units first text
+Prints (DisassemblePartly file notation explained) first second text = DisassemblesPartly notation first text
 Prints (Book file) first second text = DecidesTable first text
 Prints (ExplainDecisions file traitors) first second text = ExplainsTable first traitors.items text
 Prints (Form n m c None) first second text = IsFormOf (string_bytes n) (string_bytes m) (string_bytes c) text
@@ -99,6 +107,9 @@ Prints (Play scenario schedule account explained) first second text = Plays acco
 Prints (Muster scenario explained) first second text = Musters explained first text
 Prints (Audit scenario chronicle explained) first second text = Audits explained first second text
 Prints (Explore scenario most) first second text = Explores most first text
+Prints (Tree file general traitors drawing depth folded) first second text = Pictures general traitors.items drawing depth folded first text
+Prints (Draw scenario course) first second text = Draws course first second text
+Prints (Retrace scenario chronicle) first second text = Retraces first second text
 
 -- the task goes on with this behind its first file: a program to try, with its steps or without them, or a campaign
 abbrev pub GoesOn : Task → List ℕ → FirstAnswer → Type 0
@@ -109,6 +120,9 @@ GoesOn (Play scenario schedule account explained) first (answer.Play c told why)
 GoesOn (Muster scenario explained) first (answer.Muster s why) = Tells first s × (why ≡ explained)
 GoesOn (Audit scenario chronicle explained) first (answer.Audit c why) =
     TellsCampaign (is_plain Chronicle explained) first c × (why ≡ explained)
+GoesOn (Draw scenario (Scheduled file)) first (answer.Draw s) = Tells first s
+GoesOn (Draw scenario (Recorded file)) first (answer.DrawRecorded s) = Tells first s
+GoesOn (Retrace scenario chronicle) first (answer.Retrace s) = Tells first s
 GoesOn _ first _ = ⊥
 
 -- what the task comes to on its first file: a text, whatever the second has, or that with which it goes on

@@ -16,7 +16,7 @@ use Rattle.command_line.specs.Told.{file_of}
 use Rattle.command_line.specs.declared.tasks.Notation.{Notation}
 use Rattle.command_line.specs.declared.tasks.Notation.TheVariants.{Bytecode, Assembly, Object}
 use Rattle.command_line.specs.declared.tasks.Task.{Task}
-use Rattle.command_line.specs.declared.tasks.Task.TheVariants.{Check, Disassemble}
+use Rattle.command_line.specs.declared.tasks.Task.TheVariants.{Check, Disassemble, DisassemblePartly}
 use Rattle.lab.specs.Seeming.{likeness_of, seems_text}
 use Rattle.lab.specs.Whys.{TellsWhyOf, is_explained}
 use Rattle.lab.specs.Whys as role
@@ -79,6 +79,7 @@ IsWhy notation bytes text = (program : List Insn) × HasProgram notation bytes p
 abbrev pub bytecode_in : Task → List ℕ → List ℕ
 bytecode_in (Check file (Object entry) context explained traced) bytes = []
 bytecode_in (Disassemble file (Object entry) units explained) bytes = []
+bytecode_in (DisassemblePartly file (Object entry) explained) bytes = []
 bytecode_in task bytes = bytes
 
 -- behind a refusal: of an object the sentence of its fault, and what bytes seem to be that are refused so

@@ -1,12 +1,16 @@
 pub mod Answers
 pub mod Campaigns
+pub mod Diagrams
 pub mod Exploring
 pub mod Faults
 pub mod Whys
 pub mod Hints
 pub mod Lines
+pub mod Parts
+pub mod Picturing
 pub mod Reading
 pub mod Refusals
+pub mod Retracing
 pub mod Seeming
 pub mod Serving
 pub mod Telling

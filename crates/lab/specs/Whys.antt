@@ -1,7 +1,7 @@
 -- What is said behind the line of a refusal where an explanation is asked for: the report of crate `why`, by the file's name and bytes.
 use Rattle.std.specs.Prelude.{ℕ, ◌≡◌, Bool, true, false, List, [], ◌++◌, Option, None, Some, IfSome, codes, is_some}
 use Rattle.command_line.specs.declared.tasks.Task.{Task}
-use Rattle.command_line.specs.declared.tasks.Task.TheVariants.{Assemble, Audit, Check, Disassemble, ExplainDecisions, Muster, Play}
+use Rattle.command_line.specs.declared.tasks.Task.TheVariants.{Assemble, AssemblePartly, Audit, Check, Disassemble, DisassemblePartly, ExplainDecisions, Muster, Play}
 use Rattle.asm.specs.declared.fault.AsmError.TheVariants as asm
 use Rattle.book.specs.declared.fault.TableError.TheVariants as book
 use Rattle.codec.specs.declared.fault.CodecError.TheVariants as codec
@@ -29,7 +29,9 @@ use Rattle.why.specs.Musters.{muster_told}
 abbrev pub is_explained : Task → Bool
 is_explained (Check file notation context explained traced) = explained
 is_explained (Assemble file spelling target explained) = explained
+is_explained (AssemblePartly file spelling target explained) = explained
 is_explained (Disassemble file notation units explained) = explained
+is_explained (DisassemblePartly file notation explained) = explained
 is_explained (ExplainDecisions file traitors) = true
 is_explained (Play scenario schedule account explained) = is_some explained
 is_explained (Muster scenario explained) = is_some explained
@@ -74,6 +76,7 @@ TellsWhy _ of name bytes told = told ≡ []
 abbrev pub role_behind : FirstAnswer → Role
 role_behind (answer.Play c account explained) = Schedule
 role_behind (answer.Audit c explained) = Chronicle c
+role_behind (answer.Draw s) = Schedule
 role_behind _ = Nothing
 
 -- the same of the file's name as it is given; of one past ASCII with a control character nothing is said

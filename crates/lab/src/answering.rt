@@ -9,11 +9,14 @@ use crate::explaining::with_explanation;
 use crate::exploring::explored as orders_of;
 use crate::first_answer::FirstAnswer;
 use crate::forming::{filled, formed};
+use crate::parts::{assembled_partly, assembled_partly_raw, disassembled_partly};
+use crate::picturing::pictured;
 use crate::playing::{asked_campaign, campaign};
 use crate::refusal::Refusal;
 use crate::steps::with_steps;
 use crate::texts::as_text;
-use command_line::{Account, Notation, Spelling, Task};
+use command_line::{Account, Course, Notation, Spelling, Task};
+use drawing::View;
 use std::alloc::Global;
 use trial::Setting;
 
@@ -51,11 +54,20 @@ pub fn answer(alloc: Global, task: &Task, bytes: &[u8]) -> Result<FirstAnswer, R
             spelling: Spelling::Raw,
             ..
         } => return Ok(FirstAnswer::Bytes(assembled_raw(alloc, as_text(bytes)?)?)),
+        Task::AssemblePartly {
+            spelling: Spelling::Hex,
+            ..
+        } => assembled_partly(alloc, as_text(bytes)?)?,
+        Task::AssemblePartly {
+            spelling: Spelling::Raw,
+            ..
+        } => return Ok(FirstAnswer::Bytes(assembled_partly_raw(alloc, as_text(bytes)?)?)),
         Task::Disassemble {
             notation,
             units,
             ..
         } => disassembled(alloc, notation, *units, bytes)?,
+        Task::DisassemblePartly { notation, .. } => disassembled_partly(alloc, notation, bytes)?,
         Task::Book(_) => decided(alloc, as_text(bytes)?)?,
         Task::ExplainDecisions { traitors, .. } => {
             explained(alloc, as_text(bytes)?, traitors.as_slice())?
@@ -78,6 +90,27 @@ pub fn answer(alloc: Global, task: &Task, bytes: &[u8]) -> Result<FirstAnswer, R
             commander.as_str(),
             *filling,
         )?,
+        Task::Tree {
+            general,
+            traitors,
+            drawing,
+            depth,
+            folded,
+            ..
+        } => {
+            let view = View {
+                depth: *depth,
+                folds: *folded,
+            };
+            pictured(
+                alloc,
+                as_text(bytes)?,
+                *general,
+                traitors.as_slice(),
+                *drawing,
+                view,
+            )?
+        }
         Task::Explore { most, .. } => orders_of(alloc, &campaign(alloc, bytes)?, *most)?,
         Task::Play {
             account,
@@ -94,6 +127,15 @@ pub fn answer(alloc: Global, task: &Task, bytes: &[u8]) -> Result<FirstAnswer, R
             let campaign = asked_campaign(alloc, bytes, Account::Chronicle, *explained)?;
             return Ok(FirstAnswer::Audit(campaign, *explained));
         }
+        Task::Draw {
+            course: Course::Scheduled(_),
+            ..
+        } => return Ok(FirstAnswer::Draw(campaign(alloc, bytes)?)),
+        Task::Draw {
+            course: Course::Recorded(_),
+            ..
+        } => return Ok(FirstAnswer::DrawRecorded(campaign(alloc, bytes)?)),
+        Task::Retrace { .. } => return Ok(FirstAnswer::Retrace(campaign(alloc, bytes)?)),
     };
     Ok(FirstAnswer::Text(text))
 }

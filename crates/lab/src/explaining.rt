@@ -84,6 +84,10 @@ fn bytecode_in<'a>(task: &Task, bytes: &'a [u8]) -> &'a [u8]
         | Task::Disassemble {
             notation: Notation::Object { .. },
             ..
+        }
+        | Task::DisassemblePartly {
+            notation: Notation::Object { .. },
+            ..
         } => &[],
         _ => bytes,
     }

@@ -9,6 +9,7 @@ ghost use Rattle.streams.specs.Writing.{AppendsFront};
 
 use crate::answering::answer;
 use crate::auditing::audited;
+use crate::behind::{draw_by, draw_record, retrace_of};
 use crate::explaining::{explained_in, refused, with_explanation};
 use crate::failure::Failure;
 use crate::first_answer::FirstAnswer;
@@ -140,6 +141,13 @@ where
         Ok(FirstAnswer::Audit(campaign, explained)) => {
             audit_of(alloc, &campaign, explained, reported, file, second)
         }
+        Ok(FirstAnswer::Draw(scenario)) => draw_by(alloc, scenario, reported, file, second),
+        Ok(FirstAnswer::DrawRecorded(scenario)) => {
+            draw_record(alloc, &scenario, reported, file, second)
+        }
+        Ok(FirstAnswer::Retrace(scenario)) => {
+            retrace_of(alloc, &scenario, reported, file, second)
+        }
         Err(refusal) => Err(refused(alloc, task, refusal, bytes.as_slice())),
     }
 }
@@ -218,7 +226,7 @@ fn play_by<'a, R: Source>(
 }
 
 /// The schedule of the second file, the empty one where there is none.
-fn scheduled<'a, R: Source>(
+pub(crate) fn scheduled<'a, R: Source>(
     alloc: Global,
     reported: bool,
     file: &'a str,

@@ -36,12 +36,19 @@ pub(crate) fn is_explained(task: &Task) -> bool
     match task {
         Task::Check { explained, .. }
         | Task::Assemble { explained, .. }
-        | Task::Disassemble { explained, .. } => *explained,
+        | Task::AssemblePartly { explained, .. }
+        | Task::Disassemble { explained, .. }
+        | Task::DisassemblePartly { explained, .. } => *explained,
         Task::ExplainDecisions { .. } => true,
         Task::Play { explained, .. }
         | Task::Muster { explained, .. }
         | Task::Audit { explained, .. } => explained.is_some(),
-        Task::Book(_) | Task::Form { .. } | Task::Explore { .. } => false,
+        Task::Book(_)
+        | Task::Form { .. }
+        | Task::Explore { .. }
+        | Task::Tree { .. }
+        | Task::Draw { .. }
+        | Task::Retrace { .. } => false,
     }
 }
 

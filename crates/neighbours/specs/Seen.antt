@@ -3,16 +3,19 @@ use Rattle.std.specs.Prelude.{ℕ, ◌≡◌, ◌⊎◌, Bool, true, false, List
 use Rattle.std.specs.Str.{IsUtf8}
 use Rattle.toml.specs.Parse.{parse_document}
 use Rattle.command_line.specs.declared.tasks.Task.{Task}
-use Rattle.command_line.specs.declared.tasks.Task.TheVariants.{Play, Muster, Audit, Explore}
+use Rattle.command_line.specs.declared.tasks.Task.TheVariants.{Play, Muster, Audit, Explore, Tree, Draw, Retrace}
 use Rattle.references.specs.Names.{File}
 use Rattle.references.specs.Resolved.{Resolves}
 
--- the task's first file is a scenario
+-- the task's first file is a scenario, or may be one
 abbrev pub reads_scenario : Task → Bool
 reads_scenario (Play scenario schedule account explained) = true
 reads_scenario (Muster scenario explained) = true
 reads_scenario (Audit scenario chronicle explained) = true
 reads_scenario (Explore scenario most) = true
+reads_scenario (Tree file general traitors drawing depth folded) = true
+reads_scenario (Draw scenario course) = true
+reads_scenario (Retrace scenario chronicle) = true
 reads_scenario _ = false
 
 -- the bytes are no text, and stay; or the new ones are those in which these files stand, where that is another text

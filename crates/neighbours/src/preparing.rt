@@ -11,15 +11,23 @@ use command_line::Task;
 use references::{Beside, Reference, asked, resolved};
 use std::alloc::{AllocError, Global};
 
-/// Whether the task's first file is a scenario.
+/// Whether the task's first file is a scenario, or may be one.
 pub fn reads_scenario(task: &Task) -> bool
     ensures { result ≡ reads_scenario task.now }
 {
     match task {
-        Task::Play { .. } | Task::Muster { .. } | Task::Audit { .. } | Task::Explore { .. } => true,
+        Task::Play { .. }
+        | Task::Muster { .. }
+        | Task::Audit { .. }
+        | Task::Explore { .. }
+        | Task::Tree { .. }
+        | Task::Draw { .. }
+        | Task::Retrace { .. } => true,
         Task::Check { .. }
         | Task::Assemble { .. }
+        | Task::AssemblePartly { .. }
         | Task::Disassemble { .. }
+        | Task::DisassemblePartly { .. }
         | Task::Book(_)
         | Task::ExplainDecisions { .. }
         | Task::Form { .. } => false,
