@@ -16,6 +16,7 @@ mod printing;
 mod reading;
 mod resolver;
 mod statement;
+mod wording;
 mod written;
 
 pub use assembler::assemble;
@@ -26,4 +27,5 @@ pub use laws::{
     registers_are_numbered,
 };
 pub use printing::put_instruction;
+pub use wording::statements;
 pub use written::places;

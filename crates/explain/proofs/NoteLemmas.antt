@@ -1,5 +1,5 @@
 -- The notes grow with the units, and an instruction starts within the units of all.
-use Rattle.std.proofs.Common.{◌≡◌, ◌∙◌, ℕ, suc, ◌+◌, ◌<◌, List, ◌++◌, Option, Some, ap, append_assoc, arith, length, refl, subst}
+use Rattle.std.proofs.Common.{◌≡◌, ◌∙◌, ℕ, zero, suc, ◌+◌, ◌-◌, ◌<◌, List, [], ◌++◌, Option, Some, ap, append_assoc, arith, length, refl, subst}
 use Rattle.std.specs.Prelude.{IsSome, slice_get}
 use Rattle.insn.specs.declared.insn.Insn.{Insn}
 use Rattle.insn.specs.Program.{slots_of, instruction_at}
@@ -7,19 +7,41 @@ use Rattle.verify.specs.declared.state.AbsState.{AbsState}
 use Rattle.verify.proofs.Edges.{start_inside}
 use Rattle.causes.specs.declared.mark.Mark.{Mark}
 use Rattle.causes.specs.declared.subject.Subject.{Subject}
-use Rattle.causes.specs.Marks.{KnownByUnit, known_by}
-use Rattle.explain.specs.Units.{Places}
-use Rattle.explain.specs.Notes.{note_text, notes_below}
+use Rattle.causes.specs.declared.subject.Subject.TheVariants.{Register}
+use Rattle.causes.specs.Marks.{KnownByUnit, known_by, marks}
+use Rattle.explain.specs.Units.{Writing}
+use Rattle.explain.specs.Notes.{note_text, notes_below, origin_notes}
+use Rattle.explain.specs.Origins.{origin_of, from_origin}
 
 -- one more note
-pub notes_more : (places : Places) (before out new : List ℕ) (program : List Insn) (survey : KnownByUnit) (asked : Subject) (marked : List Mark) (n : ℕ) (insn : Option Insn) (known : Option AbsState) (mark : Option Mark) →
-    insn ≡ instruction_at program n → known ≡ known_by (survey n) → mark ≡ slice_get marked n → out ≡ before ++ notes_below places program survey asked marked n → new ≡ out ++ note_text places asked n insn known mark →
-    new ≡ before ++ notes_below places program survey asked marked (n + 1)
-notes_more places before out new program survey asked marked n insn known mark at here so so_far more =
-    let note : List ℕ = note_text places asked n (instruction_at program n) (known_by (survey n)) (slice_get marked n) in
+pub notes_more : (written : Writing) (before out new : List ℕ) (program : List Insn) (survey : KnownByUnit) (asked : Subject) (marked : List Mark) (n : ℕ) (insn : Option Insn) (known : Option AbsState) (mark : Option Mark) →
+    insn ≡ instruction_at program n → known ≡ known_by (survey n) → mark ≡ slice_get marked n → out ≡ before ++ notes_below written program survey asked marked n → new ≡ out ++ note_text written asked n insn known mark →
+    new ≡ before ++ notes_below written program survey asked marked (n + 1)
+notes_more written before out new program survey asked marked n insn known mark at here so so_far more =
+    let note : List ℕ = note_text written asked n (instruction_at program n) (known_by (survey n)) (slice_get marked n) in
     let next : suc n ≡ n + 1 = omega arith in
-    subst (λ (m : ℕ). new ≡ before ++ notes_below places program survey asked marked m) next
-    (more ∙ ((λ i. out ++ note_text places asked n (at i) (here i) (so i)) ∙ (ap (λ (l : List ℕ). l ++ note) so_far ∙ append_assoc before (notes_below places program survey asked marked n) note)))
+    subst (λ (m : ℕ). new ≡ before ++ notes_below written program survey asked marked m) next
+    (more ∙ ((λ i. out ++ note_text written asked n (at i) (here i) (so i)) ∙ (ap (λ (l : List ℕ). l ++ note) so_far ∙ append_assoc before (notes_below written program survey asked marked n) note)))
 
 pub starts_within : (program : List Insn) (unit : ℕ) (i : Insn) → Some i ≡ instruction_at program unit → unit < length (slots_of program)
 starts_within program unit i at = start_inside program unit (subst (λ (o : Option Insn). IsSome o) at refl)
+
+-- ---- of what it was computed
+
+pub no_origin : (written : Writing) (program : List Insn) (survey : KnownByUnit) (marked : List Mark) (unit most : ℕ) → most ≡ 0 → origin_notes most written program survey marked unit ≡ []
+unfolding origin_notes
+no_origin written program survey marked unit zero e = refl
+no_origin written program survey marked unit (suc n) e = absurd (omega arith)
+
+abbrev pub deeper : ℕ → Writing → List Insn → KnownByUnit → ℕ → ℕ → List ℕ
+deeper most written program survey r place =
+    origin_notes most written program survey (marks program survey (Register r) place) place
+    ++ notes_below written program survey (Register r) (marks program survey (Register r) place) place
+
+pub origin_so : (written : Writing) (program : List Insn) (survey : KnownByUnit) (marked : List Mark) (unit most : ℕ) → 0 < most →
+    origin_notes most written program survey marked unit ≡ from_origin (λ r place. deeper (most - 1) written program survey r place) (origin_of program survey marked unit)
+unfolding origin_notes
+origin_so written program survey marked unit zero e = absurd (omega arith)
+origin_so written program survey marked unit (suc n) e =
+    let same : n ≡ suc n - 1 = omega arith in
+    ap (λ (k : ℕ). from_origin (λ r place. deeper k written program survey r place) (origin_of program survey marked unit)) same

@@ -1,6 +1,6 @@
 //! Which rule of the verifier an instruction meets that leaves a register unknown, or tells nothing of it.
 ghost use Rattle.std.specs.Prelude.{◌≡◌, ◌^◌, ◌-◌};
-ghost use Rattle.explain.specs.Rules.{number_rule, unset_rule, rule_text, is_signed, limit_bits, is_past, passed_by};
+ghost use Rattle.explain.specs.Rules.{number_rule, unset_rule, rule_text, is_signed, limit_bits, is_past, is_operand, passed_by};
 
 use absval::AbsVal;
 use insn::{Insn, Operand, Reg};
@@ -124,6 +124,16 @@ impl fmt::Display for Passing {
     }
 }
 
+/// Whether an operand is a register.
+fn is_operand(r: Reg, operand: Operand) -> bool
+    ensures { result ≡ is_operand r operand }
+{
+    match operand {
+        Operand::Register(src) => src.number() == r.number(),
+        Operand::Immediate(_) => false,
+    }
+}
+
 /// A test of a register that tells nothing of it, or a copy of it, of which another test does not.
 pub(crate) fn passed_by(r: Reg, insn: &Insn, value: AbsVal) -> Option<Passing>
     ensures { result ≡ passed_by r insn.now value }
@@ -133,10 +143,12 @@ pub(crate) fn passed_by(r: Reg, insn: &Insn, value: AbsVal) -> Option<Passing>
             width,
             condition,
             dst,
+            operand,
             ..
         } => {
             let signed = is_signed(*condition);
-            if dst.number() == r.number() && is_past(*width, signed, value) {
+            let tests = dst.number() == r.number() || is_operand(r, *operand);
+            if tests && is_past(*width, signed, value) {
                 return Some(Passing::Test(limit_bits(*width, signed)));
             }
             None
