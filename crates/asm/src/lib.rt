@@ -13,6 +13,7 @@ mod number;
 mod operand;
 mod outline;
 mod printing;
+mod putting;
 mod reading;
 mod resolver;
 mod statement;
@@ -27,5 +28,6 @@ pub use laws::{
     registers_are_numbered,
 };
 pub use printing::put_instruction;
+pub use putting::{put, put_number, put_unsigned};
 pub use wording::statements;
 pub use written::places;

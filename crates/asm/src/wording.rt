@@ -1,5 +1,5 @@
 //! How the units of a program are written in its text.
-ghost use Rattle.std.specs.Prelude.{◌≡◌, ◌++◌, map, string_bytes, IfOk, MatchOption, OnOk, true, false};
+ghost use Rattle.std.specs.Prelude.{◌≡◌, ◌++◌, map, string_bytes, IfOk, MatchOption, Ok, OnOk, Some, true, false};
 ghost use Rattle.std.specs.List.{list_all};
 ghost use Rattle.asm.specs.Places.{for_units, is_visible, line_statements, statement_text, statements_of, word_text};
 ghost use Rattle.asm.specs.Printing.{more_text, operands_text};
@@ -10,6 +10,7 @@ use crate::fault::LineError;
 use crate::kept::{Statement, units};
 use crate::line::next_line;
 use crate::outline::read_outline;
+use crate::putting::put;
 use crate::statement::read_statement;
 use std::alloc::{AllocError, Global};
 
@@ -45,7 +46,7 @@ fn put_word(out: &mut String, word: &[u8]) -> Result<(), AllocError>
     ensures { OnOk result (string_bytes out.new ≡ string_bytes out.old ++ word_text word.now) }
 {
     match visible(word) {
-        Some(text) => out.push_str(text),
+        Some(text) => put(out, text),
         None => Ok(()),
     }
 }
@@ -57,7 +58,7 @@ fn put_more(out: &mut String, operands: &[&[u8]]) -> Result<(), AllocError>
     let [operand, rest @ ..] = operands else {
         return Ok(());
     };
-    out.push_str(", ")?;
+    put(out, ", ")?;
     put_word(out, operand)?;
     put_more(out, rest)
 }
@@ -69,7 +70,7 @@ fn put_operands(out: &mut String, operands: &[&[u8]]) -> Result<(), AllocError>
     let [operand, rest @ ..] = operands else {
         return Ok(());
     };
-    out.push_str(" ")?;
+    put(out, " ")?;
     put_word(out, operand)?;
     put_more(out, rest)
 }
@@ -102,7 +103,7 @@ fn put_units(
     statement: &Statement<'_>,
 ) -> Result<(), AllocError>
     ensures { OnOk result (map string_bytes statements.new.items ≡ map string_bytes statements.old.items
-        ++ for_units (Result.Ok (Option.Some (source_view statement.now))) (statement_text (map (λ w. w.now) words.now))) }
+        ++ for_units (Ok (Some (source_view statement.now))) (statement_text (map (λ w. w.now) words.now))) }
 {
     statements.push(statement_text(alloc, words)?)?;
     if units(statement) == 2 {

@@ -10,7 +10,7 @@ use Rattle.insn.specs.Program.{slots_of}
 use Rattle.insn.proofs.SlotLemmas.{length-slots_of-cons, units_bound, units_some}
 use Rattle.causes.specs.declared.mends.Edit.{Edit}
 use Rattle.causes.specs.declared.mends.Edit.TheVariants.{Before, Instead, Moved}
-use Rattle.causes.specs.Mends.{grown, stretched, wide, put_at, edited, mended}
+use Rattle.causes.specs.Mends.{grown, stretched, put_at, passed, edited, mended}
 
 -- one more instruction
 mended-push : (edit : Edit) (place unit : ℕ) (xs : List Insn) (i : Insn)
@@ -74,7 +74,7 @@ put_few (Moved (Some mask) number pointer) i = omega arith
 pub edited_few : (edit : Edit) (place unit : ℕ) (i : Insn) → length (edited edit place unit i) ≤ 3
 edited_few edit place unit i = by_test (unit == place)
   where
-    by_test : (s : Bool) → length (if s then put_at edit i else (if nat_lt unit place then stretched (grown edit) place unit i else i) ∷ []) ≤ 3
+    by_test : (s : Bool) → length (if s then put_at edit i else passed edit place unit i ∷ []) ≤ 3
     by_test true = put_few edit i
     by_test false = omega arith
 

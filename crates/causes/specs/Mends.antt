@@ -48,9 +48,13 @@ put_at (Before operation dst operand) i = wide operation dst operand ∷ i ∷ [
 put_at (Instead operation dst operand) i = wide operation dst operand ∷ []
 put_at (Moved mask number pointer) i = masked mask number ++ wide Add pointer (Register number) ∷ wide Move number (Register pointer) ∷ []
 
+-- another instruction
+abbrev pub passed : Edit → ℕ → ℕ → Insn → Insn
+passed edit place unit i = if nat_lt unit place then stretched (grown edit) place unit i else i
+
 -- what stands for the instruction of a unit, where the edit is made at a place
 abbrev pub edited : Edit → ℕ → ℕ → Insn → List Insn
-edited edit place unit i = if unit == place then put_at edit i else (if nat_lt unit place then stretched (grown edit) place unit i else i) ∷ []
+edited edit place unit i = if unit == place then put_at edit i else passed edit place unit i ∷ []
 
 -- the instructions from a unit on
 abbrev pub mended : Edit → ℕ → ℕ → List Insn → List Insn

@@ -1,8 +1,8 @@
 //! Programs with other instructions in one's place, and how far the verifier comes in them.
-ghost use Rattle.std.specs.Prelude.{◌≡◌, ◌≤◌, ◌<◌, ◌+◌, ◌++◌, ◌&&◌, ◌+ℤ◌, ◌<ℤ◌, pos, int_lt, length, IfOk, OnOk, IsTrue};
+ghost use Rattle.std.specs.Prelude.{◌≡◌, ◌≤◌, ◌<◌, ◌+◌, ◌++◌, ◌∷◌, [], ◌&&◌, ◌+ℤ◌, ◌<ℤ◌, pos, int_lt, length, IfOk, OnOk, IsTrue};
 ghost use Rattle.insn.specs.Program.{slots_of, most_units};
 ghost use Rattle.verify.specs.Judgement.{judged};
-ghost use Rattle.causes.specs.Mends.{grown, longer, stretched, wide, masked, put_at, edited, mended, comes, tried};
+ghost use Rattle.causes.specs.Mends.{grown, longer, stretched, wide, masked, put_at, passed, edited, mended, comes, tried};
 
 use insn::{Insn, Operand, Program, Reg};
 use std::alloc::{AllocError, Global};
@@ -128,6 +128,14 @@ impl Edit {
     }
 }
 
+/// Adds an instruction.
+fn push_one(insns: &mut Vec<Insn>, insn: Insn) -> Result<(), AllocError>
+    ensures { OnOk result (insns.new.items ≡ insns.old.items ++ insn ∷ []) }
+{
+    insns.extend_from_slice(&[insn])?;
+    Ok(())
+}
+
 /// Adds a mask of a number, if there is one.
 fn push_mask(insns: &mut Vec<Insn>, mask: Option<i32>, number: Reg) -> Result<(), AllocError>
     ensures { OnOk result (insns.new.items ≡ insns.old.items ++ masked mask number) }
@@ -135,8 +143,7 @@ fn push_mask(insns: &mut Vec<Insn>, mask: Option<i32>, number: Reg) -> Result<()
     let Some(mask) = mask else {
         return Ok(());
     };
-    insns.push(operation_of(Operation::And, number, Operand::Immediate(mask)))?;
-    Ok(())
+    push_one(insns, operation_of(Operation::And, number, Operand::Immediate(mask)))
 }
 
 /// Adds a number's move of a pointer, and a copy of it.
@@ -150,9 +157,8 @@ fn push_moved(
     ensures { OnOk result (insns.new.items ≡ insns.old.items ++ put_at (Edit.Moved mask number pointer) insn.now) }
 {
     push_mask(insns, mask, number)?;
-    insns.push(operation_of(Operation::Add, pointer, Operand::Register(number)))?;
-    insns.push(operation_of(Operation::Move, number, Operand::Register(pointer)))?;
-    Ok(())
+    push_one(insns, operation_of(Operation::Add, pointer, Operand::Register(number)))?;
+    push_one(insns, operation_of(Operation::Move, number, Operand::Register(pointer)))
 }
 
 /// Adds what stands for the instruction at the place of an edit.
@@ -161,15 +167,27 @@ fn push_at(insns: &mut Vec<Insn>, edit: &Edit, insn: &Insn) -> Result<(), AllocE
 {
     match edit {
         Edit::Before(operation, dst, operand) => {
-            insns.push(operation_of(*operation, *dst, *operand))?;
-            insns.push(*insn)?;
+            push_one(insns, operation_of(*operation, *dst, *operand))?;
+            push_one(insns, *insn)
         }
         Edit::Instead(operation, dst, operand) => {
-            insns.push(operation_of(*operation, *dst, *operand))?;
+            push_one(insns, operation_of(*operation, *dst, *operand))
         }
-        Edit::Moved(mask, number, pointer) => push_moved(insns, *mask, *number, *pointer, insn)?,
+        Edit::Moved(mask, number, pointer) => push_moved(insns, *mask, *number, *pointer, insn),
     }
-    Ok(())
+}
+
+/// An instruction that stands elsewhere.
+fn passed(edit: &Edit, place: usize, unit: usize, insn: Insn) -> Insn
+    requires unit { unit < 4096 }
+    requires place { place < 4096 }
+    ensures { result ≡ passed edit.now place unit insn }
+{
+    if unit < place {
+        stretched(edit.grown(), place, unit, insn)
+    } else {
+        insn
+    }
 }
 
 /// Adds what stands for an instruction of a program with an edit.
@@ -185,14 +203,10 @@ fn push_edited(
     ensures { OnOk result (insns.new.items ≡ insns.old.items ++ edited edit.now place unit insn.now) }
 {
     if unit == place {
-        return push_at(insns, edit, insn);
-    }
-    if unit < place {
-        insns.push(stretched(edit.grown(), place, unit, *insn))?;
+        push_at(insns, edit, insn)
     } else {
-        insns.push(*insn)?;
+        push_one(insns, passed(edit, place, unit, *insn))
     }
-    Ok(())
 }
 
 /// The instructions of a program with an edit.

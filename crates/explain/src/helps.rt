@@ -3,7 +3,7 @@ ghost use Rattle.std.specs.Prelude.{◌≡◌, ◌<◌, ◌≤◌, ◌++◌, str
 ghost use Rattle.explain.specs.Helps.{masks_of, edits_of, accepted_or, better, best, quoted, mask_text, edit_text, trial_text, told_help, help_on};
 
 use crate::wanted::Choice;
-use asm::put_instruction;
+use asm::{put, put_instruction, put_unsigned};
 use causes::{Edit, Trial, operation_of, tried};
 use insn::{Insn, Operand, Program, Reg};
 use std::alloc::{AllocError, Global};
@@ -110,9 +110,9 @@ fn exchanged(number: Reg, pointer: Reg) -> [Edit; 8]
 fn put_quoted(out: &mut String, insn: &Insn) -> Result<(), AllocError>
     ensures { OnOk result (string_bytes out.new ≡ string_bytes out.old ++ quoted insn.now) }
 {
-    out.push_str("`")?;
+    put(out, "`")?;
     put_instruction(out, insn)?;
-    out.push_str("`")
+    put(out, "`")
 }
 
 /// Adds a mask of a number, if there is one.
@@ -123,7 +123,7 @@ fn put_mask(out: &mut String, mask: Option<i32>, number: Reg) -> Result<(), Allo
         return Ok(());
     };
     put_quoted(out, &operation_of(Operation::And, number, Operand::Immediate(mask)))?;
-    out.push_str(", ")
+    put(out, ", ")
 }
 
 /// Adds the sum of a number and a pointer in the pointer's register.
@@ -137,9 +137,9 @@ fn put_moved(
 {
     put_mask(out, mask, number)?;
     put_quoted(out, &operation_of(Operation::Add, pointer, Operand::Register(number)))?;
-    out.push_str(" and ")?;
+    put(out, " and ")?;
     put_quoted(out, &operation_of(Operation::Move, number, Operand::Register(pointer)))?;
-    out.push_str(" in place of")
+    put(out, " in place of")
 }
 
 /// Adds what is edited.
@@ -149,11 +149,11 @@ fn put_edit(out: &mut String, edit: &Edit) -> Result<(), AllocError>
     match edit {
         Edit::Before(operation, dst, operand) => {
             put_quoted(out, &operation_of(*operation, *dst, *operand))?;
-            out.push_str(" before")
+            put(out, " before")
         }
         Edit::Instead(operation, dst, operand) => {
             put_quoted(out, &operation_of(*operation, *dst, *operand))?;
-            out.push_str(" in place of")
+            put(out, " in place of")
         }
         Edit::Moved(mask, number, pointer) => put_moved(out, *mask, *number, *pointer),
     }
@@ -177,10 +177,11 @@ fn put_help_text(out: &mut String, place: usize, help: Option<Help>) -> Result<(
     let Some((edit, trial)) = help else {
         return Ok(());
     };
-    out.push_str("\nhelp: with ")?;
+    put(out, "\nhelp: with ")?;
     put_edit(out, &edit)?;
-    write!(out, " unit {place}")?;
-    out.push_str(trial_text(trial))
+    put(out, " unit ")?;
+    put_unsigned(out, place as u64)?;
+    put(out, trial_text(trial))
 }
 
 /// Adds the best edit of those that are wanted, if any is.

@@ -10,11 +10,12 @@ use crate::helps::put_help;
 use crate::notes::{put_notes_on, put_number_notes, subject_of};
 use crate::origins::other_number;
 use crate::reads::{Registers, read_by};
+use crate::saying::{put_named, put_sentence_text};
 use crate::sentence::{Sentence, Structure};
 use crate::shortfall::shortfall;
 use crate::units::{Written, put_insn_at};
-use crate::values::Known;
 use crate::wanted::wanted;
+use asm::put;
 use causes::{known_by, left_by, marks, result_of};
 use insn::{Insn, Program, Reg};
 use std::alloc::{AllocError, Global};
@@ -27,9 +28,8 @@ fn put_read(out: &mut String, state: &AbsState, register: Option<Reg>) -> Result
     let Some(r) = register else {
         return Ok(());
     };
-    let known = Known(state.known(r));
-    let r = r.number();
-    write!(out, " ; r{r} {known}")
+    put(out, " ; ")?;
+    put_named(out, r, state.known(r))
 }
 
 /// Adds the registers that are read.
@@ -47,7 +47,7 @@ fn put_known(out: &mut String, insn: &Insn, state: Option<&AbsState>) -> Result<
     ensures { OnOk result (string_bytes out.new ≡ string_bytes out.old ++ known_text insn.now (option_map (λ a. a.now) state.entry)) }
 {
     match state {
-        None => out.push_str(" ; no way leads here"),
+        None => put(out, " ; no way leads here"),
         Some(state) => {
             put_reads(out, state, read_by(insn))?;
             put_cells_read(out, insn, state)
@@ -64,7 +64,7 @@ fn put_place(
 ) -> Result<(), AllocError>
     ensures { OnOk result (string_bytes out.new ≡ string_bytes out.old ++ place_text (written_in written.now) unit insn.now) }
 {
-    out.push_str("\n")?;
+    put(out, "\n")?;
     put_insn_at(out, written, unit, insn)
 }
 
@@ -89,9 +89,8 @@ fn put_result(out: &mut String, register: Option<Reg>, left: &AbsState) -> Resul
     let Some(r) = register else {
         return Ok(());
     };
-    let known = Known(left.known(r));
-    let r = r.number();
-    write!(out, " -> r{r} {known}")
+    put(out, " -> ")?;
+    put_named(out, r, left.known(r))
 }
 
 /// Adds what is known of the result of an instruction that may run.
@@ -230,7 +229,8 @@ fn put_sentence(
     ensures { OnOk result (string_bytes out.new ≡ string_bytes out.old ++ sentence_line (written_in written.now) unit insn.now sentence) }
 {
     put_place(out, written, unit, insn)?;
-    write!(out, ": {sentence}")
+    put(out, ": ")?;
+    put_sentence_text(out, sentence)
 }
 
 /// Adds where what a sentence is about comes from, and an edit that mends it.

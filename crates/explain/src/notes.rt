@@ -6,9 +6,11 @@ ghost use Rattle.insn.specs.Program.{slots_of};
 
 use crate::cells::put_run;
 use crate::origins::origin_of;
-use crate::rules::{Passing, passed_by, rule_text};
-use crate::sentence::{Access, Misfit, Misuse, Named, Sentence};
+use crate::rules::{Passing, passed_by, put_tells, rule_text};
+use crate::saying::put_named;
+use crate::sentence::{Access, Misfit, Misuse, Sentence};
 use crate::units::{Written, put_insn_at};
+use asm::put;
 use causes::{Mark, Subject, held_at, known_by, left_by, marks, numbered};
 use insn::{Insn, Program, Reg};
 use std::alloc::{AllocError, Global};
@@ -68,10 +70,7 @@ fn put_found(out: &mut String, asked: &Subject, state: &AbsState) -> Result<(), 
     ensures { OnOk result (string_bytes out.new ≡ string_bytes out.old ++ found_text asked.now state.now) }
 {
     match asked {
-        Subject::Register(r) => {
-            let named = Named(*r, state.known(*r));
-            write!(out, "{named}")
-        }
+        Subject::Register(r) => put_named(out, *r, state.known(*r)),
         Subject::Cell(cell) => {
             let place = usize::from(*cell);
             put_run(out, place, place + 1, held_at(&state.stack, place))
@@ -88,7 +87,7 @@ fn put_noted(
 ) -> Result<(), AllocError>
     ensures { OnOk result (string_bytes out.new ≡ string_bytes out.old ++ noted_text (written_in written.now) unit insn.now) }
 {
-    out.push_str("\nnote: ")?;
+    put(out, "\nnote: ")?;
     put_insn_at(out, written, unit, insn)
 }
 
@@ -102,7 +101,7 @@ fn put_rule(
     ensures { OnOk result (string_bytes out.new ≡ string_bytes out.old ++ rule_behind asked.now insn.now left.now) }
 {
     match asked {
-        Subject::Register(r) => out.push_str(rule_text(insn, left.known(*r))),
+        Subject::Register(r) => put(out, rule_text(insn, left.known(*r))),
         Subject::Cell(_) => Ok(()),
     }
 }
@@ -120,7 +119,7 @@ fn put_set(
 {
     let left = left_by(insn, state);
     put_noted(out, written, unit, insn)?;
-    out.push_str(" -> ")?;
+    put(out, " -> ")?;
     put_found(out, asked, &left)?;
     put_rule(out, asked, insn, &left)
 }
@@ -139,7 +138,7 @@ fn put_if(
         return Ok(());
     };
     put_noted(out, written, unit, insn)?;
-    write!(out, "{tells}")
+    put_tells(out, tells)
 }
 
 /// Adds an instruction on a way there that tells nothing of it.
@@ -220,7 +219,7 @@ fn put_entry(
     let Some(Mark::Open) = mark else {
         return Ok(());
     };
-    out.push_str("\nnote: at the entry ")?;
+    put(out, "\nnote: at the entry ")?;
     put_found(out, asked, state)
 }
 

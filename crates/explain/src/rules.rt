@@ -1,10 +1,11 @@
 //! Which rule of the verifier an instruction meets that leaves a register unknown, or tells nothing of it.
-ghost use Rattle.std.specs.Prelude.{◌≡◌, ◌^◌, ◌-◌};
-ghost use Rattle.explain.specs.Rules.{number_rule, unset_rule, rule_text, is_signed, limit_bits, is_past, is_operand, passed_by};
+ghost use Rattle.std.specs.Prelude.{◌≡◌, ◌^◌, ◌-◌, ◌++◌, string_bytes, OnOk};
+ghost use Rattle.explain.specs.Rules.{number_rule, unset_rule, rule_text, is_signed, limit_bits, is_past, is_operand, passed_by, passing_text};
 
 use absval::AbsVal;
+use asm::{put, put_unsigned};
 use insn::{Insn, Operand, Reg};
-use std::fmt;
+use std::alloc::AllocError;
 use word::{Condition, Operation, Width};
 
 /// Of one that left a number.
@@ -102,24 +103,22 @@ pub(crate) enum Passing {
     Copied(Reg),
 }
 
-impl fmt::Display for Passing {
-    ghost use Rattle.std.specs.Prelude.{Some};
-    ghost use Rattle.explain.specs.Rules.{passing_text};
-
-    ghost output = { λ tells. Some (passing_text tells) };
-
-    fn fmt<W: fmt::Write>(&self, f: &mut fmt::Formatter<W>) -> fmt::Result {
-        match *self {
-            Passing::Test(bits) => {
-                write!(
-                    f,
-                    ": such a test tells only of numbers that are known to be below 2^{bits}"
-                )
-            }
-            Passing::Copied(dst) => {
-                let dst = dst.number();
-                write!(f, ": what is tested of r{dst} is not known of it")
-            }
+/// Adds what such an instruction tells nothing of.
+pub(crate) fn put_tells(out: &mut String, tells: Passing) -> Result<(), AllocError>
+    ensures { OnOk result (string_bytes out.new ≡ string_bytes out.old ++ passing_text tells) }
+{
+    match tells {
+        Passing::Test(bits) => {
+            put(
+                out,
+                ": such a test tells only of numbers that are known to be below 2^",
+            )?;
+            put_unsigned(out, u64::from(bits))
+        }
+        Passing::Copied(dst) => {
+            put(out, ": what is tested of r")?;
+            put_unsigned(out, u64::from(dst.number()))?;
+            put(out, " is not known of it")
         }
     }
 }

@@ -2,7 +2,7 @@
 ghost use Rattle.std.specs.Prelude.{◌≡◌, ◌++◌, slice_get, string_bytes, OnOk};
 ghost use Rattle.explain.specs.Units.{in_brackets, insn_at, statement_text, text_or_none, unit_text, written_in};
 
-use asm::put_instruction;
+use asm::{put, put_instruction, put_unsigned};
 use insn::Insn;
 use std::alloc::AllocError;
 
@@ -32,14 +32,16 @@ fn put_in_brackets(out: &mut String, place: &str) -> Result<(), AllocError>
     if place.is_empty() {
         return Ok(());
     }
-    write!(out, " ({place})")
+    put(out, " (")?;
+    put(out, place)?;
+    put(out, ")")
 }
 
 /// Adds a unit and, where that is known, its place in the text that it was written in.
 fn put_unit_text(out: &mut String, written: &Written<'_>, unit: usize) -> Result<(), AllocError>
     ensures { OnOk result (string_bytes out.new ≡ string_bytes out.old ++ unit_text (written_in written.now) unit) }
 {
-    write!(out, "{unit}")?;
+    put_unsigned(out, unit as u64)?;
     put_in_brackets(out, text_of(written.places, unit))
 }
 
@@ -50,7 +52,7 @@ fn put_statement(out: &mut String, statement: &str, insn: &Insn) -> Result<(), A
     if statement.is_empty() {
         return put_instruction(out, insn);
     }
-    out.push_str(statement)
+    put(out, statement)
 }
 
 /// Adds a unit and its instruction.
@@ -63,6 +65,6 @@ pub(crate) fn put_insn_at(
     ensures { OnOk result (string_bytes out.new ≡ string_bytes out.old ++ insn_at (written_in written.now) unit insn.now) }
 {
     put_unit_text(out, written, unit)?;
-    out.push_str(" ")?;
+    put(out, " ")?;
     put_statement(out, text_of(written.statements, unit), insn)
 }
