@@ -12,12 +12,25 @@ use word::Operation;
 /// An edit, and how far the verifier comes with it.
 type Help = (Edit, Trial);
 
-/// The masks of a number, the widest first, before an instruction.
+/// A mask of a number before an instruction.
+fn mask(r: Reg, bits: i32) -> Edit
+    ensures { result ≡ Edit.Before Operation.And r (Operand.Immediate bits) }
+{
+    Edit::Before(Operation::And, r, Operand::Immediate(bits))
+}
+
+/// The masks of a number, the widest first.
 fn masks_of(r: Reg) -> [Edit; 6]
     ensures { result ≡ masks_of r }
 {
-    let mask = |bits| Edit::Before(Operation::And, r, Operand::Immediate(bits));
-    [mask(63), mask(31), mask(15), mask(7), mask(3), mask(1)]
+    [
+        mask(r, 63),
+        mask(r, 31),
+        mask(r, 15),
+        mask(r, 7),
+        mask(r, 3),
+        mask(r, 1),
+    ]
 }
 
 /// A later edit with which the program is accepted, else this one.
@@ -93,16 +106,15 @@ fn best_of(
 fn exchanged(number: Reg, pointer: Reg) -> [Edit; 8]
     ensures { result ≡ edits_of (Choice.Exchanged number pointer) }
 {
-    let moved = |mask| Edit::Moved(mask, number, pointer);
     [
         Edit::Instead(Operation::Add, pointer, Operand::Register(number)),
-        moved(None),
-        moved(Some(63)),
-        moved(Some(31)),
-        moved(Some(15)),
-        moved(Some(7)),
-        moved(Some(3)),
-        moved(Some(1)),
+        Edit::Moved(None, number, pointer),
+        Edit::Moved(Some(63), number, pointer),
+        Edit::Moved(Some(31), number, pointer),
+        Edit::Moved(Some(15), number, pointer),
+        Edit::Moved(Some(7), number, pointer),
+        Edit::Moved(Some(3), number, pointer),
+        Edit::Moved(Some(1), number, pointer),
     ]
 }
 
