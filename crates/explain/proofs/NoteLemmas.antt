@@ -1,5 +1,5 @@
 -- The notes grow with the units, and an instruction starts within the units of all.
-use Rattle.std.proofs.Common.{◌≡◌, ◌∙◌, ℕ, zero, suc, ◌+◌, ◌-◌, ◌<◌, List, [], ◌++◌, Option, Some, ap, append_assoc, arith, length, refl, subst}
+use Rattle.std.proofs.Common.{◌≡◌, ◌∙◌, ℕ, zero, suc, ◌+◌, ◌-◌, ◌<◌, List, [], ◌++◌, Option, Some, None, ap, append_assoc, append-nil, arith, length, refl, subst, sym}
 use Rattle.std.specs.Prelude.{IsSome, slice_get}
 use Rattle.insn.specs.declared.insn.Insn.{Insn}
 use Rattle.insn.specs.Program.{slots_of, instruction_at}
@@ -45,3 +45,26 @@ origin_so written program survey marked unit zero e = absurd (omega arith)
 origin_so written program survey marked unit (suc n) e =
     let same : n ≡ suc n - 1 = omega arith in
     ap (λ (k : ℕ). from_origin (λ r place. deeper k written program survey r place) (origin_of program survey marked unit)) same
+
+pub none_noted : (written : Writing) (out : List ℕ) (program : List Insn) (survey : KnownByUnit) (marked : List Mark) (unit most : ℕ) → most ≡ 0 → out ≡ out ++ origin_notes most written program survey marked unit
+none_noted written out program survey marked unit most e = sym (append-nil out) ∙ ap (λ (l : List ℕ). out ++ l) (sym (no_origin written program survey marked unit most e))
+
+pub nothing_more : (written : Writing) (out : List ℕ) (program : List Insn) (survey : KnownByUnit) (marked : List Mark) (unit most : ℕ) → 0 < most → None ≡ origin_of program survey marked unit →
+    out ≡ out ++ origin_notes most written program survey marked unit
+nothing_more written out program survey marked unit most some none =
+    let ends : origin_notes most written program survey marked unit ≡ [] =
+    origin_so written program survey marked unit most some ∙ ap (λ (o : Option (ℕ × ℕ)). from_origin (λ r place. deeper (most - 1) written program survey r place) o) (sym none) in
+    sym (append-nil out) ∙ ap (λ (l : List ℕ). out ++ l) (sym ends)
+
+pub origins_more : (written : Writing) (out middle last : List ℕ) (program : List Insn) (survey : KnownByUnit) (marked items shown : List Mark) (unit r place most : ℕ) → 0 < most →
+    Some (r, place) ≡ origin_of program survey marked unit → items ≡ marks program survey (Register r) place → shown ≡ items → middle ≡ out ++ origin_notes (most - 1) written program survey shown place →
+    last ≡ middle ++ notes_below written program survey (Register r) shown place → last ≡ out ++ origin_notes most written program survey marked unit
+origins_more written out middle last program survey marked items shown unit r place most some found all same before more =
+    let first : shown ≡ marks program survey (Register r) place = same ∙ all in
+    let own : List ℕ = origin_notes (most - 1) written program survey shown place in
+    let below : List ℕ = notes_below written program survey (Register r) shown place in
+    let parts : last ≡ out ++ (own ++ below) = more ∙ (ap (λ (l : List ℕ). l ++ below) before ∙ append_assoc out own below) in
+    let there : last ≡ out ++ deeper (most - 1) written program survey r place =
+    parts ∙ λ k. out ++ (origin_notes (most - 1) written program survey (first k) place ++ notes_below written program survey (Register r) (first k) place) in
+    subst (λ (o : Option (ℕ × ℕ)). last ≡ out ++ from_origin (λ r place. deeper (most - 1) written program survey r place) o) found there
+    ∙ ap (λ (l : List ℕ). out ++ l) (sym (origin_so written program survey marked unit most some))

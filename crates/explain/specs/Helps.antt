@@ -138,18 +138,20 @@ best program place unit (edit ∷ edits) = better edit (tried edit place program
 
 -- ---- text
 
-abbrev pub quoted : Insn → List ℕ
+unfoldable pub quoted : Insn → List ℕ
 quoted i = codes "`" ++ insn_text i ++ codes "`"
 
 abbrev pub mask_text : Option ℤ → ℕ → List ℕ
 mask_text None number = []
 mask_text (Some mask) number = quoted (wide And number (Immediate mask)) ++ codes ", "
 
+unfoldable pub sum_text : ℕ → ℕ → List ℕ
+sum_text number pointer = quoted (wide Add pointer (Register number)) ++ codes " and " ++ quoted (wide Move number (Register pointer))
+
 abbrev pub edit_text : Edit → List ℕ
 edit_text (Before operation dst operand) = quoted (wide operation dst operand) ++ codes " before"
 edit_text (Instead operation dst operand) = quoted (wide operation dst operand) ++ codes " in place of"
-edit_text (Moved mask number pointer) =
-    mask_text mask number ++ quoted (wide Add pointer (Register number)) ++ codes " and " ++ quoted (wide Move number (Register pointer)) ++ codes " in place of"
+edit_text (Moved mask number pointer) = mask_text mask number ++ sum_text number pointer ++ codes " in place of"
 
 abbrev pub trial_text : Trial → List ℕ
 trial_text Accepted = codes " the program is accepted"

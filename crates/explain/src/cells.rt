@@ -1,9 +1,10 @@
 //! Cells of the stack that are read, as text.
 ghost use Rattle.std.specs.Prelude.{◌≡◌, ◌≤◌, ◌+◌, ◌-ℤ◌, ◌++◌, pos, IfSome, OnOk, string_bytes};
 ghost use Rattle.semantics.specs.Call.{helper_of};
-ghost use Rattle.explain.specs.Cells.{content_text, cells_text, run_text, ended_text, runs_text, of_cells, of_window, of_reach, is_row, reads_cells, cells_read};
+ghost use Rattle.explain.specs.Cells.{content_text, cells_text, last_text, run_text, ended_text, runs_text, of_cells, of_window, of_reach, is_row, reads_cells, cells_read};
 
 use crate::reach::{Reach, reach_of};
+use crate::saying::put_signed_between;
 use crate::values::region_name;
 use absmem::AbsStack;
 use absval::{AbsVal, Window, window_of};
@@ -31,6 +32,18 @@ fn put_content(out: &mut String, content: Content) -> Result<(), AllocError>
     }
 }
 
+/// Adds the last of two offsets, if it is another.
+#[tactic(auto, unfolding(crate::specs::Cells::last_text))]
+fn put_last(out: &mut String, first: i64, last: i64) -> Result<(), AllocError>
+    ensures { OnOk result (string_bytes out.new ≡ string_bytes out.old ++ last_text first last) }
+{
+    if first == last {
+        put(out, "]")
+    } else {
+        put_signed_between(out, "..", last, "]")
+    }
+}
+
 /// Adds cells of the stack by their offsets.
 #[tactic(auto, unfolding(crate::specs::Cells::cells_text))]
 fn put_offsets(out: &mut String, first: i64, last: i64) -> Result<(), AllocError>
@@ -38,12 +51,7 @@ fn put_offsets(out: &mut String, first: i64, last: i64) -> Result<(), AllocError
 {
     put(out, "[")?;
     put_number(out, first)?;
-    if first == last {
-        return put(out, "]");
-    }
-    put(out, "..")?;
-    put_number(out, last)?;
-    put(out, "]")
+    put_last(out, first, last)
 }
 
 /// How far a cell lies from the end of the stack.

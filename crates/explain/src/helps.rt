@@ -1,6 +1,6 @@
 //! Edits that mend a refusal, as helps.
 ghost use Rattle.std.specs.Prelude.{◌≡◌, ◌<◌, ◌≤◌, ◌++◌, string_bytes, IfOk, IfSome, OnOk};
-ghost use Rattle.explain.specs.Helps.{masks_of, edits_of, accepted_or, better, best, quoted, mask_text, edit_text, trial_text, told_help, help_on};
+ghost use Rattle.explain.specs.Helps.{masks_of, edits_of, accepted_or, better, best, quoted, mask_text, sum_text, edit_text, trial_text, told_help, help_on};
 
 use crate::wanted::Choice;
 use asm::{put, put_instruction, put_unsigned};
@@ -92,14 +92,26 @@ fn best_of(
     match wanted {
         Choice::Mask(r) => best(alloc, program, place, unit, &masks_of(r)),
         Choice::One(edit) => best(alloc, program, place, unit, &[edit]),
-        Choice::Either(edit, r) => {
-            let [a, b, c, d, e, f] = masks_of(r);
-            best(alloc, program, place, unit, &[edit, a, b, c, d, e, f])
-        }
+        Choice::Either(edit, r) => best(alloc, program, place, unit, &either(edit, r)),
         Choice::Exchanged(number, pointer) => {
             best(alloc, program, place, unit, &exchanged(number, pointer))
         }
     }
+}
+
+/// An edit, else a mask.
+fn either(edit: Edit, r: Reg) -> [Edit; 7]
+    ensures { result ≡ edits_of (Choice.Either edit r) }
+{
+    [
+        edit,
+        mask(r, 63),
+        mask(r, 31),
+        mask(r, 15),
+        mask(r, 7),
+        mask(r, 3),
+        mask(r, 1),
+    ]
 }
 
 /// The sum of a number and a pointer in the pointer's register: alone, with its copy, and of a masked number.
@@ -119,6 +131,7 @@ fn exchanged(number: Reg, pointer: Reg) -> [Edit; 8]
 }
 
 /// Adds an instruction between quotes.
+#[tactic(auto, unfolding(crate::specs::Helps::quoted))]
 fn put_quoted(out: &mut String, insn: &Insn) -> Result<(), AllocError>
     ensures { OnOk result (string_bytes out.new ≡ string_bytes out.old ++ quoted insn.now) }
 {
@@ -138,7 +151,17 @@ fn put_mask(out: &mut String, mask: Option<i32>, number: Reg) -> Result<(), Allo
     put(out, ", ")
 }
 
-/// Adds the sum of a number and a pointer in the pointer's register.
+/// Adds the sum of a number and a pointer in the pointer's register, and its copy.
+#[tactic(auto, unfolding(crate::specs::Helps::sum_text))]
+fn put_sum(out: &mut String, number: Reg, pointer: Reg) -> Result<(), AllocError>
+    ensures { OnOk result (string_bytes out.new ≡ string_bytes out.old ++ sum_text number pointer) }
+{
+    put_quoted(out, &operation_of(Operation::Add, pointer, Operand::Register(number)))?;
+    put(out, " and ")?;
+    put_quoted(out, &operation_of(Operation::Move, number, Operand::Register(pointer)))
+}
+
+/// Adds a number's move of a pointer.
 fn put_moved(
     out: &mut String,
     mask: Option<i32>,
@@ -148,9 +171,7 @@ fn put_moved(
     ensures { OnOk result (string_bytes out.new ≡ string_bytes out.old ++ edit_text (Edit.Moved mask number pointer)) }
 {
     put_mask(out, mask, number)?;
-    put_quoted(out, &operation_of(Operation::Add, pointer, Operand::Register(number)))?;
-    put(out, " and ")?;
-    put_quoted(out, &operation_of(Operation::Move, number, Operand::Register(pointer)))?;
+    put_sum(out, number, pointer)?;
     put(out, " in place of")
 }
 

@@ -260,7 +260,6 @@ fn put_notes_below(
 }
 
 /// Before them those of what it was computed of, so many times at most.
-#[tactic(auto, using(crate::proofs::NoteLemmas::no_origin, crate::proofs::NoteLemmas::origin_so))]
 fn put_origin_notes(
     alloc: Global,
     out: &mut String,
@@ -282,18 +281,18 @@ fn put_origin_notes(
     };
     let asked = Subject::Register(r);
     let deeper = marks(alloc, program, states, &asked, place)?;
-    let deeper = deeper.as_slice();
+    let shown = deeper.as_slice();
     put_origin_notes(
         alloc,
         out,
         written,
         program,
         states,
-        deeper,
+        shown,
         place,
         most - 1,
     )?;
-    put_notes_below(out, written, program, states, &asked, deeper, place)
+    put_notes_below(out, written, program, states, &asked, shown, place)
 }
 
 /// Adds where what is asked about at a unit comes from, with its marks.

@@ -85,7 +85,13 @@ fn origin_at(unit: usize, insn: Option<Insn>, state: Option<&AbsState>) -> Optio
     ensures origin { result ≡ origin_at unit insn (option_map (λ a. a.now) state.entry) }
     ensures there { IfSome result (λ origin. origin.1 ≡ unit) }
 {
-    let r = computed_of(&insn?, state?)?;
+    let Some(insn) = insn else {
+        return None;
+    };
+    let Some(state) = state else {
+        return None;
+    };
+    let r = computed_of(&insn, state)?;
     Some((r, unit))
 }
 

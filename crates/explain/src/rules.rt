@@ -2,8 +2,8 @@
 ghost use Rattle.std.specs.Prelude.{◌≡◌, ◌^◌, ◌-◌, ◌++◌, string_bytes, OnOk};
 ghost use Rattle.explain.specs.Rules.{number_rule, unset_rule, rule_text, is_signed, limit_bits, is_past, is_operand, passed_by, passing_text};
 
+use crate::saying::{put_between, put_counted};
 use absval::AbsVal;
-use asm::{put, put_unsigned};
 use insn::{Insn, Operand, Reg};
 use std::alloc::AllocError;
 use word::{Condition, Operation, Width};
@@ -108,18 +108,17 @@ pub(crate) fn put_tells(out: &mut String, tells: Passing) -> Result<(), AllocErr
     ensures { OnOk result (string_bytes out.new ≡ string_bytes out.old ++ passing_text tells) }
 {
     match tells {
-        Passing::Test(bits) => {
-            put(
-                out,
-                ": such a test tells only of numbers that are known to be below 2^",
-            )?;
-            put_unsigned(out, u64::from(bits))
-        }
-        Passing::Copied(dst) => {
-            put(out, ": what is tested of r")?;
-            put_unsigned(out, u64::from(dst.number()))?;
-            put(out, " is not known of it")
-        }
+        Passing::Test(bits) => put_counted(
+            out,
+            ": such a test tells only of numbers that are known to be below 2^",
+            u64::from(bits),
+        ),
+        Passing::Copied(dst) => put_between(
+            out,
+            ": what is tested of r",
+            u64::from(dst.number()),
+            " is not known of it",
+        ),
     }
 }
 

@@ -1,11 +1,13 @@
 //! Why a program is refused, as text.
 ghost use Rattle.std.specs.Prelude.{◌≡◌, ◌++◌, codes, decimal, string_bytes, OnOk};
-ghost use Rattle.explain.specs.Sentences.{leads_text, structure_text, place_text, reached_text, would_text, named_text, limit_text, misuse_text, extent_text, access_text, helper_text, misfit_text, sentence_text};
+ghost use Rattle.std.specs.Fmt.{signed_decimal};
+ghost use Rattle.explain.specs.Sentences.{leads_text, structure_text, place_text, reached_text, would_text, named_text, limit_text, misuse_text, extent_text, access_text, helper_text, above_text, pointer_text, past_text, misfit_text, sentence_text};
 
 use crate::sentence::{Access, Misfit, Misuse, Sentence, Structure};
 use crate::values::{Span, put_known, put_span, region_name};
 use absval::AbsVal;
 use asm::{put, put_number, put_unsigned};
+use causes::numbered;
 use helper::Helper;
 use insn::Reg;
 use semantics::Region;
@@ -36,13 +38,63 @@ fn put_so(out: &mut String, r: Reg, value: AbsVal, text: &str) -> Result<(), All
     put(out, text)
 }
 
-/// Adds where a jump leads, and a text.
+/// Adds a text and a number.
+pub(crate) fn put_counted(out: &mut String, text: &str, number: u64) -> Result<(), AllocError>
+    ensures { OnOk result (string_bytes out.new ≡ string_bytes out.old ++ (text.now ++ decimal number)) }
+{
+    put(out, text)?;
+    put_unsigned(out, number)
+}
+
+/// Adds a text and a number of either sign.
+fn put_signed(out: &mut String, text: &str, number: i64) -> Result<(), AllocError>
+    ensures { OnOk result (string_bytes out.new ≡ string_bytes out.old ++ (text.now ++ signed_decimal number)) }
+{
+    put(out, text)?;
+    put_number(out, number)
+}
+
+/// Adds a number between two texts.
+pub(crate) fn put_between(
+    out: &mut String,
+    front: &str,
+    number: u64,
+    behind: &str,
+) -> Result<(), AllocError>
+    ensures { OnOk result (string_bytes out.new ≡ string_bytes out.old ++ (front.now ++ decimal number ++ behind.now)) }
+{
+    put(out, front)?;
+    put_unsigned(out, number)?;
+    put(out, behind)
+}
+
+/// The same of a number of either sign.
+pub(crate) fn put_signed_between(
+    out: &mut String,
+    front: &str,
+    number: i64,
+    behind: &str,
+) -> Result<(), AllocError>
+    ensures { OnOk result (string_bytes out.new ≡ string_bytes out.old ++ (front.now ++ signed_decimal number ++ behind.now)) }
+{
+    put(out, front)?;
+    put_number(out, number)?;
+    put(out, behind)
+}
+
+/// Adds where a jump leads.
 #[tactic(auto, unfolding(crate::specs::Sentences::leads_text))]
+fn put_target(out: &mut String, to: i64) -> Result<(), AllocError>
+    ensures { OnOk result (string_bytes out.new ≡ string_bytes out.old ++ leads_text to) }
+{
+    put_signed(out, "the jump leads to unit ", to)
+}
+
+/// The same, and a text.
 fn put_leads(out: &mut String, to: i64, text: &str) -> Result<(), AllocError>
     ensures { OnOk result (string_bytes out.new ≡ string_bytes out.old ++ (leads_text to ++ text.now)) }
 {
-    put(out, "the jump leads to unit ")?;
-    put_number(out, to)?;
+    put_target(out, to)?;
     put(out, text)
 }
 
@@ -96,17 +148,32 @@ fn limit(high: i64) -> &'static str
     if high > 65_536 { "65536" } else { "-65536" }
 }
 
-/// Adds that a register would point too far.
+/// Adds that a register would point.
 #[tactic(auto, unfolding(crate::specs::Sentences::would_text))]
-fn put_far(out: &mut String, r: Reg, region: Region, span: Span) -> Result<(), AllocError>
-    ensures { OnOk result (string_bytes out.new ≡ string_bytes out.old ++ misuse_text (Misuse.Far r region span)) }
+fn put_would(out: &mut String, r: Reg) -> Result<(), AllocError>
+    ensures { OnOk result (string_bytes out.new ≡ string_bytes out.old ++ would_text r) }
 {
     put_register(out, r)?;
-    put(out, " would point")?;
-    put(out, " into ")?;
+    put(out, " would point")
+}
+
+/// Adds a part of a region, and how far a pointer may point.
+#[tactic(auto, unfolding(crate::specs::Sentences::past_text))]
+fn put_past(out: &mut String, region: Region, span: Span) -> Result<(), AllocError>
+    ensures { OnOk result (string_bytes out.new ≡ string_bytes out.old ++ past_text region span) }
+{
     put_part(out, region, span)?;
     put(out, ", past ")?;
     put(out, limit(span.high))
+}
+
+/// Adds that a register would point too far.
+fn put_far(out: &mut String, r: Reg, region: Region, span: Span) -> Result<(), AllocError>
+    ensures { OnOk result (string_bytes out.new ≡ string_bytes out.old ++ misuse_text (Misuse.Far r region span)) }
+{
+    put_would(out, r)?;
+    put(out, " into ")?;
+    put_past(out, region, span)
 }
 
 /// Adds that a pointer is stored, and not whole.
@@ -160,9 +227,7 @@ fn put_misuse(out: &mut String, misuse: Misuse) -> Result<(), AllocError>
             put_so(out, r, value, ": memory is reached by a pointer only")
         }
         Misuse::Exit(value) => {
-            put(out, "r0 ")?;
-            put_known(out, value)?;
-            put(out, ": a program ends with a number")
+            put_so(out, numbered(0), value, ": a program ends with a number")
         }
     }
 }
@@ -213,21 +278,22 @@ fn helper_name(helper: Helper) -> &'static str
     }
 }
 
-/// Adds that a helper takes a lesser number.
-fn put_above(
-    out: &mut String,
-    helper: Helper,
-    r: Reg,
-    value: AbsVal,
-    most: u64,
-) -> Result<(), AllocError>
-    ensures { OnOk result (string_bytes out.new ≡ string_bytes out.old ++ misfit_text (Misfit.Above helper r value most)) }
+/// Adds up to which number a helper takes one.
+#[tactic(auto, unfolding(crate::specs::Sentences::above_text))]
+fn put_above(out: &mut String, helper: Helper, most: u64) -> Result<(), AllocError>
+    ensures { OnOk result (string_bytes out.new ≡ string_bytes out.old ++ above_text helper most) }
 {
-    put_so(out, r, value, ": ")?;
     put(out, helper_name(helper))?;
-    put(out, " takes a number up to ")?;
-    put_unsigned(out, most)?;
-    put(out, " there")
+    put_between(out, " takes a number up to ", most, " there")
+}
+
+/// Adds that a helper takes a pointer.
+#[tactic(auto, unfolding(crate::specs::Sentences::pointer_text))]
+fn put_pointer(out: &mut String, helper: Helper) -> Result<(), AllocError>
+    ensures { OnOk result (string_bytes out.new ≡ string_bytes out.old ++ pointer_text helper) }
+{
+    put(out, helper_name(helper))?;
+    put(out, " takes a pointer there")
 }
 
 /// Adds what a call asks.
@@ -236,20 +302,28 @@ fn put_misfit(out: &mut String, misfit: Misfit) -> Result<(), AllocError>
 {
     match misfit {
         Misfit::Helper(number) => {
-            put(out, "no helper has the number ")?;
-            put_number(out, i64::from(number))?;
-            put(out, ": they are 1 to 11")
+            put_signed_between(
+                out,
+                "no helper has the number ",
+                i64::from(number),
+                ": they are 1 to 11",
+            )
         }
-        Misfit::Above(helper, r, value, most) => put_above(out, helper, r, value, most),
+        Misfit::Above(helper, r, value, most) => {
+            put_so(out, r, value, ": ")?;
+            put_above(out, helper, most)
+        }
         Misfit::NoPointer(helper, r, value) => {
             put_so(out, r, value, ": ")?;
-            put(out, helper_name(helper))?;
-            put(out, " takes a pointer there")
+            put_pointer(out, helper)
         }
         Misfit::Board(sum) => {
-            put(out, "r1 and r3 together may be ")?;
-            put_unsigned(out, sum)?;
-            put(out, ", and the board has 64 words")
+            put_between(
+                out,
+                "r1 and r3 together may be ",
+                sum,
+                ", and the board has 64 words",
+            )
         }
     }
 }
