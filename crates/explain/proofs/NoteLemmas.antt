@@ -56,15 +56,15 @@ nothing_more written out program survey marked unit most some none =
     origin_so written program survey marked unit most some ∙ ap (λ (o : Option (ℕ × ℕ)). from_origin (λ r place. deeper (most - 1) written program survey r place) o) (sym none) in
     sym (append-nil out) ∙ ap (λ (l : List ℕ). out ++ l) (sym ends)
 
-pub origins_more : (written : Writing) (out middle last : List ℕ) (program : List Insn) (survey : KnownByUnit) (marked items shown : List Mark) (unit r place most : ℕ) → 0 < most →
-    Some (r, place) ≡ origin_of program survey marked unit → items ≡ marks program survey (Register r) place → shown ≡ items → middle ≡ out ++ origin_notes (most - 1) written program survey shown place →
-    last ≡ middle ++ notes_below written program survey (Register r) shown place → last ≡ out ++ origin_notes most written program survey marked unit
-origins_more written out middle last program survey marked items shown unit r place most some found all same before more =
-    let first : shown ≡ marks program survey (Register r) place = same ∙ all in
-    let own : List ℕ = origin_notes (most - 1) written program survey shown place in
-    let below : List ℕ = notes_below written program survey (Register r) shown place in
+pub origins_more : (written : Writing) (out middle last : List ℕ) (program : List Insn) (survey : KnownByUnit) (marked items shown : List Mark) (unit : ℕ) (origin : ℕ × ℕ) (most : ℕ) → 0 < most →
+    Some origin ≡ origin_of program survey marked unit → items ≡ marks program survey (Register origin.0) origin.1 → shown ≡ items → middle ≡ out ++ origin_notes (most - 1) written program survey shown origin.1 →
+    last ≡ middle ++ notes_below written program survey (Register origin.0) shown origin.1 → last ≡ out ++ origin_notes most written program survey marked unit
+origins_more written out middle last program survey marked items shown unit origin most some found all same before more =
+    let first : shown ≡ marks program survey (Register origin.0) origin.1 = same ∙ all in
+    let own : List ℕ = origin_notes (most - 1) written program survey shown origin.1 in
+    let below : List ℕ = notes_below written program survey (Register origin.0) shown origin.1 in
     let parts : last ≡ out ++ (own ++ below) = more ∙ (ap (λ (l : List ℕ). l ++ below) before ∙ append_assoc out own below) in
-    let there : last ≡ out ++ deeper (most - 1) written program survey r place =
-    parts ∙ λ k. out ++ (origin_notes (most - 1) written program survey (first k) place ++ notes_below written program survey (Register r) (first k) place) in
+    let there : last ≡ out ++ deeper (most - 1) written program survey origin.0 origin.1 =
+    parts ∙ λ k. out ++ (origin_notes (most - 1) written program survey (first k) origin.1 ++ notes_below written program survey (Register origin.0) (first k) origin.1) in
     subst (λ (o : Option (ℕ × ℕ)). last ≡ out ++ from_origin (λ r place. deeper (most - 1) written program survey r place) o) found there
     ∙ ap (λ (l : List ℕ). out ++ l) (sym (origin_so written program survey marked unit most some))

@@ -65,6 +65,9 @@ passed_by r (Branch w condition dst operand distance) value =
 passed_by r (Arithmetic W64 Move dst (Register src)) value = if src == r then Some (Copied dst) else None
 passed_by r i value = None
 
+unfoldable pub tested_text : List ℕ
+tested_text = codes ": such a test tells only of numbers that are known to be below 2^"
+
 abbrev pub passing_text : Passing → List ℕ
-passing_text (Test bits) = codes ": such a test tells only of numbers that are known to be below 2^" ++ decimal bits
+passing_text (Test bits) = tested_text ++ decimal bits
 passing_text (Copied dst) = codes ": what is tested of r" ++ decimal dst ++ codes " is not known of it"

@@ -96,12 +96,18 @@ above_text called most = helper_text called ++ (codes " takes a number up to " +
 unfoldable pub pointer_text : Helper → List ℕ
 pointer_text called = helper_text called ++ codes " takes a pointer there"
 
+unfoldable pub no_helper_text : List ℕ
+no_helper_text = codes "no helper has the number "
+
+unfoldable pub together_text : List ℕ
+together_text = codes "r1 and r3 together may be "
+
 -- what a call asks
 abbrev pub misfit_text : Misfit → List ℕ
-misfit_text (misfit.Helper number) = codes "no helper has the number " ++ signed_decimal number ++ codes ": they are 1 to 11"
+misfit_text (misfit.Helper number) = no_helper_text ++ signed_decimal number ++ codes ": they are 1 to 11"
 misfit_text (misfit.Above called r value most) = named_text r value ++ codes ": " ++ above_text called most
 misfit_text (misfit.NoPointer called r value) = named_text r value ++ codes ": " ++ pointer_text called
-misfit_text (misfit.Board sum) = codes "r1 and r3 together may be " ++ decimal sum ++ codes ", and the board has 64 words"
+misfit_text (misfit.Board sum) = together_text ++ decimal sum ++ codes ", and the board has 64 words"
 
 abbrev pub sentence_text : Sentence → List ℕ
 sentence_text (sentence.Structure s) = structure_text s

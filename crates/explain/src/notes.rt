@@ -276,11 +276,11 @@ fn put_origin_notes(
     if most == 0 {
         return Ok(());
     }
-    let Some((r, place)) = origin_of(program, states, marked, unit) else {
+    let Some(origin) = origin_of(program, states, marked, unit) else {
         return Ok(());
     };
-    let asked = Subject::Register(r);
-    let deeper = marks(alloc, program, states, &asked, place)?;
+    let asked = Subject::Register(origin.0);
+    let deeper = marks(alloc, program, states, &asked, origin.1)?;
     let shown = deeper.as_slice();
     put_origin_notes(
         alloc,
@@ -289,10 +289,10 @@ fn put_origin_notes(
         program,
         states,
         shown,
-        place,
+        origin.1,
         most - 1,
     )?;
-    put_notes_below(out, written, program, states, &asked, shown, place)
+    put_notes_below(out, written, program, states, &asked, shown, origin.1)
 }
 
 /// Adds where what is asked about at a unit comes from, with its marks.

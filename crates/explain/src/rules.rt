@@ -1,6 +1,6 @@
 //! Which rule of the verifier an instruction meets that leaves a register unknown, or tells nothing of it.
 ghost use Rattle.std.specs.Prelude.{◌≡◌, ◌^◌, ◌-◌, ◌++◌, string_bytes, OnOk};
-ghost use Rattle.explain.specs.Rules.{number_rule, unset_rule, rule_text, is_signed, limit_bits, is_past, is_operand, passed_by, passing_text};
+ghost use Rattle.explain.specs.Rules.{number_rule, unset_rule, rule_text, is_signed, limit_bits, is_past, is_operand, passed_by, tested_text, passing_text};
 
 use crate::saying::{put_between, put_counted};
 use absval::AbsVal;
@@ -103,16 +103,20 @@ pub(crate) enum Passing {
     Copied(Reg),
 }
 
+/// What is said of a test.
+#[tactic(auto, unfolding(crate::specs::Rules::tested_text))]
+fn tested() -> &'static str
+    ensures { result.now ≡ tested_text }
+{
+    ": such a test tells only of numbers that are known to be below 2^"
+}
+
 /// Adds what such an instruction tells nothing of.
 pub(crate) fn put_tells(out: &mut String, tells: Passing) -> Result<(), AllocError>
     ensures { OnOk result (string_bytes out.new ≡ string_bytes out.old ++ passing_text tells) }
 {
     match tells {
-        Passing::Test(bits) => put_counted(
-            out,
-            ": such a test tells only of numbers that are known to be below 2^",
-            u64::from(bits),
-        ),
+        Passing::Test(bits) => put_counted(out, tested(), u64::from(bits)),
         Passing::Copied(dst) => put_between(
             out,
             ": what is tested of r",

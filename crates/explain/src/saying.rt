@@ -1,7 +1,7 @@
 //! Why a program is refused, as text.
 ghost use Rattle.std.specs.Prelude.{◌≡◌, ◌++◌, codes, decimal, string_bytes, OnOk};
 ghost use Rattle.std.specs.Fmt.{signed_decimal};
-ghost use Rattle.explain.specs.Sentences.{leads_text, structure_text, place_text, reached_text, would_text, named_text, limit_text, misuse_text, extent_text, access_text, helper_text, above_text, pointer_text, past_text, misfit_text, sentence_text};
+ghost use Rattle.explain.specs.Sentences.{leads_text, structure_text, place_text, reached_text, would_text, named_text, limit_text, misuse_text, extent_text, access_text, helper_text, above_text, pointer_text, past_text, no_helper_text, together_text, misfit_text, sentence_text};
 
 use crate::sentence::{Access, Misfit, Misuse, Sentence, Structure};
 use crate::values::{Span, put_known, put_span, region_name};
@@ -296,18 +296,29 @@ fn put_pointer(out: &mut String, helper: Helper) -> Result<(), AllocError>
     put(out, " takes a pointer there")
 }
 
+/// What is said of a number that no helper has.
+#[tactic(auto, unfolding(crate::specs::Sentences::no_helper_text))]
+fn no_helper() -> &'static str
+    ensures { result.now ≡ no_helper_text }
+{
+    "no helper has the number "
+}
+
+/// What is said of slot and count together.
+#[tactic(auto, unfolding(crate::specs::Sentences::together_text))]
+fn together() -> &'static str
+    ensures { result.now ≡ together_text }
+{
+    "r1 and r3 together may be "
+}
+
 /// Adds what a call asks.
 fn put_misfit(out: &mut String, misfit: Misfit) -> Result<(), AllocError>
     ensures { OnOk result (string_bytes out.new ≡ string_bytes out.old ++ misfit_text misfit) }
 {
     match misfit {
         Misfit::Helper(number) => {
-            put_signed_between(
-                out,
-                "no helper has the number ",
-                i64::from(number),
-                ": they are 1 to 11",
-            )
+            put_signed_between(out, no_helper(), i64::from(number), ": they are 1 to 11")
         }
         Misfit::Above(helper, r, value, most) => {
             put_so(out, r, value, ": ")?;
@@ -318,12 +329,7 @@ fn put_misfit(out: &mut String, misfit: Misfit) -> Result<(), AllocError>
             put_pointer(out, helper)
         }
         Misfit::Board(sum) => {
-            put_between(
-                out,
-                "r1 and r3 together may be ",
-                sum,
-                ", and the board has 64 words",
-            )
+            put_between(out, together(), sum, ", and the board has 64 words")
         }
     }
 }

@@ -19,4 +19,4 @@ pub returns : goal.returns
 returns t c =
     let some : 0 < c.args.most = omega arith in
     on_ok c.put_notes_below.result _ _ (λ h. origins_more (written_in c.args.written.now) (string_bytes c.args.out.now) _ _ c.args.program.now (slice_get c.args.states.now) c.args.marked.now c.in_ok-deeper.deeper.items c.as_slice-shown.result.now
-    c.args.unit c.in-Some.r c.in-Some.place c.args.most some c.in-Some.ensures.origin c.in_ok-deeper.ensures c.as_slice-shown.ensures.value c.in_ok-put_origin_notes.ensures h) c.put_notes_below.ensures
+    c.args.unit c.in-Some.origin c.args.most some c.in-Some.ensures.origin c.in_ok-deeper.ensures c.as_slice-shown.ensures.value c.in_ok-put_origin_notes.ensures h) c.put_notes_below.ensures
