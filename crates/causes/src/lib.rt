@@ -18,6 +18,6 @@ pub use laws::left_is_the_transfer;
 pub use left::left_by;
 pub use mark::Mark;
 pub use marking::{known_by, marks};
-pub use mends::{Edit, Trial, tried};
+pub use mends::{Edit, Trial, operation_of, tried};
 pub use register::{numbered, result_of};
 pub use subject::Subject;

@@ -28,9 +28,11 @@ content_text Byte = codes "bytes"
 content_text (Piece region offset) = codes "pointer: " ++ region_text region ++ codes " " ++ signed_decimal offset
 
 -- cells by their offsets from the end of the stack, the first and the last of them
+unfoldable pub last_text : ℤ → ℤ → List ℕ
+last_text first last = if int_eq first last then codes "]" else codes ".." ++ signed_decimal last ++ codes "]"
+
 unfoldable pub cells_text : ℤ → ℤ → List ℕ
-cells_text first last =
-    if int_eq first last then codes "[" ++ signed_decimal first ++ codes "]" else codes "[" ++ signed_decimal first ++ codes ".." ++ signed_decimal last ++ codes "]"
+cells_text first last = codes "[" ++ signed_decimal first ++ last_text first last
 
 -- the cells from one place up to another
 abbrev pub run_text : ℕ → ℕ → Content → List ℕ

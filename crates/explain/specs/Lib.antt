@@ -5,6 +5,7 @@ pub mod Shortfalls
 pub mod Cells
 pub mod Rules
 pub mod Units
+pub mod Origins
 pub mod Notes
 pub mod Helps
 pub mod Explained

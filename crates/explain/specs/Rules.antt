@@ -1,5 +1,5 @@
 -- Which rule of the verifier an instruction meets that leaves a register unknown, or tells nothing of it (own).
-use Rattle.std.specs.Prelude.{ℕ, ◌-◌, ◌==◌, ◌^◌, ◌&&◌, nat_lt, Bool, true, false, if◌then◌else◌, List, [], ◌++◌, Option, Some, None, codes, decimal}
+use Rattle.std.specs.Prelude.{ℕ, ◌-◌, ◌==◌, ◌^◌, ◌&&◌, ◌||◌, nat_lt, Bool, true, false, if◌then◌else◌, List, [], ◌++◌, Option, Some, None, codes, decimal}
 use Rattle.word.specs.declared.Width.{Width}
 use Rattle.word.specs.declared.Width.TheVariants.{W64}
 use Rattle.word.specs.declared.Operation.TheVariants.{ArithmeticShiftRight, Move}
@@ -8,7 +8,8 @@ use Rattle.word.specs.declared.Condition.TheVariants.{SignedAbove, SignedAtLeast
 use Rattle.word.specs.Arithmetic.{bits_of}
 use Rattle.insn.specs.declared.insn.Insn.{Insn}
 use Rattle.insn.specs.declared.insn.Insn.TheVariants.{Arithmetic, Negate, SignExtend, Load, LoadSigned, Call, Branch}
-use Rattle.insn.specs.declared.insn.Operand.TheVariants.{Register}
+use Rattle.insn.specs.declared.insn.Operand.{Operand}
+use Rattle.insn.specs.declared.insn.Operand.TheVariants.{Register, Immediate}
 use Rattle.explain.specs.declared.rules.Passing.{Passing}
 use Rattle.explain.specs.declared.rules.Passing.TheVariants.{Test, Copied}
 use Rattle.absval.specs.NumberSets.{greatest}
@@ -53,13 +54,20 @@ abbrev pub is_past : ℕ → AbsVal → Bool
 is_past bits (Number n) = nat_lt (2 ^ bits - 1) (greatest n)
 is_past bits value = false
 
+abbrev pub is_operand : ℕ → Operand → Bool
+is_operand r (Register src) = src == r
+is_operand r (Immediate n) = false
+
 -- a test of the register that tells nothing of it, or a copy of it, of which another test does not
 abbrev pub passed_by : ℕ → Insn → AbsVal → Option Passing
 passed_by r (Branch w condition dst operand distance) value =
-    if (dst == r) && is_past (limit_bits w (is_signed condition)) value then Some (Test (limit_bits w (is_signed condition))) else None
+    if (dst == r || is_operand r operand) && is_past (limit_bits w (is_signed condition)) value then Some (Test (limit_bits w (is_signed condition))) else None
 passed_by r (Arithmetic W64 Move dst (Register src)) value = if src == r then Some (Copied dst) else None
 passed_by r i value = None
 
+unfoldable pub tested_text : List ℕ
+tested_text = codes ": such a test tells only of numbers that are known to be below 2^"
+
 abbrev pub passing_text : Passing → List ℕ
-passing_text (Test bits) = codes ": such a test tells only of numbers that are known to be below 2^" ++ decimal bits
+passing_text (Test bits) = tested_text ++ decimal bits
 passing_text (Copied dst) = codes ": what is tested of r" ++ decimal dst ++ codes " is not known of it"

@@ -1,64 +1,57 @@
 //! Cells of the stack that are read, as text.
 ghost use Rattle.std.specs.Prelude.{◌≡◌, ◌≤◌, ◌+◌, ◌-ℤ◌, ◌++◌, pos, IfSome, OnOk, string_bytes};
 ghost use Rattle.semantics.specs.Call.{helper_of};
-ghost use Rattle.explain.specs.Cells.{run_text, ended_text, runs_text, of_cells, of_window, of_reach, is_row, reads_cells, cells_read};
+ghost use Rattle.explain.specs.Cells.{content_text, cells_text, last_text, run_text, ended_text, runs_text, of_cells, of_window, of_reach, is_row, reads_cells, cells_read};
 
 use crate::reach::{Reach, reach_of};
+use crate::saying::put_signed_between;
 use crate::values::region_name;
 use absmem::AbsStack;
 use absval::{AbsVal, Window, window_of};
+use asm::{put, put_number};
 use causes::{Content, held_at};
 use helper::Helper;
 use insn::Insn;
 use semantics::Region;
 use std::alloc::AllocError;
-use std::fmt;
 use verify::AbsState;
 
-/// What a cell holds, to be told.
-#[derive(Clone, Copy)]
-struct Held(Content);
-
-impl fmt::Display for Held {
-    ghost use Rattle.std.specs.Prelude.{Some};
-    ghost use Rattle.explain.specs.Cells.{content_text};
-
-    ghost output = { λ held. Some (content_text held.0) };
-
-    fn fmt<W: fmt::Write>(&self, f: &mut fmt::Formatter<W>) -> fmt::Result {
-        match self.0 {
-            Content::Unset => f.write_str("perhaps unset"),
-            Content::Byte => f.write_str("bytes"),
-            Content::Piece(region, offset) => {
-                let region = region_name(region);
-                write!(f, "pointer: {region} {offset}")
-            }
+/// Adds what a cell holds.
+fn put_content(out: &mut String, content: Content) -> Result<(), AllocError>
+    ensures { OnOk result (string_bytes out.new ≡ string_bytes out.old ++ content_text content) }
+{
+    match content {
+        Content::Unset => put(out, "perhaps unset"),
+        Content::Byte => put(out, "bytes"),
+        Content::Piece(region, offset) => {
+            put(out, "pointer: ")?;
+            put(out, region_name(region))?;
+            put(out, " ")?;
+            put_number(out, i64::from(offset))
         }
     }
 }
 
-/// Cells of the stack by their offsets.
-#[derive(Clone, Copy)]
-struct Cells {
-    first: i64,
-    last: i64,
+/// Adds the last of two offsets, if it is another.
+#[tactic(auto, unfolding(crate::specs::Cells::last_text))]
+fn put_last(out: &mut String, first: i64, last: i64) -> Result<(), AllocError>
+    ensures { OnOk result (string_bytes out.new ≡ string_bytes out.old ++ last_text first last) }
+{
+    if first == last {
+        put(out, "]")
+    } else {
+        put_signed_between(out, "..", last, "]")
+    }
 }
 
-impl fmt::Display for Cells {
-    ghost use Rattle.std.specs.Prelude.{Some};
-    ghost use Rattle.explain.specs.Cells.{cells_text};
-
-    ghost output = { λ cells. Some (cells_text cells.first cells.last) };
-
-    #[tactic(auto, unfolding(crate::specs::Cells::cells_text))]
-    fn fmt<W: fmt::Write>(&self, f: &mut fmt::Formatter<W>) -> fmt::Result {
-        let Cells { first, last } = *self;
-        if first == last {
-            write!(f, "[{first}]")
-        } else {
-            write!(f, "[{first}..{last}]")
-        }
-    }
+/// Adds cells of the stack by their offsets.
+#[tactic(auto, unfolding(crate::specs::Cells::cells_text))]
+fn put_offsets(out: &mut String, first: i64, last: i64) -> Result<(), AllocError>
+    ensures { OnOk result (string_bytes out.new ≡ string_bytes out.old ++ cells_text first last) }
+{
+    put(out, "[")?;
+    put_number(out, first)?;
+    put_last(out, first, last)
 }
 
 /// How far a cell lies from the end of the stack.
@@ -88,12 +81,9 @@ pub(crate) fn put_run(
     requires end { end ≤ 65536 }
     ensures { OnOk result (string_bytes out.new ≡ string_bytes out.old ++ run_text first end content) }
 {
-    let cells = Cells {
-        first: offset_of(first),
-        last: offset_before(end),
-    };
-    let held = Held(content);
-    write!(out, "{cells} {held}")
+    put_offsets(out, offset_of(first), offset_before(end))?;
+    put(out, " ")?;
+    put_content(out, content)
 }
 
 /// The same, with others behind.
@@ -103,7 +93,7 @@ fn put_ended(out: &mut String, first: usize, end: usize, content: Content) -> Re
     ensures { OnOk result (string_bytes out.new ≡ string_bytes out.old ++ ended_text first end content) }
 {
     put_run(out, first, end, content)?;
-    out.push_str(", ")
+    put(out, ", ")
 }
 
 /// Adds the cells from a place up to one, all of which hold the same, and so many more from there on.
@@ -143,7 +133,7 @@ fn put_cells(
     if size == 0 {
         return Ok(());
     }
-    out.push_str(" ; ")?;
+    put(out, " ; ")?;
     put_runs(
         out,
         stack,

@@ -2,7 +2,7 @@ use Rattle.std.proofs.Common.{◌≤◌, ◌<◌, ◌+◌, arith, length, string
 use Rattle.std.specs.Prelude.{slice_get}
 use Rattle.insn.specs.Program.{slots_of}
 use Rattle.insn.proofs.SlotLemmas.{slots_so_far, units_bound}
-use Rattle.explain.specs.Units.{places_in}
+use Rattle.explain.specs.Units.{written_in}
 use Rattle.explain.proofs.UnitLemmas.{known_lines_so_far}
 use Rattle.explain.proofs.lines.put_units.Goals as goal
 
@@ -15,6 +15,6 @@ overflow_add-unit c =
 pub loop-insn-preserved : goal.loop-insn-preserved
 loop-insn-preserved c =
     let lt : c.loop-insn.insn-index < length c.args.insns.now = omega arith in (
-      known_lines_so_far (places_in c.args.places.now) (string_bytes c.args.out.now) _ _ c.args.insns.now (slice_get c.args.states.now) c.args.fault.now c.loop-insn.insn-index _ _ lt c.insn-item.is c.loop-insn.invariant.1 c.loop-insn.invariant.0 c.in_ok-put_reached.ensures,
+      known_lines_so_far (written_in c.args.written.now) (string_bytes c.args.out.now) _ _ c.args.insns.now (slice_get c.args.states.now) c.args.fault.now c.loop-insn.insn-index _ _ lt c.insn-item.is c.loop-insn.invariant.1 c.loop-insn.invariant.0 c.in_ok-put_reached.ensures,
       slots_so_far c.args.insns.now c.loop-insn.insn-index _ _ _ lt c.insn-item.is c.loop-insn.invariant.1 c.units.ensures.units,
     )
