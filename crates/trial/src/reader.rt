@@ -1,10 +1,11 @@
 //! Settings, read from their text.
-ghost use Rattle.std.specs.Prelude.{◌≡◌, ◌-◌, ◌≤◌, min, Some};
+ghost use Rattle.std.specs.Prelude.{◌≡◌, ◌-◌, ◌≤◌, min, MatchBool, Some};
 ghost use Rattle.toml.specs.Parse.{parse_document};
 ghost use Rattle.toml.specs.View.{table_view};
 ghost use Rattle.trial.specs.Flaws.{Gives};
 ghost use Rattle.trial.specs.Checks.{setting};
 ghost use Rattle.trial.specs.Told.{Reads};
+ghost use Rattle.trial.specs.declared.fault.SettingError.TheVariants.{Memory, Toml};
 
 use crate::fault::SettingError;
 use crate::keys::{at, general, keys_are_known, number};
@@ -58,6 +59,17 @@ fn setting(alloc: Global, table: &Table) -> Result<Setting, SettingError>
     Ok(Setting::new(shape, bound, taken))
 }
 
+/// Why a text that was not parsed tells no setting: it is no TOML, or memory was refused.
+fn unparsed(is_memory: bool) -> SettingError
+    ensures { MatchBool is_memory (result ≡ Memory) (result ≡ Toml) }
+{
+    if is_memory {
+        SettingError::Memory
+    } else {
+        SettingError::Toml
+    }
+}
+
 /// The setting that a text tells.
 ///
 /// # Errors
@@ -69,11 +81,6 @@ pub fn read(alloc: Global, text: &str) -> Result<Setting, SettingError>
 {
     match toml::table_from_str(alloc, text) {
         Ok(table) => setting(alloc, &table),
-        Err(error) => {
-            if error.is_memory() {
-                return Err(SettingError::Memory);
-            }
-            Err(SettingError::Toml)
-        }
+        Err(error) => Err(unparsed(error.is_memory())),
     }
 }
