@@ -143,7 +143,10 @@ fn push_mask(insns: &mut Vec<Insn>, mask: Option<i32>, number: Reg) -> Result<()
     let Some(mask) = mask else {
         return Ok(());
     };
-    push_one(insns, operation_of(Operation::And, number, Operand::Immediate(mask)))
+    push_one(
+        insns,
+        operation_of(Operation::And, number, Operand::Immediate(mask)),
+    )
 }
 
 /// Adds a number's move of a pointer, and a copy of it.
@@ -157,8 +160,14 @@ fn push_moved(
     ensures { OnOk result (insns.new.items ≡ insns.old.items ++ put_at (Edit.Moved mask number pointer) insn.now) }
 {
     push_mask(insns, mask, number)?;
-    push_one(insns, operation_of(Operation::Add, pointer, Operand::Register(number)))?;
-    push_one(insns, operation_of(Operation::Move, number, Operand::Register(pointer)))
+    push_one(
+        insns,
+        operation_of(Operation::Add, pointer, Operand::Register(number)),
+    )?;
+    push_one(
+        insns,
+        operation_of(Operation::Move, number, Operand::Register(pointer)),
+    )
 }
 
 /// Adds what stands for the instruction at the place of an edit.

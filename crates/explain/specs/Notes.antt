@@ -108,8 +108,8 @@ unfoldable pub origin_notes : ℕ → Writing → List Insn → KnownByUnit → 
 origin_notes zero written program survey marked unit = []
 origin_notes (suc n) written program survey marked unit =
     from_origin (λ r place.
-      origin_notes n written program survey (marks program survey (subject.Register r) place) place
-      ++ notes_below written program survey (subject.Register r) (marks program survey (subject.Register r) place) place)
+    origin_notes n written program survey (marks program survey (subject.Register r) place) place
+    ++ notes_below written program survey (subject.Register r) (marks program survey (subject.Register r) place) place)
     (origin_of program survey marked unit)
 
 abbrev pub notes_on : Writing → List Insn → KnownByUnit → Subject → List Mark → ℕ → List ℕ

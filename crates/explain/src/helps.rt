@@ -69,7 +69,13 @@ fn best(
     let [edit, rest @ ..] = edits else {
         return Ok(None);
     };
-    let trial = tried(alloc, program, edit, place, unit + usize::from(edit.grown()))?;
+    let trial = tried(
+        alloc,
+        program,
+        edit,
+        place,
+        unit + usize::from(edit.grown()),
+    )?;
     if let Trial::Accepted = trial {
         return Ok(Some((*edit, Trial::Accepted)));
     }
@@ -147,7 +153,10 @@ fn put_mask(out: &mut String, mask: Option<i32>, number: Reg) -> Result<(), Allo
     let Some(mask) = mask else {
         return Ok(());
     };
-    put_quoted(out, &operation_of(Operation::And, number, Operand::Immediate(mask)))?;
+    put_quoted(
+        out,
+        &operation_of(Operation::And, number, Operand::Immediate(mask)),
+    )?;
     put(out, ", ")
 }
 
@@ -156,9 +165,15 @@ fn put_mask(out: &mut String, mask: Option<i32>, number: Reg) -> Result<(), Allo
 fn put_sum(out: &mut String, number: Reg, pointer: Reg) -> Result<(), AllocError>
     ensures { OnOk result (string_bytes out.new ≡ string_bytes out.old ++ sum_text number pointer) }
 {
-    put_quoted(out, &operation_of(Operation::Add, pointer, Operand::Register(number)))?;
+    put_quoted(
+        out,
+        &operation_of(Operation::Add, pointer, Operand::Register(number)),
+    )?;
     put(out, " and ")?;
-    put_quoted(out, &operation_of(Operation::Move, number, Operand::Register(pointer)))
+    put_quoted(
+        out,
+        &operation_of(Operation::Move, number, Operand::Register(pointer)),
+    )
 }
 
 /// Adds a number's move of a pointer.

@@ -226,9 +226,7 @@ fn put_misuse(out: &mut String, misuse: Misuse) -> Result<(), AllocError>
         Misuse::NoBase(r, value) => {
             put_so(out, r, value, ": memory is reached by a pointer only")
         }
-        Misuse::Exit(value) => {
-            put_so(out, numbered(0), value, ": a program ends with a number")
-        }
+        Misuse::Exit(value) => { put_so(out, numbered(0), value, ": a program ends with a number") }
     }
 }
 
@@ -328,9 +326,7 @@ fn put_misfit(out: &mut String, misfit: Misfit) -> Result<(), AllocError>
             put_so(out, r, value, ": ")?;
             put_pointer(out, helper)
         }
-        Misfit::Board(sum) => {
-            put_between(out, together(), sum, ", and the board has 64 words")
-        }
+        Misfit::Board(sum) => { put_between(out, together(), sum, ", and the board has 64 words") }
     }
 }
 
