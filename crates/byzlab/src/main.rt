@@ -5,6 +5,7 @@
 mod folder;
 mod input;
 mod target;
+mod watched;
 
 ghost use Rattle.std.specs.Prelude.{◌≡◌, IfOk, IfErr};
 ghost use Rattle.std.specs.IoError.{error_kind};
@@ -14,12 +15,13 @@ ghost use Rattle.byzlab.specs.Telling.{failure_of};
 use command_line::{Task, TaskError};
 use folder::FolderOf;
 use input::Input;
-use lab::{FileName, serve};
+use lab::{FileName, is_explained, reason, serve};
 use neighbours::{Untaken, reads_scenario, with_files};
 use std::env;
 use std::io::{self, Cursor, ErrorKind, Read};
 use std::process::ExitCode;
 use target::Target;
+use watched::Watched;
 
 fn main(rt: HostRuntime) -> ExitCode {
     let status = match prepare(&rt) {
@@ -29,15 +31,7 @@ fn main(rt: HostRuntime) -> ExitCode {
                 first,
                 second,
             },
-        ) => serve(
-            &rt,
-            rt.alloc(),
-            &task,
-            first,
-            second,
-            &mut Target::of(&rt, task.target()),
-            &mut rt.stderr(),
-        ),
+        ) => served(&rt, &task, first, second),
         Ok(Ready::Done(status)) => status,
         Err(error) => {
             let (line, status) = failure(error.kind());
@@ -46,6 +40,18 @@ fn main(rt: HostRuntime) -> ExitCode {
         }
     };
     ExitCode::from(status)
+}
+
+/// Does the task, and tells behind a fault of its output why, where it explains what it refuses: the exit status.
+fn served(rt: &HostRuntime, task: &Task, first: Input, second: Option<Input>) -> u8 {
+    let mut target = Watched::new(Target::of(rt, task.target()));
+    let alloc = rt.alloc();
+    let status = serve(rt, alloc, task, first, second, &mut target, &mut rt.stderr());
+    if let (1, true, Some(kind)) = (status, is_explained(task), target.fault()) {
+        let why = reason(kind);
+        let _ = rt.eprintln(format_args!("error: {why}"));
+    }
+    status
 }
 
 /// What the words come to.
@@ -86,14 +92,14 @@ fn prepare(rt: &HostRuntime) -> io::Result<Ready> {
         Err(TaskError::Memory) => return Err(io::Error::from(ErrorKind::OutOfMemory)),
     };
     let first = match task.file() {
-        Some(name) => match opened(rt, name)? {
+        Some(name) => match opened(rt, &task, name)? {
             Some(file) => file,
             None => return Ok(Ready::Done(1)),
         },
         None => Input::Nothing,
     };
     let second = match task.second() {
-        Some(name) => match opened(rt, name)? {
+        Some(name) => match opened(rt, &task, name)? {
             Some(file) => Some(file),
             None => return Ok(Ready::Done(1)),
         },
@@ -116,7 +122,7 @@ fn completed(rt: &HostRuntime, task: &Task, first: Input) -> io::Result<Option<I
         Some(name) if reads_scenario(task) => name,
         _ => return Ok(Some(first)),
     };
-    let Some(bytes) = read(rt, name, first)? else {
+    let Some(bytes) = read(rt, task, name, first)? else {
         return Ok(None);
     };
     let folder = FolderOf { rt, scenario: name };
@@ -130,30 +136,44 @@ fn completed(rt: &HostRuntime, task: &Task, first: Input) -> io::Result<Option<I
     }
 }
 
-/// All bytes of the file of this name; none where it cannot be read, after the line that says so.
-fn read(rt: &HostRuntime, name: &str, file: Input) -> io::Result<Option<Vec<u8>>> {
+/// All bytes of the file of this name; none where it cannot be read, after the lines that say so.
+fn read(rt: &HostRuntime, task: &Task, name: &str, file: Input) -> io::Result<Option<Vec<u8>>> {
     let mut file = file;
     let mut bytes = Vec::new(rt.alloc());
     match file.read_to_end(&mut bytes) {
         Ok(_) => Ok(Some(bytes)),
         Err(error) if error.kind() == ErrorKind::OutOfMemory => Err(error),
-        Err(_) => {
-            let _ = rt.eprintln(format_args!("fault read {}", FileName(name)));
+        Err(error) => {
+            tell_unread(rt, task, name, error.kind());
             Ok(None)
         }
     }
 }
 
-/// The file; none where it does not open, after the line that says so.
-fn opened(rt: &HostRuntime, name: &str) -> io::Result<Option<Input>>
+/// The file; none where it does not open, after the lines that say so.
+fn opened(rt: &HostRuntime, task: &Task, name: &str) -> io::Result<Option<Input>>
     ensures input { IfOk result (IsInputOf name.now) }
     ensures memory { IfErr result (λ error. error_kind error ≡ ErrorKind.OutOfMemory) }
 {
-    let input = Input::open(rt, name)?;
-    if input.is_none() {
-        let _ = rt.eprintln(format_args!("fault read {}", FileName(name)));
+    match Input::open(rt, name) {
+        Ok(input) => Ok(Some(input)),
+        Err(closed) if closed.kind() == ErrorKind::OutOfMemory => Err(closed),
+        Err(closed) => {
+            tell_unread(rt, task, name, closed.kind());
+            Ok(None)
+        }
     }
-    Ok(input)
+}
+
+/// Tells that the file of this name is not read and, where the task explains what it refuses, why.
+fn tell_unread(rt: &HostRuntime, task: &Task, name: &str, kind: ErrorKind) {
+    let name = FileName(name);
+    if is_explained(task) {
+        let why = reason(kind);
+        let _ = rt.eprintln(format_args!("fault read {name}\nerror: {why}"));
+    } else {
+        let _ = rt.eprintln(format_args!("fault read {name}"));
+    }
 }
 
 /// The line and the exit status where the words could not be had, help not be written, or memory to open a file not be had.

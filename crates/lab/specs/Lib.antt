@@ -10,3 +10,4 @@ pub mod Refusals
 pub mod Seeming
 pub mod Serving
 pub mod Telling
+pub mod Reasons

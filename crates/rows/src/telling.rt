@@ -2,9 +2,10 @@
 use crate::shelf::{Content, Input, Output, Shelf};
 use anyhow::{Result, bail};
 use command_line::{Task, TaskError, task};
-use lab::{FileName, serve};
+use lab::{FileName, is_explained, reason, serve};
 use neighbours::{Untaken, reads_scenario, with_files};
 use std::alloc::{AllocError, Global};
+use std::io::ErrorKind;
 use std::sync::Wait;
 use std::thread::Threads;
 
@@ -74,14 +75,14 @@ fn opened<R: Threads + Wait + Sync + AllocGlobal>(
         None => Input::Bytes(&[]),
         Some(name) => match shelf.find(name) {
             Some(content) => content.input(),
-            None => return unopened(rt.alloc(), name),
+            None => return unopened(rt.alloc(), task, name),
         },
     };
     let second = match task.second() {
         None => None,
         Some(name) => match shelf.find(name) {
             Some(content) => Some(content.input()),
-            None => return unopened(rt.alloc(), name),
+            None => return unopened(rt.alloc(), task, name),
         },
     };
     completed(rt, task, shelf, first, second, output)
@@ -108,10 +109,16 @@ fn completed<R: Threads + Wait + Sync + AllocGlobal>(
     }
 }
 
-/// What is told of a file that does not open.
-fn unopened(alloc: Global, name: &str) -> Result<Told, AllocError> {
+/// What is told of a file that is not there.
+fn unopened(alloc: Global, task: &Task, name: &str) -> Result<Told, AllocError> {
     let name = FileName(name);
-    Ok(Told::fault(alloc, 1, format!(in alloc; "fault read {name}\n")?))
+    let text = if is_explained(task) {
+        let why = reason(ErrorKind::NotFound);
+        format!(in alloc; "fault read {name}\nerror: {why}\n")?
+    } else {
+        format!(in alloc; "fault read {name}\n")?
+    };
+    Ok(Told::fault(alloc, 1, text))
 }
 
 /// Does the task.
