@@ -1,9 +1,8 @@
-ghost use Rattle.std.specs.Prelude.{◌≡◌, IfOk, IfErr};
-ghost use Rattle.std.specs.IoError.{error_kind};
+ghost use Rattle.std.specs.Prelude.{IfOk, IfErr, None, Some};
 ghost use Rattle.byzlab.specs.Files.{IsInputOf};
 
 use std::fs::File;
-use std::io::{self, Cursor, ErrorKind, Read, Stdin};
+use std::io::{self, Cursor, Read, Stdin};
 
 /// A file of the task.
 #[derive(Drop)]
@@ -19,23 +18,19 @@ pub enum Input {
 }
 
 impl Input {
-    /// The file of this name; none where it does not open.
+    /// The file of this name.
     ///
     /// # Errors
     ///
-    /// Want of memory.
-    pub fn open(rt: &HostRuntime, name: &str) -> io::Result<Option<Input>>
-        ensures input { IfOk result (IsInputOf name.now) }
-        ensures memory { IfErr result (λ error. error_kind error ≡ ErrorKind.OutOfMemory) }
+    /// It does not open; a hyphen always does.
+    pub fn open(rt: &HostRuntime, name: &str) -> io::Result<Input>
+        ensures input { IfOk result (λ input. IsInputOf name.now (Some input)) }
+        ensures closed { IfErr result (λ _. IsInputOf name.now None) }
     {
         if name == "-" {
-            return Ok(Some(Input::Standard(rt.stdin())));
+            return Ok(Input::Standard(rt.stdin()));
         }
-        match File::open(rt, name) {
-            Ok(file) => Ok(Some(Input::File(file))),
-            Err(error) if error.kind() == ErrorKind::OutOfMemory => Err(error),
-            Err(_) => Ok(None),
-        }
+        Ok(Input::File(File::open(rt, name)?))
     }
 }
 

@@ -6,6 +6,7 @@ mod folder;
 mod input;
 mod progress;
 mod target;
+mod watched;
 
 ghost use Rattle.std.specs.Prelude.{◌≡◌, IfOk, IfErr, max, option_map};
 ghost use Rattle.std.specs.IoError.{error_kind};
@@ -16,7 +17,7 @@ use command_line::{Request, TaskError, each};
 use desk::{serve, turned_down};
 use folder::FolderOf;
 use input::Input;
-use lab::FileName;
+use lab::{FileName, is_explained, reason};
 use neighbours::{Untaken, reads_scenario, with_files};
 use progress::Progress;
 use std::env;
@@ -24,6 +25,7 @@ use std::fmt::Display;
 use std::io::{self, Cursor, ErrorKind, Read};
 use std::process::ExitCode;
 use target::Target;
+use watched::Watched;
 
 fn main(rt: HostRuntime) -> ExitCode {
     let status = match called(&rt) {
@@ -90,15 +92,20 @@ fn answered(rt: &HostRuntime, request: &Request) -> io::Result<u8> {
     let Some(first) = completed(rt, request, first)? else {
         return Ok(1);
     };
-    Ok(serve(
-        rt,
-        rt.alloc(),
-        request,
-        first,
-        second,
-        &mut Target::of(rt, request.task.target()),
-        &mut rt.stderr(),
-    ))
+    Ok(served(rt, request, first, second))
+}
+
+/// Does what is asked for on these files, and tells behind a fault of its output why, where it explains what it refuses. The
+/// result is the exit status.
+fn served(rt: &HostRuntime, request: &Request, first: Input, second: Option<Input>) -> u8 {
+    let mut target = Watched::new(Target::of(rt, request.task.target()));
+    let alloc = rt.alloc();
+    let status = serve(rt, alloc, request, first, second, &mut target, &mut rt.stderr());
+    if let (1, true, Some(kind)) = (status, is_explained(&request.task), target.fault()) {
+        let why = reason(kind);
+        let _ = rt.eprintln(format_args!("error: {why}"));
+    }
+    status
 }
 
 /// Says why the words name no task, or prints help. The result is the exit status.
@@ -162,8 +169,8 @@ fn read(
     match file.read_to_end(&mut bytes) {
         Ok(_) => Ok(Some(bytes)),
         Err(error) if error.kind() == ErrorKind::OutOfMemory => Err(error),
-        Err(_) => {
-            turn_down(rt, request, format_args!("fault read {}", FileName(name)))?;
+        Err(error) => {
+            tell_unread(rt, request, name, error.kind())?;
             Ok(None)
         }
     }
@@ -177,11 +184,27 @@ fn opened(rt: &HostRuntime, request: &Request, name: Option<&str>) -> io::Result
     let Some(name) = name else {
         return Ok(Some(Input::Nothing));
     };
-    let input = Input::open(rt, name)?;
-    if input.is_none() {
-        turn_down(rt, request, format_args!("fault read {}", FileName(name)))?;
+    match Input::open(rt, name) {
+        Ok(input) => Ok(Some(input)),
+        Err(closed) if closed.kind() == ErrorKind::OutOfMemory => Err(closed),
+        Err(closed) => {
+            tell_unread(rt, request, name, closed.kind())?;
+            Ok(None)
+        }
     }
-    Ok(input)
+}
+
+/// Tells that the file of this name is not read and, where the task explains what it refuses, why.
+fn tell_unread(rt: &HostRuntime, request: &Request, name: &str, kind: ErrorKind) -> io::Result<()>
+    ensures memory { IfErr result (λ error. error_kind error ≡ ErrorKind.OutOfMemory) }
+{
+    let name = FileName(name);
+    if is_explained(&request.task) {
+        let why = reason(kind);
+        turn_down(rt, request, format_args!("fault read {name}\nerror: {why}"))
+    } else {
+        turn_down(rt, request, format_args!("fault read {name}"))
+    }
 }
 
 /// The line and the exit status where the words could not be had, help not be written, or memory to open a file not be had.

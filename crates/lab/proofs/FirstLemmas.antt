@@ -8,7 +8,7 @@ use Rattle.command_line.specs.declared.tasks.Notation.TheVariants.{Bytecode, Ass
 use Rattle.command_line.specs.declared.tasks.Task.{Task}
 use Rattle.command_line.specs.declared.tasks.Task.TheVariants as task
 use Rattle.command_line.specs.declared.tasks.Account.TheVariants.{Chronicle}
-use Rattle.lab.specs.Campaigns.{is_plain}
+use Rattle.lab.specs.Campaigns.{is_chronicle}
 use Rattle.lab.specs.Picturing.{is_toml}
 use Rattle.lab.specs.Faults.{IsTold, IsUnjudged, Prevents, Stops, StopsFirst, fault_of_bytes}
 use Rattle.lab.specs.Hints.{IsHint, IsHintBy, IsSaid, IsWhy, asked_of, bytecode_in, explained_in, hint_behind, is_reported, seems_behind}
@@ -189,9 +189,9 @@ not_judged (task.DisassemblePartly file own explained) bytes (Verifier fault) re
 not_judged (task.Book file) bytes (Verifier fault) refuses is none = absurd refuses
 not_judged (task.ExplainDecisions file traitors) bytes (Verifier fault) refuses is none = absurd refuses
 not_judged (task.Form n m c filling) bytes (Verifier fault) refuses is none = absurd refuses
-not_judged (task.Play scenario schedule account explained) bytes (Verifier fault) refuses is none = absurd (no_campaign (is_plain account explained) bytes fault refuses)
+not_judged (task.Play scenario schedule account explained) bytes (Verifier fault) refuses is none = absurd (no_campaign (is_chronicle account) bytes fault refuses)
 not_judged (task.Muster scenario explained) bytes (Verifier fault) refuses is none = absurd refuses
-not_judged (task.Audit scenario chronicle explained) bytes (Verifier fault) refuses is none = absurd (no_campaign (is_plain Chronicle explained) bytes fault refuses)
+not_judged (task.Audit scenario chronicle explained) bytes (Verifier fault) refuses is none = absurd (no_campaign true bytes fault refuses)
 not_judged (task.Explore scenario most) bytes (Verifier fault) refuses is none = absurd refuses
 not_judged (task.Tree file general marked drawing depth folded) bytes (Verifier fault) refuses is none = absurd (no_tree (is_toml bytes) bytes fault refuses)
 not_judged (task.Draw scenario course) bytes (Verifier fault) refuses is none = absurd refuses

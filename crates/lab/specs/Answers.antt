@@ -11,9 +11,8 @@ use Rattle.command_line.specs.declared.tasks.Notation.{Notation}
 use Rattle.command_line.specs.declared.tasks.Spelling.TheVariants.{Hex, Raw}
 use Rattle.command_line.specs.declared.tasks.Task.{Task}
 use Rattle.command_line.specs.declared.tasks.Task.TheVariants.{Check, Assemble, AssemblePartly, Disassemble, DisassemblePartly, Book, ExplainDecisions, Form, Play, Muster, Audit, Explore, Tree, Draw, Retrace}
-use Rattle.command_line.specs.declared.tasks.Account.TheVariants.{Chronicle}
 use Rattle.command_line.specs.declared.tasks.Course.TheVariants.{Scheduled, Recorded}
-use Rattle.scenario.specs.Told.{Tells}
+use Rattle.scenario.specs.Told.{Tells, TellsAny}
 use Rattle.tables.specs.Answers.{DecidesTable, ExplainsTable, IsFilled, IsFormOf}
 use Rattle.verify.specs.Judgement.{judged}
 use Rattle.trial.specs.Setting.{Setting, bench, context_in}
@@ -22,7 +21,7 @@ use Rattle.trial.specs.Trial.{Ending, trial}
 use Rattle.tracing.specs.Trace.{trace}
 use Rattle.lab.specs.Exploring.{Explores}
 use Rattle.lab.specs.Hints.{HasProgram, IsBehind, if_asked}
-use Rattle.lab.specs.Campaigns.{Audits, Musters, Plays, TellsCampaign, is_plain}
+use Rattle.lab.specs.Campaigns.{Audits, Musters, Plays, TellsCampaign, is_chronicle}
 use Rattle.lab.specs.Diagrams.{Draws}
 use Rattle.lab.specs.Lines.{checked_lines, hex_line}
 use Rattle.lab.specs.Parts.{AssemblesPartly, AssemblesPartlyRaw, DisassemblesPartly}
@@ -116,10 +115,10 @@ abbrev pub GoesOn : Task → List ℕ → FirstAnswer → Type 0
 GoesOn (Check file notation (Some context) explained traced) first (answer.Trial program told) =
     HasProgram notation first program × (judged program ≡ None) × IsSound program × (told ≡ traced)
 GoesOn (Play scenario schedule account explained) first (answer.Play c told why) =
-    TellsCampaign (is_plain account explained) first c × (told ≡ account) × (why ≡ explained)
+    TellsCampaign (is_chronicle account) first c × (told ≡ account) × (why ≡ explained)
 GoesOn (Muster scenario explained) first (answer.Muster s why) = Tells first s × (why ≡ explained)
 GoesOn (Audit scenario chronicle explained) first (answer.Audit c why) =
-    TellsCampaign (is_plain Chronicle explained) first c × (why ≡ explained)
+    TellsAny first c × (why ≡ explained)
 GoesOn (Draw scenario (Scheduled file)) first (answer.Draw s) = Tells first s
 GoesOn (Draw scenario (Recorded file)) first (answer.DrawRecorded s) = Tells first s
 GoesOn (Retrace scenario chronicle) first (answer.Retrace s) = Tells first s

@@ -14,3 +14,4 @@ pub mod Retracing
 pub mod Seeming
 pub mod Serving
 pub mod Telling
+pub mod Reasons

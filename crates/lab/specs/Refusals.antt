@@ -34,14 +34,13 @@ use Rattle.trace.specs.declared.fault.TraceError.TheVariants as trace
 use Rattle.verify.specs.declared.error.VerifyError.{VerifyError}
 use Rattle.verify.specs.declared.error.VerifyError.TheVariants as verifier
 use Rattle.verify.specs.Judgement.{judged}
-use Rattle.command_line.specs.declared.tasks.Account.TheVariants as accounts
 use Rattle.command_line.specs.declared.tasks.Notation.{Notation}
 use Rattle.command_line.specs.declared.tasks.Notation.TheVariants as notation
 use Rattle.command_line.specs.declared.tasks.Task.{Task}
 use Rattle.command_line.specs.declared.tasks.Task.TheVariants.{Check, Assemble, AssemblePartly, Disassemble, DisassemblePartly, Book, ExplainDecisions, Form, Play, Muster, Audit, Explore, Tree, Draw, Retrace}
 use Rattle.partial.specs.Reading.{bytes_said}
 use Rattle.tables.specs.Numbers.{numbers_in}
-use Rattle.lab.specs.Campaigns.{is_plain}
+use Rattle.lab.specs.Campaigns.{is_chronicle}
 use Rattle.lab.specs.Picturing.{is_toml}
 use Rattle.lab.specs.declared.refusal.Refusal.{Refusal}
 use Rattle.lab.specs.declared.refusal.Refusal.TheVariants.{Codec, Object, Verifier, Assembly, Table, Scenario, Setting, Trace, Threads, NotText, Memory}
@@ -147,7 +146,7 @@ RefusesCampaign text (Scenario error) = (error ≢ scenario.Memory) × ReadsAny 
 RefusesCampaign text Memory = Unit {0}
 RefusesCampaign text _ = ⊥
 
--- the text tells no campaign, or no oral one where more than its chronicle is asked for
+-- the text tells no campaign, or no oral one where its message table is asked for
 abbrev pub RefusesAsked : Bool → List ℕ → Refusal → Type 0
 RefusesAsked true text refusal = RefusesCampaign text refusal
 RefusesAsked false text refusal = RefusesScenario text refusal
@@ -238,9 +237,9 @@ Refuses (DisassemblePartly file notation explained) bytes refusal = RefusesParts
 Refuses (Book file) bytes refusal = RefusesText RefusesTable bytes refusal
 Refuses (ExplainDecisions file traitors) bytes refusal = RefusesText RefusesTable bytes refusal
 Refuses (Form n m c filling) bytes refusal = RefusesForm (string_bytes n) (string_bytes m) (string_bytes c) refusal
-Refuses (Play scenario schedule account explained) bytes refusal = RefusesText (RefusesAsked (is_plain account explained)) bytes refusal
+Refuses (Play scenario schedule account explained) bytes refusal = RefusesText (RefusesAsked (is_chronicle account)) bytes refusal
 Refuses (Muster scenario explained) bytes refusal = RefusesText RefusesScenario bytes refusal
-Refuses (Audit scenario chronicle explained) bytes refusal = RefusesText (RefusesAsked (is_plain accounts.Chronicle explained)) bytes refusal
+Refuses (Audit scenario chronicle explained) bytes refusal = RefusesText RefusesCampaign bytes refusal
 Refuses (Explore scenario most) bytes refusal = RefusesText RefusesScenario bytes refusal
 Refuses (Tree file general traitors drawing depth folded) bytes refusal = RefusesText RefusesTree bytes refusal
 Refuses (Draw scenario course) bytes refusal = RefusesText RefusesScenario bytes refusal

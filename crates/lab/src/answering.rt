@@ -11,11 +11,11 @@ use crate::first_answer::FirstAnswer;
 use crate::forming::{filled, formed};
 use crate::parts::{assembled_partly, assembled_partly_raw, disassembled_partly};
 use crate::picturing::pictured;
-use crate::playing::{asked_campaign, campaign};
+use crate::playing::{any_campaign, asked_campaign, campaign};
 use crate::refusal::Refusal;
 use crate::steps::with_steps;
 use crate::texts::as_text;
-use command_line::{Account, Course, Notation, Spelling, Task};
+use command_line::{Course, Notation, Spelling, Task};
 use drawing::View;
 use std::alloc::Global;
 use trial::Setting;
@@ -117,14 +117,14 @@ pub fn answer(alloc: Global, task: &Task, bytes: &[u8]) -> Result<FirstAnswer, R
             explained,
             ..
         } => {
-            let campaign = asked_campaign(alloc, bytes, *account, *explained)?;
+            let campaign = asked_campaign(alloc, bytes, *account)?;
             return Ok(FirstAnswer::Play(campaign, *account, *explained));
         }
         Task::Muster { explained, .. } => {
             return Ok(FirstAnswer::Muster(campaign(alloc, bytes)?, *explained));
         }
         Task::Audit { explained, .. } => {
-            let campaign = asked_campaign(alloc, bytes, Account::Chronicle, *explained)?;
+            let campaign = any_campaign(alloc, bytes)?;
             return Ok(FirstAnswer::Audit(campaign, *explained));
         }
         Task::Draw {

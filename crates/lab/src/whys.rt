@@ -30,7 +30,7 @@ pub(crate) enum Traced<'a> {
 }
 
 /// Whether the task is to explain what it refuses.
-pub(crate) fn is_explained(task: &Task) -> bool
+pub fn is_explained(task: &Task) -> bool
     ensures { result ≡ is_explained task.now }
 {
     match task {

@@ -3,10 +3,11 @@ use crate::shelf::{Content, Input, Output, Shelf};
 use anyhow::{Result, bail};
 use command_line::{Request, Task, TaskError, each, request};
 use desk::{serve, turned_down};
-use lab::FileName;
+use lab::{FileName, is_explained, reason};
 use neighbours::{Untaken, reads_scenario, with_files};
 use std::alloc::{AllocError, Global};
 use std::fmt::Display;
+use std::io::ErrorKind;
 use std::sync::Wait;
 use std::thread::Threads;
 
@@ -152,9 +153,15 @@ fn completed<R: Threads + Wait + Sync + AllocGlobal>(
     }
 }
 
-/// What is told of a file that does not open.
+/// What is told of a file that is not there.
 fn unopened(alloc: Global, request: &Request, name: &str, output: Output) -> Told {
-    turn_down(alloc, request, format_args!("fault read {}", FileName(name)), output)
+    let name = FileName(name);
+    if is_explained(&request.task) {
+        let why = reason(ErrorKind::NotFound);
+        turn_down(alloc, request, format_args!("fault read {name}\nerror: {why}"), output)
+    } else {
+        turn_down(alloc, request, format_args!("fault read {name}"), output)
+    }
 }
 
 /// What is told where the task is not done, by this line.

@@ -24,7 +24,7 @@ use Rattle.toml.specs.Parse.{parse_document}
 use Rattle.why.specs.Assembly.{assembly_told, line_told}
 use Rattle.why.specs.Bytecode.{bytecode_told, unit_at, unit_marked}
 use Rattle.why.specs.Chronicles.{chronicle_line_told, chronicle_told, schedule_line_told, schedule_told}
-use Rattle.why.specs.Errors.{TellsScenario, TellsSetting}
+use Rattle.why.specs.Errors.{ReportsScenario, TellsSetting}
 use Rattle.why.specs.Keys.{Found, entry_line, found, header, table_of, value_end}
 use Rattle.why.specs.Laws.{IsInText, IsInUnit, IsReport, RefusalsAreTold}
 use Rattle.why.specs.Lines.{line_at}
@@ -165,7 +165,7 @@ unknown_report name text None key = report (IsInText text) name _ _ _ (λ e. cc)
 unknown_report name text (Some index) key = report (IsInText text) name _ _ _ (λ e. cc) (found-in text false key _ (entry-at index key text))
 
 scenario_report : (name text told : List ℕ) (error : ScenarioError) → (error ≡ scenario.Toml → IsUtf8 text × (parse_document text ≡ None))
-    → TellsScenario name text error told → IsReport (IsInText text) name told
+    → ReportsScenario name text error told → IsReport (IsInText text) name told
 scenario_report name text told scenario.Toml none tells = toml_report name text told (none refl) tells
 scenario_report name text told (scenario.Unknown at key) none tells = subst (IsReport (IsInText text) name) (sym tells) (unknown_report name text at _)
 scenario_report name text told (scenario.At f place) none tells = subst (IsReport (IsInText text) name) (sym tells) (place_report name text f place)

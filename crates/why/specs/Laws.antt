@@ -14,7 +14,7 @@ use Rattle.toml.specs.Parse.{parse_document}
 use Rattle.why.specs.Assembly.{assembly_told}
 use Rattle.why.specs.Bytecode.{bytecode_told, unit_at}
 use Rattle.why.specs.Chronicles.{chronicle_told, schedule_told}
-use Rattle.why.specs.Errors.{TellsScenario, TellsSetting}
+use Rattle.why.specs.Errors.{ReportsScenario, TellsSetting}
 use Rattle.why.specs.Lines.{line_at, trimmed}
 use Rattle.why.specs.Messages.{table_told}
 use Rattle.why.specs.Musters.{muster_sentence}
@@ -54,6 +54,6 @@ pub record RefusalsAreTold : Type 0 where
   pub object : (fault : ObjectFault) → sentence_of fault ≢ []
   pub muster : (error : MusterError) → muster_sentence error ≢ []
   pub scenario : (name text told : List ℕ) (error : ScenarioError) → (error ≡ scenario.Toml → IsUtf8 text × (parse_document text ≡ None))
-      → TellsScenario name text error told → IsReport (IsInText text) name told
+      → ReportsScenario name text error told → IsReport (IsInText text) name told
   pub setting : (name text told : List ℕ) (error : SettingError) → (error ≡ setting.Toml → IsUtf8 text × (parse_document text ≡ None))
       → TellsSetting name text error told → IsReport (IsInText text) name told

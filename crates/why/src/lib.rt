@@ -4,6 +4,7 @@
 mod assembly;
 mod bytecode;
 mod chronicles;
+mod judged;
 mod keys;
 mod laws;
 mod lines;
