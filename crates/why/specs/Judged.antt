@@ -6,10 +6,10 @@ use Rattle.std.specs.declared.alloc.Global.{Global}
 use Rattle.toml.specs.Parse.{parse_document}
 use Rattle.insn.specs.declared.insn.Insn.{Insn}
 use Rattle.insn.specs.Program.{slots_of}
-use Rattle.asm.specs.Places.{AreWritten, line_text}
+use Rattle.asm.specs.Places.{AreWritten, line_text, statements_of}
 use Rattle.asm.specs.Program.{lines_of, nothing, read_on}
 use Rattle.explain.specs.Explained.{explained_at}
-use Rattle.explain.specs.Units.{places_in}
+use Rattle.explain.specs.Units.{in_lists}
 use Rattle.scenario.specs.Sources.{source_by}
 use Rattle.scenario.specs.Tables.{Source, Assembly, Hex}
 use Rattle.scenario.specs.Told.{IsFaultOf, IsProgramOf}
@@ -41,11 +41,16 @@ ArePlaced source None program places = places ≡ []
 ArePlaced (Assembly text) (Some f) program places = ArePlacedFrom (is_long (value_end f.line)) text f program places
 ArePlaced (Hex text) (Some f) program places = ArePlacedFrom false text f program places
 
+-- how they are written: of assembly in the words of its lines
+abbrev pub AreStated : Source → List (List ℕ) → Type 0
+AreStated (Assembly text) statements = statements ≡ statements_of text
+AreStated (Hex text) statements = statements ≡ []
+
 -- the source has this program, and an empty line and its explanation are told; or it has none, and nothing is
 abbrev pub IsExplainedOf : Source → Option Found → List ℕ → Type 0
 IsExplainedOf source line told =
-    ((program : List Insn) × IsProgramOf source program × ((places : List (String Global)) × ArePlaced source line program (map string_bytes places)
-    × (told ≡ codes "\n" ++ explained_at (places_in places) program)))
+    ((program : List Insn) × IsProgramOf source program × ((places statements : List (String Global)) × ArePlaced source line program (map string_bytes places)
+    × AreStated source (map string_bytes statements) × (told ≡ codes "\n" ++ explained_at (in_lists places statements) program)))
     ⊎ ((fault : ProgramFault) × IsFaultOf fault source × (told ≡ []))
 
 abbrev pub IsExplainedBy : Option Source → Option Found → List ℕ → Type 0

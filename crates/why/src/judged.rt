@@ -8,7 +8,7 @@ ghost use Rattle.asm.specs.Places.{AreWritten, line_text};
 ghost use Rattle.asm.specs.Program.{lines_of, nothing, read_on};
 ghost use Rattle.insn.specs.Program.{slots_of};
 ghost use Rattle.scenario.specs.Seen.{source_of};
-ghost use Rattle.why.specs.Judged.{ArePlaced, IsExplained, IsExplainedBy, IsExplainedOf, IsJudged, judged_of, lines_before, pushed_down};
+ghost use Rattle.why.specs.Judged.{ArePlaced, AreStated, IsExplained, IsExplainedBy, IsExplainedOf, IsJudged, judged_of, lines_before, pushed_down};
 ghost use Rattle.why.specs.Keys.{found_view};
 
 use crate::keys::{Found, value_end};
@@ -84,6 +84,16 @@ fn placed(
     }
 }
 
+/// How the units of a program that is written so are written.
+fn stated(alloc: Global, written: Written<'_>) -> Result<Vec<String>, AllocError>
+    ensures { IfOk result (λ statements. AreStated (source_of written.entry) (map string_bytes statements.items)) }
+{
+    match written {
+        Written::Asm(text) => asm::statements(alloc, text),
+        Written::Code(_) => Ok(Vec::new(alloc)),
+    }
+}
+
 /// What is known of a program that is written so, whose key stands in this line: an empty line and its explanation.
 fn explained_of(
     alloc: Global,
@@ -102,7 +112,12 @@ fn explained_of(
         Err(ScenarioError::At(_, _)) => unreachable!(),
     };
     let places = placed(alloc, written, line, &program)?;
-    let told = explanation_at(alloc, &program, places.as_slice())?;
+    let statements = stated(alloc, written)?;
+    let lists = explain::Written {
+        places: places.as_slice(),
+        statements: statements.as_slice(),
+    };
+    let told = explanation_at(alloc, &program, &lists)?;
     let told = told.as_str();
     format!(in alloc; "\n{told}")
 }
