@@ -23,10 +23,12 @@ use std::env;
 use std::fmt::Display;
 use std::io::{self, Cursor, ErrorKind, Read};
 use std::process::ExitCode;
+use std::sync::Wait;
+use std::thread::Threads;
 use target::Target;
 
 fn main(rt: HostRuntime) -> ExitCode {
-    let status = match called(&rt) {
+    let status = match called(&rt, &rt) {
         Ok(status) => status,
         Err(error) => lacking(&rt, error.kind()),
     };
@@ -43,7 +45,7 @@ fn lacking(rt: &HostRuntime, kind: ErrorKind) -> u8
 }
 
 /// Reads the words, and does each request of theirs, up to the first that is none. The result is the worst exit status.
-fn called(rt: &HostRuntime) -> io::Result<u8> {
+fn called<T: Threads + Wait + Sync>(rt: &HostRuntime, threads: &T) -> io::Result<u8> {
     let alloc = rt.alloc();
     let words: Vec<String> = env::args(rt)?.skip(1).collect(alloc)?;
     let mut texts: Vec<&str> = Vec::with_capacity(alloc, words.len())?;
@@ -58,7 +60,7 @@ fn called(rt: &HostRuntime) -> io::Result<u8> {
             Ok(request) => request,
             Err(error) => return unasked(rt, error),
         };
-        let status = match answered(rt, &request) {
+        let status = match answered(rt, threads, &request) {
             Ok(status) => status,
             Err(error) => lacking(rt, error.kind()),
         };
@@ -76,7 +78,11 @@ fn worse(first: u8, second: u8) -> u8
 }
 
 /// Does what is asked for. The result is the exit status.
-fn answered(rt: &HostRuntime, request: &Request) -> io::Result<u8> {
+fn answered<T: Threads + Wait + Sync>(
+    rt: &HostRuntime,
+    threads: &T,
+    request: &Request,
+) -> io::Result<u8> {
     let Some(first) = opened(rt, request, request.task.file())? else {
         return Ok(1);
     };
@@ -91,7 +97,7 @@ fn answered(rt: &HostRuntime, request: &Request) -> io::Result<u8> {
         return Ok(1);
     };
     Ok(serve(
-        rt,
+        threads,
         rt.alloc(),
         request,
         first,
