@@ -24,11 +24,13 @@ use std::env;
 use std::fmt::Display;
 use std::io::{self, Cursor, ErrorKind, Read};
 use std::process::ExitCode;
+use std::sync::Wait;
+use std::thread::Threads;
 use target::Target;
 use watched::Watched;
 
 fn main(rt: HostRuntime) -> ExitCode {
-    let status = match called(&rt) {
+    let status = match called(&rt, &rt) {
         Ok(status) => status,
         Err(error) => lacking(&rt, error.kind()),
     };
@@ -45,7 +47,7 @@ fn lacking(rt: &HostRuntime, kind: ErrorKind) -> u8
 }
 
 /// Reads the words, and does each request of theirs, up to the first that is none. The result is the worst exit status.
-fn called(rt: &HostRuntime) -> io::Result<u8> {
+fn called<T: Threads + Wait + Sync>(rt: &HostRuntime, threads: &T) -> io::Result<u8> {
     let alloc = rt.alloc();
     let words: Vec<String> = env::args(rt)?.skip(1).collect(alloc)?;
     let mut texts: Vec<&str> = Vec::with_capacity(alloc, words.len())?;
@@ -60,7 +62,7 @@ fn called(rt: &HostRuntime) -> io::Result<u8> {
             Ok(request) => request,
             Err(error) => return unasked(rt, error),
         };
-        let status = match answered(rt, &request) {
+        let status = match answered(rt, threads, &request) {
             Ok(status) => status,
             Err(error) => lacking(rt, error.kind()),
         };
@@ -78,7 +80,11 @@ fn worse(first: u8, second: u8) -> u8
 }
 
 /// Does what is asked for. The result is the exit status.
-fn answered(rt: &HostRuntime, request: &Request) -> io::Result<u8> {
+fn answered<T: Threads + Wait + Sync>(
+    rt: &HostRuntime,
+    threads: &T,
+    request: &Request,
+) -> io::Result<u8> {
     let Some(first) = opened(rt, request, request.task.file())? else {
         return Ok(1);
     };
@@ -92,15 +98,21 @@ fn answered(rt: &HostRuntime, request: &Request) -> io::Result<u8> {
     let Some(first) = completed(rt, request, first)? else {
         return Ok(1);
     };
-    Ok(served(rt, request, first, second))
+    Ok(served(rt, threads, request, first, second))
 }
 
 /// Does what is asked for on these files, and tells behind a fault of its output why, where it explains what it refuses. The
 /// result is the exit status.
-fn served(rt: &HostRuntime, request: &Request, first: Input, second: Option<Input>) -> u8 {
+fn served<T: Threads + Wait + Sync>(
+    rt: &HostRuntime,
+    threads: &T,
+    request: &Request,
+    first: Input,
+    second: Option<Input>,
+) -> u8 {
     let mut target = Watched::new(Target::of(rt, request.task.target()));
     let alloc = rt.alloc();
-    let status = serve(rt, alloc, request, first, second, &mut target, &mut rt.stderr());
+    let status = serve(threads, alloc, request, first, second, &mut target, &mut rt.stderr());
     if let (1, true, Some(kind)) = (status, is_explained(&request.task), target.fault()) {
         let why = reason(kind);
         let _ = rt.eprintln(format_args!("error: {why}"));
