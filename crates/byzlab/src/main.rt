@@ -46,7 +46,15 @@ fn main(rt: HostRuntime) -> ExitCode {
 fn served(rt: &HostRuntime, task: &Task, first: Input, second: Option<Input>) -> u8 {
     let mut target = Watched::new(Target::of(rt, task.target()));
     let alloc = rt.alloc();
-    let status = serve(rt, alloc, task, first, second, &mut target, &mut rt.stderr());
+    let status = serve(
+        rt,
+        alloc,
+        task,
+        first,
+        second,
+        &mut target,
+        &mut rt.stderr(),
+    );
     if let (1, true, Some(kind)) = (status, is_explained(task), target.fault()) {
         let why = reason(kind);
         let _ = rt.eprintln(format_args!("error: {why}"));
