@@ -31,7 +31,11 @@ fn program_line<'a>(
 }
 
 /// The line of the program: that of its assembly, else that of its bytecode.
-pub(crate) fn source_line(alloc: Global, general: u8, text: &[u8]) -> Result<Option<Found<'_>>, AllocError>
+pub(crate) fn source_line(
+    alloc: Global,
+    general: u8,
+    text: &[u8],
+) -> Result<Option<Found<'_>>, AllocError>
     ensures { IfOk result (λ line. option_map found_view line ≡ source_line general text.now) }
 {
     match program_line(alloc, general, b"asm", text)? {
