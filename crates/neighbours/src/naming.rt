@@ -1,5 +1,14 @@
 //! Files that a scenario names.
+ghost use Rattle.std.specs.Prelude.{◌≡◌, Ok, Err, IfErr, IfOk, IfSome, MatchResult, string_bytes};
+ghost use Rattle.elf.specs.Entry.{entry_of};
+ghost use Rattle.elf.specs.Symbol.{asked};
+ghost use Rattle.references.specs.declared.key.Key.TheVariants.{Assembly, Object};
+ghost use Rattle.streams.specs.Names.{shown};
+ghost use Rattle.neighbours.specs.Taken.{IsBeside, IsNamed, IsUntakenOf, fault_lines, fault_told, refused_lines, refused_told};
+ghost use Rattle.neighbours.specs.declared.naming.Untaken.TheVariants.{Memory};
+
 use crate::folder::Folder;
+use elf::{Fault, entry, sentence};
 use references::{Beside, Key, Reference};
 use std::alloc::{AllocError, Global};
 use std::io::{self, ErrorKind};
@@ -8,13 +17,15 @@ use streams::FileName;
 /// Why a file that a scenario names is not taken.
 #[derive(Debug, Drop)]
 pub enum Untaken {
-    /// What is told of it, two lines: the fault, and by which key the file is named.
+    /// What is told of it: the fault, of an object also what that means, and by which key the file is named, each a line.
     Told(String),
     /// Want of memory.
     Memory,
 }
 
 impl From<AllocError> for Untaken {
+    ghost from_gives = { λ _ untaken. untaken ≡ Memory };
+
     fn from(_error: AllocError) -> Untaken {
         Untaken::Memory
     }
@@ -25,33 +36,117 @@ pub(crate) fn beside<D: Folder>(
     alloc: Global,
     folder: &D,
     named: &Reference,
-) -> Result<Beside, Untaken> {
+) -> Result<Beside, Untaken>
+    ensures file { IfOk result (IsBeside named.now) }
+    ensures untaken { IfErr result (IsUntakenOf named.now) }
+{
     let bytes = match folder.read(alloc, named.name.as_str()) {
         Ok(bytes) => bytes,
         Err(error) => return Err(unread(alloc, &error, named)?),
     };
-    let name = named.name.clone()?;
     match named.key {
-        Key::Bytecode => Ok(Beside::bytecode(alloc, name, bytes.as_slice())?),
-        Key::Assembly => match String::from_utf8(bytes) {
-            Ok(text) => Ok(Beside::assembly(name, text)),
-            Err(_) => Err(Untaken::Told(told(alloc, "text", named)?)),
-        },
+        Key::Assembly => assembly(alloc, named, bytes),
+        Key::Bytecode => Ok(Beside::bytecode(alloc, named.name.clone()?, bytes.as_slice())?),
+        Key::Object => object(alloc, named, bytes.as_slice()),
+    }
+}
+
+/// A file of assembly, whose bytes are its text.
+fn assembly(alloc: Global, named: &Reference, bytes: Vec<u8>) -> Result<Beside, Untaken>
+    requires { named.now.key ≡ Assembly }
+    ensures file { IfOk result (IsBeside named.now) }
+    ensures untaken { IfErr result (IsUntakenOf named.now) }
+{
+    let name = named.name.clone()?;
+    match String::from_utf8(bytes) {
+        Ok(text) => Ok(Beside::assembly(name, text)),
+        Err(_) => Err(Untaken::Told(told(alloc, "text", named)?)),
+    }
+}
+
+/// The function of an object that is named.
+fn object(alloc: Global, named: &Reference, bytes: &[u8]) -> Result<Beside, Untaken>
+    requires { named.now.key ≡ Object }
+    ensures file { IfOk result (IsBeside named.now) }
+    ensures untaken { IfErr result (IsUntakenOf named.now) }
+{
+    let name = named.name.clone()?;
+    let function = named.function.as_deref();
+    match code_in(bytes, function) {
+        Ok(code) => Ok(Beside::object(alloc, name, function, code)?),
+        Err(fault) => Err(Untaken::Told(refused(alloc, fault, named)?)),
+    }
+}
+
+/// The code of an object's function.
+fn code_in<'a>(object: &'a [u8], function: Option<&str>) -> Result<&'a [u8], Fault>
+    ensures { MatchResult result (λ code. entry_of object.now (asked function.entry) ≡ Ok code.now)
+        (λ fault. entry_of object.now (asked function.entry) ≡ Err fault) }
+{
+    match function {
+        None => entry(object, None),
+        Some(name) => entry(object, Some(name.as_bytes())),
     }
 }
 
 /// Why a file is not taken whose reading failed so.
-fn unread(alloc: Global, error: &io::Error, named: &Reference) -> Result<Untaken, AllocError> {
+fn unread(alloc: Global, error: &io::Error, named: &Reference) -> Result<Untaken, AllocError>
+    ensures { IfOk result (IsUntakenOf named.now) }
+{
     match error.kind() {
         ErrorKind::OutOfMemory => Ok(Untaken::Memory),
         _ => Ok(Untaken::Told(told(alloc, "read", named)?)),
     }
 }
 
+/// The name of a file as it is shown.
+fn shown(alloc: Global, name: &str) -> Result<String, AllocError>
+    ensures { IfOk result (λ text. IfSome (shown name.now) (λ own. string_bytes text ≡ own)) }
+{
+    format!(in alloc; "{}", FileName(name))
+}
+
 /// The lines of a fault of a file that is named so.
-fn told(alloc: Global, fault: &str, named: &Reference) -> Result<String, AllocError> {
-    let name = FileName(named.name.as_str());
-    let index = named.index;
-    let key = named.key.reference();
+fn told(alloc: Global, fault: &str, named: &Reference) -> Result<String, AllocError>
+    ensures { IfOk result (λ text. IsNamed named.now (fault_told named.now fault.now) (string_bytes text)) }
+{
+    let name = shown(alloc, named.name.as_str())?;
+    fault_lines(alloc, fault, name.as_str(), named.index, named.key)
+}
+
+/// The lines of a fault of an object that is named so.
+fn refused(alloc: Global, fault: Fault, named: &Reference) -> Result<String, AllocError>
+    ensures { IfOk result (λ text. IsNamed named.now (refused_told named.now fault) (string_bytes text)) }
+{
+    let name = shown(alloc, named.name.as_str())?;
+    refused_lines(alloc, fault, name.as_str(), named.index, named.key)
+}
+
+/// That the file of this name cannot be read, or is no text.
+fn fault_lines(
+    alloc: Global,
+    fault: &str,
+    name: &str,
+    index: usize,
+    key: Key,
+) -> Result<String, AllocError>
+    ensures { IfOk result (λ text. string_bytes text ≡ fault_lines index key fault.now name.now) }
+{
+    let key = key.reference();
     format!(in alloc; "fault {fault} {name}\nit is named by traitor[{index}].{key}")
+}
+
+/// That the object of this name has this fault.
+fn refused_lines(
+    alloc: Global,
+    fault: Fault,
+    name: &str,
+    index: usize,
+    key: Key,
+) -> Result<String, AllocError>
+    ensures { IfOk result (λ text. string_bytes text ≡ refused_lines index key fault name.now) }
+{
+    let key = key.reference();
+    let sentence = sentence(fault);
+    format!(in alloc; "refused {fault}\n{sentence}\n{name} is named by traitor[{index}].{key}")
 }

@@ -1,0 +1,72 @@
+-- The files that a scenario asks for, as they are taken, and what is told of one that is not (own).
+use Rattle.std.specs.Prelude.{ℕ, ◌≡◌, ◌⊎◌, List, ◌++◌, Option, None, Ok, Err, IfSome, Contains, codes, string_bytes}
+use Rattle.std.specs.Fmt.{decimal}
+use Rattle.hex.specs.Hex.{encode_lower}
+use Rattle.elf.specs.declared.fault.Fault.{Fault}
+use Rattle.elf.specs.Entry.{entry_of}
+use Rattle.elf.specs.Sentences.{sentence_of}
+use Rattle.elf.specs.Telling.{told}
+use Rattle.streams.specs.Names.{shown}
+use Rattle.references.specs.declared.key.Key.{Key}
+use Rattle.references.specs.declared.key.Key.TheVariants.{Assembly, Bytecode, Object}
+use Rattle.references.specs.Asking.{Asked}
+use Rattle.references.specs.Names.{File, reference_of}
+use Rattle.neighbours.specs.declared.naming.Untaken.{Untaken}
+use Rattle.neighbours.specs.declared.naming.Untaken.TheVariants.{Told, Memory}
+
+-- what stands in the place of a file of these bytes: its text where it is assembly, else bytecode in hex, of an object that of its function
+abbrev pub IsTextOf : Key → Option (List ℕ) → List ℕ → List ℕ → Type 0
+IsTextOf Assembly function bytes text = text ≡ bytes
+IsTextOf Bytecode function bytes text = text ≡ encode_lower bytes
+IsTextOf Object function bytes text = (code : List ℕ) × (entry_of bytes function ≡ Ok code) × (text ≡ encode_lower code)
+
+-- which function is asked for: of an object alone
+abbrev pub function_in : Key → Option (List ℕ) → Option (List ℕ)
+function_in Object function = function
+function_in key function = None
+
+-- the file that is asked for so, whatever bytes it has
+pub record IsBeside (a : Asked) (f : File) : Type 0 where
+  pub key : f.key ≡ a.key
+  pub name : f.name ≡ a.name
+  pub function : f.function ≡ function_in a.key a.function
+  pub bytes : List ℕ
+  pub text : IsTextOf a.key a.function bytes f.text
+
+-- what is told of a file of this name, as it is shown: that it cannot be read, or is no text
+abbrev pub fault_lines : ℕ → Key → List ℕ → List ℕ → List ℕ
+fault_lines index key fault name =
+    codes "fault " ++ fault ++ codes " " ++ name ++ codes "\nit is named by traitor[" ++ decimal index ++ codes "]." ++ reference_of key
+
+abbrev pub fault_told : Asked → List ℕ → List ℕ → List ℕ
+fault_told a fault name = fault_lines a.index a.key fault name
+
+-- that an object has this fault
+abbrev pub refused_lines : ℕ → Key → Fault → List ℕ → List ℕ
+refused_lines index key fault name =
+    codes "refused " ++ told fault ++ codes "\n" ++ sentence_of fault ++ codes "\n" ++ name ++ codes " is named by traitor["
+    ++ decimal index ++ codes "]." ++ reference_of key
+
+abbrev pub refused_told : Asked → Fault → List ℕ → List ℕ
+refused_told a fault name = refused_lines a.index a.key fault name
+
+-- the lines, with the file's name as it is shown; of such a name past ASCII nothing is said
+abbrev pub IsNamed : Asked → (List ℕ → List ℕ) → List ℕ → Type 0
+IsNamed a lines text = IfSome (shown a.name) (λ name. text ≡ lines name)
+
+-- no file is read, or one of assembly is no text, or an object has this fault
+abbrev pub IsFaultOf : Asked → List ℕ → Type 0
+IsFaultOf a text =
+    IsNamed a (fault_told a (codes "read")) text
+    ⊎ (((a.key ≡ Assembly) × IsNamed a (fault_told a (codes "text")) text)
+    ⊎ ((bytes : List ℕ) × (fault : Fault) × (a.key ≡ Object) × (entry_of bytes a.function ≡ Err fault) × IsNamed a (refused_told a fault) text))
+
+-- it is not taken, and this is told of it; or want of memory
+abbrev pub IsUntakenOf : Asked → Untaken → Type 0
+IsUntakenOf a (Told text) = IsFaultOf a (string_bytes text)
+IsUntakenOf a Memory = Unit {0}
+
+-- the same of one of those that are asked for
+abbrev pub IsUntaken : List Asked → Untaken → Type 0
+IsUntaken asked (Told text) = (a : Asked) × Contains asked a × IsFaultOf a (string_bytes text)
+IsUntaken asked Memory = Unit {0}
