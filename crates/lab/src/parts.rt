@@ -5,8 +5,8 @@ ghost use Rattle.elf.specs.Entry.{entry_of};
 ghost use Rattle.elf.specs.Symbol.{asked};
 ghost use Rattle.partial.specs.Printing.{IsTextOf};
 ghost use Rattle.partial.specs.Reading.{bytes_said};
-ghost use Rattle.lab.specs.Parts.{AssemblesPartly, AssemblesPartlyRaw, DisassemblesPartly, RefusesLines, RefusesParts, RefusesSaid, RefusesUnits};
-ghost use Rattle.lab.specs.Refusals.{RefusesObject};
+ghost use Rattle.lab.specs.Parts.{AssemblesPartly, AssemblesPartlyRaw, DisassemblesPartly};
+ghost use Rattle.lab.specs.Refusals.{RefusesLines, RefusesObject, RefusesParts, RefusesSaid, RefusesUnits};
 
 use crate::programs::code_in;
 use crate::refusal::Refusal;
