@@ -2,26 +2,27 @@
 use Rattle.std.specs.Prelude.{ℕ, ◌+◌, List, [], ◌∷◌, ◌++◌, Option, None, Some}
 use Rattle.toml.specs.Data.{Items, no_items, item, Members, as_table}
 use Rattle.references.specs.declared.key.Key.{Key}
-use Rattle.references.specs.declared.key.Key.TheVariants.{Assembly, Bytecode}
-use Rattle.references.specs.Names.{name_at, traitors}
+use Rattle.references.specs.declared.key.Key.TheVariants.{Assembly, Bytecode, Object}
+use Rattle.references.specs.Names.{function_at, name_at, traitors}
 
--- the table of this number names a file by this key
+-- the table of this number names a file by this key, and of an object the function
 pub record Asked : Type 0 where
   pub index : ℕ
   pub key : Key
   pub name : List ℕ
+  pub function : Option (List ℕ)
 
-abbrev pub asked_if : ℕ → Key → Option (List ℕ) → List Asked
-asked_if i key None = []
-asked_if i key (Some name) = record { index = i; key = key; name = name } ∷ []
+abbrev pub asked_if : ℕ → Key → Option (List ℕ) → Option (List ℕ) → List Asked
+asked_if i key function None = []
+asked_if i key function (Some name) = record { index = i; key = key; name = name; function = function } ∷ []
 
 abbrev pub asked_by : ℕ → Members → Key → List Asked
-asked_by i ms key = asked_if i key (name_at key ms)
+asked_by i ms key = asked_if i key (function_at key ms) (name_at key ms)
 
 -- by an element of the list, where it is a table
 abbrev pub asked_of : ℕ → Option Members → List Asked
 asked_of i None = []
-asked_of i (Some ms) = asked_by i ms Assembly ++ asked_by i ms Bytecode
+asked_of i (Some ms) = asked_by i ms Assembly ++ asked_by i ms Bytecode ++ asked_by i ms Object
 
 -- by the elements of the list, from this number on
 abbrev pub asked_in : ℕ → Items → List Asked

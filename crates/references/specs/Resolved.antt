@@ -1,15 +1,20 @@
 -- A scenario in which the files stand where they are named, and each traitor has a table of his own (own).
-use Rattle.std.specs.Prelude.{◌≡◌, ◌≤◌, ℕ, Bool, true, false, ◌||◌, if◌then◌else◌, List, Option, None, Some, is_some, option_map, option_and_then, codes, bytes_eq}
+use Rattle.std.specs.Prelude.{◌≡◌, ◌≤◌, ℕ, Bool, true, false, ◌||◌, ◌&&◌, cond, if◌then◌else◌, List, Option, None, Some, is_some, option_map, option_and_then, codes, bytes_eq}
 use Rattle.toml.specs.Data.{Data, string, array, table, Items, no_items, item, Members, no_members, member, as_table, get_member, members_depth, members_have_valid_dates}
 use Rattle.toml.specs.Parse.{parse_document}
 use Rattle.references.specs.declared.key.Key.{Key}
-use Rattle.references.specs.Names.{File, key_of, name_at, place_of, seats, text_named, traitors}
+use Rattle.references.specs.declared.key.Key.TheVariants.{Object}
+use Rattle.references.specs.Names.{File, function_at, key_of, name_at, place_of, seats, text_named, traitors}
 use Rattle.references.specs.Members.{join, put}
 
 -- what stands in the place of the file that a table names by the key k: of which program, and its text
 abbrev pub program : List File → Members → List ℕ → Option (Key × List ℕ)
 program files ms k =
-    option_and_then (λ key. option_and_then (λ name. option_map (λ t. (key, t)) (text_named files key name)) (name_at key ms)) (key_of k)
+    option_and_then (λ key. option_and_then (λ name. option_map (λ t. (key, t)) (text_named files key name (function_at key ms))) (name_at key ms)) (key_of k)
+
+-- the key names the function of an object that stands in its place: nothing is left of it
+abbrev pub is_spent : List File → Members → List ℕ → Bool
+is_spent files ms k = bytes_eq k (codes "entry") && (is_some (function_at Object ms) && is_some (program files ms (codes "elf")))
 
 -- an entry without a file: this general in place of those who share the table
 abbrev pub kept : Option Data → List ℕ → Data → Members → Members
@@ -22,7 +27,7 @@ entry_by (Some p) general k d done = put (place_of p.0) (string p.1) done
 
 -- an entry of the table ms
 abbrev pub entry : List File → Option Data → Members → List ℕ → Data → Members → Members
-entry files general ms k d done = entry_by (program files ms k) general k d done
+entry files general ms k d done = cond (is_spent files ms k) done (entry_by (program files ms k) general k d done)
 
 -- the entries of the table ms, one put after the other
 abbrev pub entries : List File → Option Data → Members → Members → Members → Members
@@ -62,7 +67,9 @@ with_traitors files ds ms = put (codes "traitor") (array (resolved files ds)) ms
 
 -- a table names a file, or generals who share it
 abbrev pub table_refers : Members → Bool
-table_refers ms = is_some (get_member (codes "asm_file") ms) || (is_some (get_member (codes "code_file") ms) || is_some (get_member (codes "generals") ms))
+table_refers ms =
+    is_some (get_member (codes "asm_file") ms) || (is_some (get_member (codes "code_file") ms)
+    || (is_some (get_member (codes "elf") ms) || is_some (get_member (codes "generals") ms)))
 
 abbrev pub refers_by : Option Members → Bool
 refers_by None = false

@@ -1,12 +1,12 @@
 //! Which files a scenario names.
-ghost use Rattle.std.specs.Prelude.{◌≡◌, ◌++◌, IfOk, OnOk};
+ghost use Rattle.std.specs.Prelude.{◌≡◌, ◌++◌, IfOk, OnOk, option_map, string_bytes};
 ghost use Rattle.toml.specs.Data.{as_table};
 ghost use Rattle.toml.specs.Parse.{parse_document};
 ghost use Rattle.toml.specs.View.{items_view, table_view, view};
 ghost use Rattle.references.specs.Asking.{asked, asked_by, asked_in, asked_of};
 
 use crate::key::Key;
-use crate::tables::{name_at, traitors};
+use crate::tables::{function_at, name_at, traitors};
 use std::alloc::{AllocError, Global};
 use std::marker::Model;
 use toml::{Table, Value};
@@ -18,15 +18,27 @@ pub struct Reference {
     pub index: usize,
     pub key: Key,
     pub name: String,
+    /// Of an object the function that is the program; none where its only global one is.
+    pub function: Option<String>,
 }
 
 impl Model for Reference {
-    ghost use Rattle.std.specs.Prelude.{string_bytes};
+    ghost use Rattle.std.specs.Prelude.{option_map, string_bytes};
     ghost use Rattle.references.specs.Asking.{Asked};
 
     ghost Value = { Asked };
 
-    ghost view = { λ a. record { index = a.index; key = a.key; name = string_bytes a.name } };
+    ghost view = { λ a. record { index = a.index; key = a.key; name = string_bytes a.name; function = option_map string_bytes a.function } };
+}
+
+/// A text of its own, where there is one.
+fn copied(alloc: Global, text: Option<&str>) -> Result<Option<String>, AllocError>
+    ensures { IfOk result (λ own. option_map string_bytes own ≡ option_map (λ t. t.now) text.entry) }
+{
+    match text {
+        None => Ok(None),
+        Some(text) => Ok(Some(String::from_str(alloc, text)?)),
+    }
 }
 
 /// The file that a table names by a key, behind the others.
@@ -44,6 +56,7 @@ fn ask(
             index,
             key,
             name: String::from_str(alloc, name)?,
+            function: copied(alloc, function_at(table, key))?,
         })?;
     }
     Ok(())
@@ -62,7 +75,8 @@ fn ask_all(
         return Ok(());
     };
     ask(alloc, done, index, table, Key::Assembly)?;
-    ask(alloc, done, index, table, Key::Bytecode)
+    ask(alloc, done, index, table, Key::Bytecode)?;
+    ask(alloc, done, index, table, Key::Object)
 }
 
 /// The files that the list names.

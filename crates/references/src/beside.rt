@@ -1,38 +1,41 @@
 //! Files that were read beside a scenario.
-ghost use Rattle.std.specs.Prelude.{◌≡◌, ◌∷◌, [], IfOk, option_map, string_bytes};
+ghost use Rattle.std.specs.Prelude.{◌≡◌, ◌∷◌, [], IfOk, None, option_map, string_bytes};
 ghost use Rattle.hex.specs.Hex.{encode_lower};
-ghost use Rattle.references.specs.Names.{text_named};
-ghost use Rattle.references.specs.declared.key.Key.TheVariants.{Assembly, Bytecode};
+ghost use Rattle.references.specs.Names.{are_same, text_named};
+ghost use Rattle.references.specs.declared.key.Key.TheVariants.{Assembly, Bytecode, Object};
 
 use crate::key::Key;
 use std::alloc::{AllocError, Global};
 use std::marker::Model;
 
-/// A file that was read beside a scenario: by which key it is named, its name, and the text that stands in its place.
+/// A file that was read beside a scenario: by which key it is named, its name, which function of an object, and the text that
+/// stands in its place.
 #[derive(Debug, Drop)]
 pub struct Beside {
     key: Key,
     name: String,
+    function: Option<String>,
     text: String,
 }
 
 impl Model for Beside {
-    ghost use Rattle.std.specs.Prelude.{string_bytes};
+    ghost use Rattle.std.specs.Prelude.{option_map, string_bytes};
     ghost use Rattle.references.specs.Names.{File};
 
     ghost Value = { File };
 
-    ghost view = { λ f. record { key = f.key; name = string_bytes f.name; text = string_bytes f.text } };
+    ghost view = { λ f. record { key = f.key; name = string_bytes f.name; function = option_map string_bytes f.function; text = string_bytes f.text } };
 }
 
 impl Beside {
     /// A file of assembly with this text.
     pub fn assembly(name: String, text: String) -> Beside
-        ensures { result ≡ record { key = Assembly; name = string_bytes name; text = string_bytes text } }
+        ensures { result ≡ record { key = Assembly; name = string_bytes name; function = None; text = string_bytes text } }
     {
         Beside {
             key: Key::Assembly,
             name,
+            function: None,
             text,
         }
     }
@@ -43,33 +46,78 @@ impl Beside {
     ///
     /// `AllocError` where the memory for the digits is refused.
     pub fn bytecode(alloc: Global, name: String, bytes: &[u8]) -> Result<Beside, AllocError>
-        ensures { IfOk result (λ f. f ≡ record { key = Bytecode; name = string_bytes name; text = encode_lower bytes.now }) }
+        ensures { IfOk result (λ f. f ≡ record { key = Bytecode; name = string_bytes name; function = None; text = encode_lower bytes.now }) }
     {
         let text = hex::encode(alloc, bytes)?;
         Ok(Beside {
             key: Key::Bytecode,
             name,
+            function: None,
+            text,
+        })
+    }
+
+    /// An object, of which this function has this code, which stands in its place in hex; no function is named where it is
+    /// the only global one.
+    ///
+    /// # Errors
+    ///
+    /// `AllocError` where the memory for the digits is refused.
+    pub fn object(
+        alloc: Global,
+        name: String,
+        function: Option<String>,
+        code: &[u8],
+    ) -> Result<Beside, AllocError>
+        ensures { IfOk result (λ f. f ≡ record { key = Object; name = string_bytes name; function = option_map string_bytes function; text = encode_lower code.now }) }
+    {
+        let text = hex::encode(alloc, code)?;
+        Ok(Beside {
+            key: Key::Object,
+            name,
+            function,
             text,
         })
     }
 
     /// Its text, where it is named so.
-    fn text_if(&self, key: Key, name: &str) -> Option<&str>
-        ensures { option_map (λ t. t.now) result ≡ text_named (self.now ∷ []) key name.now }
+    fn text_if(&self, key: Key, name: &str, function: Option<&str>) -> Option<&str>
+        ensures { option_map (λ t. t.now) result
+            ≡ text_named (self.now ∷ []) key name.now (option_map (λ f. f.now) function.entry) }
     {
-        if self.key.is_same(key) && self.name.as_str() == name {
+        if self.key.is_same(key)
+            && self.name.as_str() == name
+            && are_same(self.function.as_deref(), function)
+        {
             return Some(self.text.as_str());
         }
         None
     }
 }
 
+/// Whether no function is named, or the same.
+fn are_same(own: Option<&str>, other: Option<&str>) -> bool
+    ensures { result ≡ are_same (option_map (λ f. f.now) own.entry) (option_map (λ f. f.now) other.entry) }
+{
+    match (own, other) {
+        (None, None) => true,
+        (Some(own), Some(other)) => own == other,
+        (None, Some(_)) | (Some(_), None) => false,
+    }
+}
+
 /// The text of the first file that is named so.
-pub(crate) fn text_named<'a>(files: &'a [Beside], key: Key, name: &str) -> Option<&'a str>
-    ensures { option_map (λ t. t.now) result ≡ text_named files.now key name.now }
+pub(crate) fn text_named<'a>(
+    files: &'a [Beside],
+    key: Key,
+    name: &str,
+    function: Option<&str>,
+) -> Option<&'a str>
+    ensures { option_map (λ t. t.now) result
+        ≡ text_named files.now key name.now (option_map (λ f. f.now) function.entry) }
 {
     for file in files {
-        if let Some(text) = file.text_if(key, name) {
+        if let Some(text) = file.text_if(key, name, function) {
             return Some(text);
         }
     }

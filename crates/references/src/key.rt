@@ -9,6 +9,8 @@ pub enum Key {
     Assembly,
     /// Bytecode.
     Bytecode,
+    /// An ELF object, of which one function is the program.
+    Object,
 }
 
 impl Key {
@@ -19,6 +21,7 @@ impl Key {
         match self {
             Key::Assembly => "asm_file",
             Key::Bytecode => "code_file",
+            Key::Object => "elf",
         }
     }
 
@@ -28,7 +31,7 @@ impl Key {
     {
         match self {
             Key::Assembly => "asm",
-            Key::Bytecode => "code",
+            Key::Bytecode | Key::Object => "code",
         }
     }
 
@@ -42,6 +45,9 @@ impl Key {
         if text == "code_file" {
             return Some(Key::Bytecode);
         }
+        if text == "elf" {
+            return Some(Key::Object);
+        }
         None
     }
 
@@ -49,9 +55,10 @@ impl Key {
     pub(crate) fn is_same(self, other: Key) -> bool
         ensures { result ≡ is_same self other }
     {
-        match (self, other) {
-            (Key::Assembly, Key::Assembly) | (Key::Bytecode, Key::Bytecode) => true,
-            (Key::Assembly, Key::Bytecode) | (Key::Bytecode, Key::Assembly) => false,
+        match self {
+            Key::Assembly => matches!(other, Key::Assembly),
+            Key::Bytecode => matches!(other, Key::Bytecode),
+            Key::Object => matches!(other, Key::Object),
         }
     }
 }

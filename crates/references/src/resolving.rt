@@ -5,11 +5,11 @@ ghost use Rattle.toml.specs.Parse.{parse_document};
 ghost use Rattle.toml.specs.View.{items_view, table_view, view};
 ghost use Rattle.references.specs.Members.{join};
 ghost use Rattle.references.specs.Names.{traitors};
-ghost use Rattle.references.specs.Resolved.{IsPrinted, Resolves, ResolvesList, element_refers, entry, one_each, program, rebuilt, refers, resolved, table_refers, tables, tables_of};
+ghost use Rattle.references.specs.Resolved.{IsPrinted, Resolves, ResolvesList, element_refers, entry, is_spent, one_each, program, rebuilt, refers, resolved, table_refers, tables, tables_of};
 
 use crate::beside::{Beside, text_named};
 use crate::key::Key;
-use crate::tables::{has, name_at, put, seats, traitors};
+use crate::tables::{function_at, has, name_at, put, seats, traitors};
 use std::alloc::{AllocError, Global};
 use toml::{Table, Value};
 
@@ -20,8 +20,17 @@ fn program<'a>(files: &'a [Beside], table: &Table, key: &str) -> Option<(Key, &'
 {
     let of = Key::of(key)?;
     let name = name_at(table, of)?;
-    let text = text_named(files, of, name)?;
+    let text = text_named(files, of, name, function_at(table, of))?;
     Some((of, text))
+}
+
+/// Whether the key names the function of an object that stands in its place.
+fn is_spent(files: &[Beside], table: &Table, key: &str) -> bool
+    ensures { result ≡ is_spent files.now (table_view table.now) key.now }
+{
+    key == "entry"
+        && function_at(table, Key::Object).is_some()
+        && program(files, table, "elf").is_some()
 }
 
 /// Puts an entry of a traitor's table: the program in place of its file, and this general in place of those who share it.
@@ -37,6 +46,9 @@ fn put_entry(
     ensures { OnOk result (table_view done.new
         ≡ entry files.now (option_map (λ v. view v.now) general.entry) (table_view table.now) key.now (view value.now) (table_view done.old)) }
 {
+    if is_spent(files, table, key) {
+        return Ok(());
+    }
     match (program(files, table, key), general) {
         (Some((of, text)), _) => put(alloc, done, of.place(), Value::string(alloc, text)?),
         (None, Some(general)) if key == "generals" => put(alloc, done, "general", general.clone()?),
@@ -133,7 +145,10 @@ fn resolved_list(
 fn table_refers(table: &Table) -> bool
     ensures { result ≡ table_refers (table_view table.now) }
 {
-    has(table, "asm_file") || has(table, "code_file") || has(table, "generals")
+    has(table, "asm_file")
+        || has(table, "code_file")
+        || has(table, "elf")
+        || has(table, "generals")
 }
 
 /// Whether an element of the list is such a table.

@@ -2,7 +2,7 @@
 ghost use Rattle.std.specs.Prelude.{◌≡◌, OnOk, is_some, option_and_then, option_map, codes};
 ghost use Rattle.toml.specs.Data.{as_array, as_str, get_member};
 ghost use Rattle.toml.specs.View.{items_view, table_view, view};
-ghost use Rattle.references.specs.Names.{name_at, seats, traitors};
+ghost use Rattle.references.specs.Names.{function_at, is_taken, name_at, seats, traitors};
 ghost use Rattle.references.specs.Members.{put};
 
 use crate::key::Key;
@@ -39,14 +39,34 @@ fn list_at<'a>(table: &'a Table, key: &str) -> Option<&'a [Value]>
     }
 }
 
+/// Whether a traitor's table has a program in the place of such a file, or two files for it.
+fn is_taken(table: &Table, key: Key) -> bool
+    ensures { result ≡ is_taken key (table_view table.now) }
+{
+    match key {
+        Key::Object => has(table, "code") || has(table, "code_file"),
+        Key::Assembly | Key::Bytecode => has(table, key.place()),
+    }
+}
+
 /// The file that a traitor's table names by a key, where it has no program in its place.
 pub(crate) fn name_at<'a>(table: &'a Table, key: Key) -> Option<&'a str>
     ensures { option_map (λ n. n.now) result ≡ name_at key (table_view table.now) }
 {
-    if has(table, key.place()) {
+    if is_taken(table, key) {
         return None;
     }
     text_at(table, key.reference())
+}
+
+/// The function of its object that a traitor's table names.
+pub(crate) fn function_at<'a>(table: &'a Table, key: Key) -> Option<&'a str>
+    ensures { option_map (λ f. f.now) result ≡ function_at key (table_view table.now) }
+{
+    match key {
+        Key::Object => text_at(table, "entry"),
+        Key::Assembly | Key::Bytecode => None,
+    }
 }
 
 /// The generals that share a traitor's table, where it names none by himself.
