@@ -1,5 +1,15 @@
 //! Files that a scenario names.
+ghost use Rattle.std.specs.Prelude.{◌≡◌, ◌∷◌, ◌++◌, [], Ok, Err, IfErr, IfOk, MatchResult, codes, string_bytes};
+ghost use Rattle.elf.specs.Entry.{entry_of};
+ghost use Rattle.elf.specs.Sentences.{sentence_of};
+ghost use Rattle.elf.specs.Symbol.{asked};
+ghost use Rattle.elf.specs.Telling.{told as fault_told};
+ghost use Rattle.references.specs.declared.key.Key.TheVariants.{Assembly, Object};
+ghost use Rattle.neighbours.specs.Taken.{IsBeside, IsNamed, IsUntaken};
+ghost use Rattle.neighbours.specs.declared.naming.Untaken.TheVariants.{Memory};
+
 use crate::folder::Folder;
+use elf::{Fault, entry, sentence};
 use references::{Beside, Key, Reference};
 use std::alloc::{AllocError, Global};
 use std::io::{self, ErrorKind};
@@ -8,13 +18,15 @@ use streams::FileName;
 /// Why a file that a scenario names is not taken.
 #[derive(Debug, Drop)]
 pub enum Untaken {
-    /// What is told of it, two lines: the fault, and by which key the file is named.
+    /// What is told of it: the fault, of an object also what that means, and by which key the file is named, each a line.
     Told(String),
     /// Want of memory.
     Memory,
 }
 
 impl From<AllocError> for Untaken {
+    ghost from_gives = { λ _ untaken. untaken ≡ Memory };
+
     fn from(_error: AllocError) -> Untaken {
         Untaken::Memory
     }
@@ -25,23 +37,63 @@ pub(crate) fn beside<D: Folder>(
     alloc: Global,
     folder: &D,
     named: &Reference,
-) -> Result<Beside, Untaken> {
+) -> Result<Beside, Untaken>
+    ensures file { IfOk result (IsBeside named.now) }
+    ensures untaken { IfErr result (IsUntaken (named.now ∷ [])) }
+{
     let bytes = match folder.read(alloc, named.name.as_str()) {
         Ok(bytes) => bytes,
         Err(error) => return Err(unread(alloc, &error, named)?),
     };
-    let name = named.name.clone()?;
     match named.key {
-        Key::Bytecode => Ok(Beside::bytecode(alloc, name, bytes.as_slice())?),
-        Key::Assembly => match String::from_utf8(bytes) {
-            Ok(text) => Ok(Beside::assembly(name, text)),
-            Err(_) => Err(Untaken::Told(told(alloc, "text", named)?)),
-        },
+        Key::Assembly => assembly(alloc, named, bytes),
+        Key::Bytecode => Ok(Beside::bytecode(alloc, named.name.clone()?, bytes.as_slice())?),
+        Key::Object => object(alloc, named, bytes.as_slice()),
+    }
+}
+
+/// A file of assembly, whose bytes are its text.
+fn assembly(alloc: Global, named: &Reference, bytes: Vec<u8>) -> Result<Beside, Untaken>
+    requires { named.now.key ≡ Assembly }
+    ensures file { IfOk result (IsBeside named.now) }
+    ensures untaken { IfErr result (IsUntaken (named.now ∷ [])) }
+{
+    let name = named.name.clone()?;
+    match String::from_utf8(bytes) {
+        Ok(text) => Ok(Beside::assembly(name, text)),
+        Err(_) => Err(Untaken::Told(told(alloc, "text", named)?)),
+    }
+}
+
+/// The function of an object that is named.
+fn object(alloc: Global, named: &Reference, bytes: &[u8]) -> Result<Beside, Untaken>
+    requires { named.now.key ≡ Object }
+    ensures file { IfOk result (IsBeside named.now) }
+    ensures untaken { IfErr result (IsUntaken (named.now ∷ [])) }
+{
+    let name = named.name.clone()?;
+    let function = named.function.clone()?;
+    match code_in(bytes, named.function.as_deref()) {
+        Ok(code) => Ok(Beside::object(alloc, name, function, code)?),
+        Err(fault) => Err(Untaken::Told(refused(alloc, fault, named)?)),
+    }
+}
+
+/// The code of an object's function.
+fn code_in<'a>(object: &'a [u8], function: Option<&str>) -> Result<&'a [u8], Fault>
+    ensures { MatchResult result (λ code. entry_of object.now (asked function.entry) ≡ Ok code.now)
+        (λ fault. entry_of object.now (asked function.entry) ≡ Err fault) }
+{
+    match function {
+        None => entry(object, None),
+        Some(name) => entry(object, Some(name.as_bytes())),
     }
 }
 
 /// Why a file is not taken whose reading failed so.
-fn unread(alloc: Global, error: &io::Error, named: &Reference) -> Result<Untaken, AllocError> {
+fn unread(alloc: Global, error: &io::Error, named: &Reference) -> Result<Untaken, AllocError>
+    ensures { IfOk result (IsUntaken (named.now ∷ [])) }
+{
     match error.kind() {
         ErrorKind::OutOfMemory => Ok(Untaken::Memory),
         _ => Ok(Untaken::Told(told(alloc, "read", named)?)),
@@ -49,9 +101,22 @@ fn unread(alloc: Global, error: &io::Error, named: &Reference) -> Result<Untaken
 }
 
 /// The lines of a fault of a file that is named so.
-fn told(alloc: Global, fault: &str, named: &Reference) -> Result<String, AllocError> {
+fn told(alloc: Global, fault: &str, named: &Reference) -> Result<String, AllocError>
+    ensures { IfOk result (λ text. IsNamed named.now (codes "fault " ++ fault.now ++ codes " ") (codes "\nit") (string_bytes text)) }
+{
     let name = FileName(named.name.as_str());
     let index = named.index;
     let key = named.key.reference();
     format!(in alloc; "fault {fault} {name}\nit is named by traitor[{index}].{key}")
+}
+
+/// The lines of a fault of an object that is named so.
+fn refused(alloc: Global, fault: Fault, named: &Reference) -> Result<String, AllocError>
+    ensures { IfOk result (λ text. IsNamed named.now (codes "refused " ++ fault_told fault ++ codes "\n" ++ sentence_of fault ++ codes "\n") (codes "") (string_bytes text)) }
+{
+    let name = FileName(named.name.as_str());
+    let index = named.index;
+    let key = named.key.reference();
+    let sentence = sentence(fault);
+    format!(in alloc; "refused {fault}\n{sentence}\n{name} is named by traitor[{index}].{key}")
 }

@@ -1,9 +1,12 @@
 //! A scenario in which the files stand that it names.
-ghost use Rattle.std.specs.Prelude.{◌≡◌, IfOk, List, option_map, string_bytes};
+ghost use Rattle.std.specs.Prelude.{◌≡◌, ◌++◌, ◌∷◌, [], IfErr, IfOk, List, OnOk, option_map, string_bytes};
+ghost use Rattle.std.specs.List.{AllZip};
 ghost use Rattle.toml.specs.Parse.{parse_document};
+ghost use Rattle.references.specs.Asking.{asked};
 ghost use Rattle.references.specs.Names.{File};
 ghost use Rattle.references.specs.Resolved.{Resolves};
 ghost use Rattle.neighbours.specs.Seen.{Sees, reads_scenario};
+ghost use Rattle.neighbours.specs.Taken.{IsBeside, IsUntaken};
 
 use crate::folder::Folder;
 use crate::naming::{Untaken, beside};
@@ -26,51 +29,55 @@ pub fn reads_scenario(task: &Task) -> bool
     }
 }
 
-/// The bytes of a scenario in which the files stand that it names: some that were read, each in its place; the same bytes
-/// where they are no text, no TOML, or name none.
+/// The bytes of a scenario in which the files stand that it names, each in its place; the same bytes where they are no text, no
+/// TOML, or name none.
 ///
 /// # Errors
 ///
 /// A file that is named is not taken, or want of memory.
 pub fn with_files<D: Folder>(alloc: Global, bytes: Vec<u8>, folder: &D) -> Result<Vec<u8>, Untaken>
-    ensures { IfOk result (λ new. (files : List File) × Sees files bytes.items new.items) }
+    ensures seen { IfOk result (λ new. (files : List File) × AllZip IsBeside (asked (parse_document bytes.items)) files × Sees files bytes.items new.items) }
+    ensures untaken { IfErr result (IsUntaken (asked (parse_document bytes.items))) }
 {
     let Ok(text) = str::from_utf8(bytes.as_slice()) else {
         return Ok(bytes);
     };
-    let named = asked(alloc, text)?;
-    match read_and_resolved(alloc, text, named.as_slice(), folder)? {
+    match with_named(alloc, text, folder)? {
         Some(new) => Ok(new.into_bytes()),
         None => Ok(bytes),
     }
 }
 
-/// The text in which files stand that are named, if it names some.
-fn read_and_resolved<D: Folder>(
-    alloc: Global,
-    text: &str,
-    named: &[Reference],
-    folder: &D,
-) -> Result<Option<String>, Untaken>
-    ensures { IfOk result (λ new. (files : List File) × Resolves files (parse_document text.now) (option_map string_bytes new)) }
+/// The text in which the files stand that it names, if it names some.
+fn with_named<D: Folder>(alloc: Global, text: &str, folder: &D) -> Result<Option<String>, Untaken>
+    ensures seen { IfOk result (λ new. (files : List File) × AllZip IsBeside (asked (parse_document text.now)) files
+        × Resolves files (parse_document text.now) (option_map string_bytes new)) }
+    ensures untaken { IfErr result (IsUntaken (asked (parse_document text.now))) }
 {
-    let files = read_all(alloc, named, folder)?;
+    let named = asked(alloc, text)?;
+    let files = read_all(alloc, named.as_slice(), folder)?;
     Ok(resolved(alloc, text, files.as_slice())?)
 }
 
-/// The files that are named so.
+/// The files that are named so, in this order.
 fn read_all<D: Folder>(
     alloc: Global,
     named: &[Reference],
     folder: &D,
-) -> Result<Vec<Beside>, Untaken> {
-    let mut files = Vec::new(alloc);
+) -> Result<Vec<Beside>, Untaken>
+    ensures files { IfOk result (λ files. AllZip IsBeside named.now files.items) }
+    ensures untaken { IfErr result (IsUntaken named.now) }
+{
+    let mut files = Vec::with_capacity(alloc, named.len())?;
     for file in named {
         push(&mut files, beside(alloc, folder, file)?)?;
     }
     Ok(files)
 }
 
-fn push(files: &mut Vec<Beside>, file: Beside) -> Result<(), AllocError> {
+/// Pushes a file.
+fn push(files: &mut Vec<Beside>, file: Beside) -> Result<(), AllocError>
+    ensures { OnOk result (files.new.items ≡ files.old.items ++ file ∷ []) }
+{
     Ok(files.push(file)?)
 }

@@ -1,5 +1,7 @@
 //! `objects OBJECT NAME..`: the code of an object's only global function, and of its functions of these names, in hex, and a
-//! line for each unit whose place in the text is known, or the first fault of each. data/several.o is what clang makes of the second program of checks/objects.
+//! line for each unit whose place in the text is known, or the first fault of each. data/several.o is what clang makes of the
+//! second program of checks/objects. `objects --each LIST` says the same of each object of LIST, which has a line for each: the
+//! object in hex, and the names, each behind a blank.
 #![tactic(auto)]
 
 use anyhow::{Result, bail};
@@ -7,16 +9,43 @@ use std::{env, fs};
 
 fn main(rt: HostRuntime) -> Result<()> {
     let words: Vec<String> = env::args(&rt)?.skip(1).collect(rt.alloc())?;
-    let [file, names @ ..] = words.as_slice() else {
-        bail!("an object is wanted");
+    match words.as_slice() {
+        [word, list] if word.as_str() == "--each" => {
+            let text = fs::read_to_string(&rt, list.as_str())?;
+            for line in text.as_str().lines() {
+                tell_line(&rt, line)?;
+            }
+            Ok(())
+        }
+        [file, names @ ..] => {
+            let object = fs::read(&rt, file.as_str())?;
+            tell(&rt, "", object.as_slice(), None)?;
+            for name in names {
+                tell_named(&rt, object.as_slice(), name.as_str())?;
+            }
+            Ok(())
+        }
+        [] => bail!("an object is wanted"),
+    }
+}
+
+/// Prints what is said of the object of a line, and of the functions that it names.
+fn tell_line<R: Print + AllocGlobal>(rt: &R, line: &str) -> Result<()> {
+    let mut words = line.split(' ');
+    let Some(digits) = words.next() else {
+        return Ok(());
     };
-    let object = fs::read(&rt, file.as_str())?;
-    tell(&rt, "", object.as_slice(), None)?;
-    for name in names {
-        let name = name.as_str();
-        tell(&rt, name, object.as_slice(), Some(name.as_bytes()))?;
+    let object = hex::decode(rt.alloc(), digits.as_bytes())?;
+    tell(rt, "", object.as_slice(), None)?;
+    for name in words {
+        tell_named(rt, object.as_slice(), name)?;
     }
     Ok(())
+}
+
+/// Prints what is said of the function of this name.
+fn tell_named<R: Print + AllocGlobal>(rt: &R, object: &[u8], name: &str) -> Result<()> {
+    tell(rt, name, object, Some(name.as_bytes()))
 }
 
 /// Prints a function's name, and its code in hex and the places of its units, or the fault.
