@@ -17,8 +17,8 @@ use Rattle.tables.specs.Answers.{DecidesTable, ExplainsTable, IsFilled, IsFormOf
 use Rattle.verify.specs.Judgement.{judged}
 use Rattle.trial.specs.Setting.{Setting, bench, context_in}
 use Rattle.trial.specs.Told.{IsTried, Tells as TellsSetting}
-use Rattle.trial.specs.Trial.{Ending, trial}
-use Rattle.tracing.specs.Trace.{trace}
+use Rattle.trial.specs.Trial.{Ending, trial_in}
+use Rattle.tracing.specs.Trace.{trace_on}
 use Rattle.lab.specs.Exploring.{Explores}
 use Rattle.lab.specs.Hints.{HasProgram, IsBehind, if_asked}
 use Rattle.lab.specs.Campaigns.{Audits, Musters, Plays, TellsCampaign, is_plain}
@@ -34,14 +34,14 @@ pub record IsRun (program : List Insn) (checked : Checked) : Type 0 where
   pub instructions : checked.instructions ≡ length program
   pub units : checked.units ≡ length (slots_of program)
   pub ending : Ending
-  pub ended : trial program (context_in bench) (oral bench.shape) ≡ Some ending
+  pub ended : trial_in bench program ≡ Some ending
   pub r0 : checked.r0 ≡ ending.r0
   pub steps : checked.steps ≡ ending.state.steps
 
 -- behind the lines of a run in this setting: nothing, or an empty line and its steps
 abbrev pub steps_behind : Bool → List Insn → Setting → List ℕ
 steps_behind false program s = []
-steps_behind true program s = codes "\n" ++ trace program (context_in s) (oral s.shape)
+steps_behind true program s = codes "\n" ++ trace_on s.board program (context_in s) (oral s.shape)
 
 -- the file has a program in its notation, and these are the lines of its run, and behind them its steps and its explanation, where they
 -- are asked for

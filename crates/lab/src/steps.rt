@@ -27,7 +27,7 @@ pub(crate) fn with_steps(
     }
     let bytes = setting.context(alloc)?;
     let context = Context::new(bytes.as_slice());
-    let steps = tracing::traced(alloc, program, &context, setting.shape())?;
+    let steps = tracing::traced(alloc, program, &context, setting.shape(), setting.board())?;
     let mut text = lines;
     text.push_str("\n")?;
     text.push_str(steps.as_str())?;

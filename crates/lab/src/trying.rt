@@ -9,8 +9,7 @@ use std::alloc::Global;
 use trial::{read, tried};
 use verify::Verified;
 
-/// The lines of the program's trial in the setting that the bytes tell, and behind them its steps, if they are asked for. The board that it asks is its own, and begins with
-/// zeros.
+/// The lines of the program's trial in the setting that the bytes tell, and behind them its steps, if they are asked for.
 ///
 /// # Errors
 ///

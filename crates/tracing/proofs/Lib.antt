@@ -1,1 +1,3 @@
 pub mod StepLemmas
+pub mod ExitLemmas
+pub mod TraceLaws

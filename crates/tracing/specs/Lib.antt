@@ -2,3 +2,4 @@ pub mod Values
 pub mod Reads
 pub mod Lines
 pub mod Trace
+pub mod Laws

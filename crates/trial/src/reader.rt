@@ -12,6 +12,7 @@ use crate::orders::taken;
 use crate::place::{Name, Place};
 use crate::relayed::labels_relayed;
 use crate::setting::Setting;
+use crate::words::board;
 use label::Shape;
 use std::alloc::Global;
 use toml::Table;
@@ -55,7 +56,8 @@ fn setting(alloc: Global, table: &Table) -> Result<Setting, SettingError>
         round,
     };
     let taken = taken(alloc, labels_relayed(shape), at(table, Name::Taken))?;
-    Ok(Setting::new(shape, bound, taken))
+    let board = board(at(table, Name::Board))?;
+    Ok(Setting::new(shape, bound, taken, board))
 }
 
 /// The setting that a text tells.
@@ -63,7 +65,7 @@ fn setting(alloc: Global, table: &Table) -> Result<Setting, SettingError>
 /// # Errors
 ///
 /// The first fault, with its place: that the text is no TOML, then an unknown key (the least by bytes), then `generals`,
-/// `bound`, `commander`, `general`, `round` and `taken`.
+/// `bound`, `commander`, `general`, `round`, `taken` and `board`.
 pub fn read(alloc: Global, text: &str) -> Result<Setting, SettingError>
     ensures { Reads (parse_document text.now) result }
 {
