@@ -1,11 +1,11 @@
 //! Files that a scenario names.
-ghost use Rattle.std.specs.Prelude.{◌≡◌, ◌∷◌, ◌++◌, [], Ok, Err, IfErr, IfOk, MatchResult, codes, string_bytes};
+ghost use Rattle.std.specs.Prelude.{◌≡◌, ◌++◌, Ok, Err, IfErr, IfOk, MatchResult, codes, string_bytes};
 ghost use Rattle.elf.specs.Entry.{entry_of};
 ghost use Rattle.elf.specs.Sentences.{sentence_of};
 ghost use Rattle.elf.specs.Symbol.{asked};
 ghost use Rattle.elf.specs.Telling.{told as fault_told};
 ghost use Rattle.references.specs.declared.key.Key.TheVariants.{Assembly, Object};
-ghost use Rattle.neighbours.specs.Taken.{IsBeside, IsNamed, IsUntaken};
+ghost use Rattle.neighbours.specs.Taken.{IsBeside, IsNamed, IsUntakenOf};
 ghost use Rattle.neighbours.specs.declared.naming.Untaken.TheVariants.{Memory};
 
 use crate::folder::Folder;
@@ -39,7 +39,7 @@ pub(crate) fn beside<D: Folder>(
     named: &Reference,
 ) -> Result<Beside, Untaken>
     ensures file { IfOk result (IsBeside named.now) }
-    ensures untaken { IfErr result (IsUntaken (named.now ∷ [])) }
+    ensures untaken { IfErr result (IsUntakenOf named.now) }
 {
     let bytes = match folder.read(alloc, named.name.as_str()) {
         Ok(bytes) => bytes,
@@ -56,7 +56,7 @@ pub(crate) fn beside<D: Folder>(
 fn assembly(alloc: Global, named: &Reference, bytes: Vec<u8>) -> Result<Beside, Untaken>
     requires { named.now.key ≡ Assembly }
     ensures file { IfOk result (IsBeside named.now) }
-    ensures untaken { IfErr result (IsUntaken (named.now ∷ [])) }
+    ensures untaken { IfErr result (IsUntakenOf named.now) }
 {
     let name = named.name.clone()?;
     match String::from_utf8(bytes) {
@@ -69,7 +69,7 @@ fn assembly(alloc: Global, named: &Reference, bytes: Vec<u8>) -> Result<Beside, 
 fn object(alloc: Global, named: &Reference, bytes: &[u8]) -> Result<Beside, Untaken>
     requires { named.now.key ≡ Object }
     ensures file { IfOk result (IsBeside named.now) }
-    ensures untaken { IfErr result (IsUntaken (named.now ∷ [])) }
+    ensures untaken { IfErr result (IsUntakenOf named.now) }
 {
     let name = named.name.clone()?;
     let function = named.function.clone()?;
@@ -92,7 +92,7 @@ fn code_in<'a>(object: &'a [u8], function: Option<&str>) -> Result<&'a [u8], Fau
 
 /// Why a file is not taken whose reading failed so.
 fn unread(alloc: Global, error: &io::Error, named: &Reference) -> Result<Untaken, AllocError>
-    ensures { IfOk result (IsUntaken (named.now ∷ [])) }
+    ensures { IfOk result (IsUntakenOf named.now) }
 {
     match error.kind() {
         ErrorKind::OutOfMemory => Ok(Untaken::Memory),

@@ -145,10 +145,7 @@ fn resolved_list(
 fn table_refers(table: &Table) -> bool
     ensures { result ≡ table_refers (table_view table.now) }
 {
-    has(table, "asm_file")
-        || has(table, "code_file")
-        || has(table, "elf")
-        || has(table, "generals")
+    has(table, "asm_file") || has(table, "code_file") || has(table, "elf") || has(table, "generals")
 }
 
 /// Whether an element of the list is such a table.

@@ -1,6 +1,7 @@
 -- The trace from a state on is the run from there.
 use Rattle.std.proofs.Common.{◌≡◌, ◌∙◌, ℕ, zero, suc, ◌+◌, List, [], ◌∷◌, ◌++◌, length, refl, sym, ap, subst, append_assoc, append-nil, arith, flat_map}
 use Rattle.std.specs.Prelude.{Option, Some, None, codes, decimal}
+use Rattle.std.specs.Fmt.{digits}
 use Rattle.insn.specs.declared.insn.Insn.{Insn}
 use Rattle.insn.specs.declared.insn.Insn.TheVariants as i
 use Rattle.insn.specs.Program.{instruction_at}
@@ -14,6 +15,7 @@ use Rattle.semantics.specs.Call.{resumed}
 use Rattle.semantics.specs.Execution.{step}
 use Rattle.semantics.specs.Whole.{CountsOnce}
 use Rattle.semantics.proofs.StepLaws.{step_counts, resumed_counts}
+use Rattle.asm.specs.Printing.{insn_text, register_text}
 use Rattle.board.specs.Board.{reply, next}
 use Rattle.trial.specs.Trial.{Ending, served, ending, trial_on}
 use Rattle.tracing.specs.Lines.{before_told, after_told, request_told}
@@ -47,14 +49,26 @@ regroup_asked text b a q n r more is same =
 literal : (x : List ℕ) → codes " " ++ (codes "exit" ++ (codes " ; " ++ (codes "r0" ++ (codes " " ++ x)))) ≡ codes " exit ; r0 " ++ x
 literal x = refl
 
-exit_words : (u x : List ℕ) → ((u ++ codes " ") ++ codes "exit") ++ ((((codes " ; " ++ ((codes "r0" ++ codes " ") ++ x)) ++ []) ++ [])) ++ [] ≡ (u ++ codes " exit ; r0 ") ++ x
-exit_words u x =
-    let flat : ((u ++ codes " ") ++ codes "exit") ++ ((((codes " ; " ++ ((codes "r0" ++ codes " ") ++ x)) ++ []) ++ [])) ++ []
-        ≡ u ++ (codes " " ++ (codes "exit" ++ (codes " ; " ++ (codes "r0" ++ (codes " " ++ x))))) = simp (append_assoc, append-nil) in
-    flat ∙ (ap (λ (l : List ℕ). u ++ l) (literal x) ∙ sym (append_assoc u (codes " exit ; r0 ") x))
+exit_words : (u e r x : List ℕ) → e ≡ codes "exit" → r ≡ codes "r0"
+    → ((u ++ codes " ") ++ e) ++ ((((codes " ; " ++ ((r ++ codes " ") ++ x)) ++ []) ++ [])) ++ [] ≡ (u ++ codes " exit ; r0 ") ++ x
+exit_words u e r x ends zero =
+    let flat : ((u ++ codes " ") ++ e) ++ ((((codes " ; " ++ ((r ++ codes " ") ++ x)) ++ []) ++ [])) ++ []
+    ≡ u ++ (codes " " ++ (e ++ (codes " ; " ++ (r ++ (codes " " ++ x))))) = simp (append_assoc, append-nil) in
+    let named : u ++ (codes " " ++ (e ++ (codes " ; " ++ (r ++ (codes " " ++ x))))) ≡ u ++ (codes " " ++ (codes "exit" ++ (codes " ; " ++ (codes "r0" ++ (codes " " ++ x))))) = rw (ends, zero) refl in
+    flat ∙ (named ∙ (ap (λ (l : List ℕ). u ++ l) (literal x) ∙ sym (append_assoc u (codes " exit ; r0 ") x)))
+
+exit_text : insn_text i.Exit ≡ codes "exit"
+unfolding insn_text
+exit_text = refl
+
+zero_text : register_text 0 ≡ codes "r0"
+unfolding digits
+zero_text = refl
 
 exit_line : (s : State) (n : ℕ) → value_at s.registers 0 ≡ Number n → before_told s.unit s.registers i.Exit ≡ decimal s.unit ++ codes " exit ; r0 " ++ decimal n
-exit_line s n held = exit_words (decimal s.unit) (value_text (value_at s.registers 0)) ∙ ap (λ (v : Value). (decimal s.unit ++ codes " exit ; r0 ") ++ value_text v) held
+exit_line s n held =
+    exit_words (decimal s.unit) (insn_text i.Exit) (register_text 0) (value_text (value_at s.registers 0)) exit_text zero_text
+    ∙ ap (λ (v : Value). (decimal s.unit ++ codes " exit ; r0 ") ++ value_text v) held
 
 -- ---- one step more
 
@@ -67,7 +81,9 @@ module _ (program : List Insn) (context : List ℕ) (relay : Relay) where
   traces_next : (k : ℕ) (words : List ℕ) (s t : State) (e : Ending) → step program context relay s ≡ Next t
       → Traces program context relay words t e (lines_from program context relay k words t) → Traces program context relay words s e (lines_from program context relay (suc k) words s)
   traces_next k words s t e is w =
-      let (insn, here) = stands program context relay s (Next t) is in
+      let st : (insn : Insn) × (instruction_at program s.unit ≡ Some insn) = stands program context relay s (Next t) is in
+      let insn = st.0 in
+      let here = st.1 in
       let one : t.steps ≡ s.steps + 1 = subst (λ (o : Outcome). CountsOnce s o) is (step_counts program context relay s) in
       let more : t.steps + length w.lines ≡ e.state.steps = w.counted in
       let before = before_told s.unit s.registers insn in
@@ -87,7 +103,9 @@ module _ (program : List Insn) (context : List ℕ) (relay : Relay) where
       → Traces program context relay words s e (lines_from program context relay (suc k) words s)
   traces_asks k words s t request e is w =
       let u : State = resumed request (reply words request) t in
-      let (insn, here) = stands program context relay s (Ask request t) is in
+      let st : (insn : Insn) × (instruction_at program s.unit ≡ Some insn) = stands program context relay s (Ask request t) is in
+      let insn = st.0 in
+      let here = st.1 in
       let one : t.steps ≡ s.steps + 1 = subst (λ (o : Outcome). CountsOnce s o) is (step_counts program context relay s) in
       let kept : u.steps ≡ t.steps = resumed_counts request (reply words request) t in
       let more : u.steps + length w.lines ≡ e.state.steps = w.counted in
@@ -107,14 +125,16 @@ module _ (program : List Insn) (context : List ℕ) (relay : Relay) where
   traces_exit : (k : ℕ) (words : List ℕ) (s t : State) (r0 : ℕ) → step program context relay s ≡ Exit r0 t
       → Traces program context relay words s (record { r0 = r0; state = t; words = words }) (lines_from program context relay (suc k) words s)
   traces_exit k words s t r0 is =
-      let (here, held) = stands program context relay s (Exit r0 t) is in
+      let st : (instruction_at program s.unit ≡ Some i.Exit) × (value_at s.registers 0 ≡ Number r0) = stands program context relay s (Exit r0 t) is in
+      let here = st.0 in
+      let held = st.1 in
       let one : t.steps ≡ s.steps + 1 = subst (λ (o : Outcome). CountsOnce s o) is (step_counts program context relay s) in
       record {
         later = [];
         run = (is, refl);
         lines = before_told s.unit s.registers i.Exit ∷ [];
         each = exit_line s r0 held;
-        counted = (let l : t.steps ≡ s.steps + 1 = one in sym l);
+        counted = sym one;
         whole = lines_suc k words s ∙ (told_by program context relay (λ left u. lines_from program context relay k left u) words s i.Exit (Exit r0 t) here is
             ∙ sym (append-nil (before_told s.unit s.registers i.Exit ++ codes "\n")));
       }
@@ -136,4 +156,4 @@ pub trace_is_trial : (words : List ℕ) (program : List Insn) (context : List �
     → IsTraceOf words program context relay e (trace_on words program context relay)
 trace_is_trial words program context relay e is =
     let w = traces program context relay (length program) words (entry (empty_outbox relay)) e is in
-    record { later = w.later; run = w.run; lines = w.lines; each = w.each; counted = w.counted; whole = w.whole }
+    record { later = w.later; run = w.run; lines = w.lines; each = w.each; counted = (let c : 0 + length w.lines ≡ e.state.steps = w.counted in omega arith); whole = w.whole }

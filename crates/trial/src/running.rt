@@ -39,13 +39,7 @@ pub fn run_in(alloc: Global, verified: &Verified, setting: &Setting) -> Result<E
 {
     let bytes = setting.context(alloc)?;
     let context = Context::new(bytes.as_slice());
-    run(
-        alloc,
-        verified,
-        &context,
-        setting.shape(),
-        setting.board(),
-    )
+    run(alloc, verified, &context, setting.shape(), setting.board())
 }
 
 /// Runs a program to its exit, in this context and with an outbox of this relay, with a board that begins with these words.

@@ -1,0 +1,7 @@
+use Rattle.std.proofs.Common.{take}
+use Rattle.std.specs.List.{AllZip}
+use Rattle.neighbours.specs.Taken.{IsBeside}
+use Rattle.neighbours.proofs.preparing.read_all.Given as goal
+
+abbrev pub invariant-loop-file : goal.invariant-loop-file
+invariant-loop-file l = AllZip IsBeside (take l.file-index l.named) l.files.items
