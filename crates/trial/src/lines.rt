@@ -115,8 +115,9 @@ fn push_words(
     alloc: Global,
     text: &mut String,
     opening: &[u64; 64],
-    words: &[u64; 64],
+    words: &[u64],
 ) -> Result<(), AllocError>
+    requires { length words.now ≤ 64 }
     ensures { OnOk result (string_bytes text.new ≡ string_bytes text.old ++ word_lines opening.now words.now) }
 {
     for index in 0..words.len() {

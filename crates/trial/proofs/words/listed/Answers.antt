@@ -9,7 +9,7 @@ use Rattle.trial.proofs.words.listed.Goals as goal
 
 pub returns-in_err-words-clause-gives : goal.returns-in_err-words-clause-gives
 returns-in_err-words-clause-gives c =
-    let p = err_from_is_err_and c.from_residual-in_err-words.result c.from_residual-in_err-words.ensures.1 in
+    let p = err_from_is_err_and c.from_residual.result c.from_residual.ensures.1 in
     rw (p.1, p.2) (over_fails set_word c.loop-index.index c.loop-index.words c.args.values.now c.index-values-index.result _ c.in_err-words.field-0.0 c.loop-index-test.true c.index-values-index.is (fails_on c.in_err-words.field-0.0 (word (Word c.loop-index.index) (view c.index-values-index.result)) _ c.in_err-words.ensures.value) c.loop-index.invariant.rest)
 
 pub loop-index-preserved : goal.loop-index-preserved
