@@ -1,17 +1,16 @@
 -- The files that are asked for, one after the other.
 use Rattle.std.proofs.Common.{◌≡◌, ◌∙◌, ℕ, zero, suc, ◌+◌, ◌<◌, List, [], ◌∷◌, ◌++◌, length, get_or, take, sym, ap, subst, refl}
-use Rattle.std.specs.Prelude.{Contains, Option, None, Ok, string_bytes}
+use Rattle.std.specs.Prelude.{Contains, IfSome, Option, None, Some, Ok, string_bytes}
 use Rattle.std.specs.List.{AllZip}
 use Rattle.std.proofs.lemmas.List.{take_more}
 use Rattle.std.proofs.lemmas.List.Elements.{Contains-get_or}
 use Rattle.std.proofs.lemmas.Slice.Zip.{all_zipped_more}
-use Rattle.hex.specs.Hex.{encode_lower}
-use Rattle.elf.specs.Entry.{entry_of}
+use Rattle.streams.specs.Names.{shown}
 use Rattle.references.specs.declared.key.Key.{Key}
 use Rattle.references.specs.declared.key.Key.TheVariants.{Assembly, Bytecode, Object}
 use Rattle.references.specs.Asking.{Asked}
 use Rattle.references.specs.Names.{File}
-use Rattle.neighbours.specs.Taken.{IsBeside, IsTextOf, IsUntaken, IsUntakenOf, function_in}
+use Rattle.neighbours.specs.Taken.{IsBeside, IsNamed, IsTextOf, IsUntaken, IsUntakenOf, function_in}
 use Rattle.neighbours.specs.declared.naming.Untaken.{Untaken}
 use Rattle.neighbours.specs.declared.naming.Untaken.TheVariants.{Told, Memory}
 
@@ -37,3 +36,11 @@ files_on asked i a files more f l ea h b e =
 pub untaken_of : (asked : List Asked) (i : ℕ) (a : Asked) (e : Untaken) → i < length asked → a ≡ get_or asked i a → IsUntakenOf a e → IsUntaken asked e
 untaken_of asked i a (Told text) l ea h = (a, subst (λ (x : Asked). Contains asked x) (sym ea) (Contains-get_or asked i a l), h)
 untaken_of asked i a Memory l ea h = tt
+
+-- the lines with the file's name as it is shown
+pub named_so : (a : Asked) (own text : List ℕ) (lines : List ℕ → List ℕ) → IfSome (shown a.name) (λ n. own ≡ n) → text ≡ lines own → IsNamed a lines text
+named_so a own text lines h e = by (shown a.name) h
+  where
+    by : (o : Option (List ℕ)) → IfSome o (λ n. own ≡ n) → IfSome o (λ n. text ≡ lines n)
+    by None h = tt
+    by (Some n) h = e ∙ ap lines h

@@ -1,11 +1,15 @@
 -- What is read of a scenario that names files (own).
 use Rattle.std.specs.Prelude.{ℕ, ◌≡◌, ◌⊎◌, Bool, true, false, List, Option, unwrap_or}
 use Rattle.std.specs.Str.{IsUtf8}
+use Rattle.std.specs.List.{AllZip}
+use Rattle.toml.specs.Data.{Members}
 use Rattle.toml.specs.Parse.{parse_document}
 use Rattle.command_line.specs.declared.tasks.Task.{Task}
 use Rattle.command_line.specs.declared.tasks.Task.TheVariants.{Play, Muster, Audit, Explore}
 use Rattle.references.specs.Names.{File}
 use Rattle.references.specs.Resolved.{Resolves}
+use Rattle.references.specs.Asking.{asked}
+use Rattle.neighbours.specs.Taken.{IsBeside}
 
 -- the task's first file is a scenario
 abbrev pub reads_scenario : Task → Bool
@@ -15,8 +19,12 @@ reads_scenario (Audit scenario chronicle explained) = true
 reads_scenario (Explore scenario most) = true
 reads_scenario _ = false
 
--- the bytes are no text, and stay; or the new ones are those in which these files stand, where that is another text
-abbrev pub Sees : List File → List ℕ → List ℕ → Type 0
-Sees files bytes new =
+-- the text in which the files stand that the document asks for, each in its turn, where that is another text
+abbrev pub SeesIn : Option Members → Option (List ℕ) → Type 0
+SeesIn document text = (files : List File) × AllZip IsBeside (asked document) files × Resolves files document text
+
+-- the bytes are no text, and stay; or the new ones are those of such a text
+abbrev pub Sees : List ℕ → List ℕ → Type 0
+Sees bytes new =
     ((IsUtf8 bytes → ⊥) × (new ≡ bytes))
-    ⊎ ((text : Option (List ℕ)) × Resolves files (parse_document bytes) text × (new ≡ unwrap_or text bytes))
+    ⊎ ((text : Option (List ℕ)) × SeesIn (parse_document bytes) text × (new ≡ unwrap_or text bytes))

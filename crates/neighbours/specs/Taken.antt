@@ -33,18 +33,33 @@ pub record IsBeside (a : Asked) (f : File) : Type 0 where
   pub bytes : List ℕ
   pub text : IsTextOf a.key a.function bytes f.text
 
--- behind these words and the file's name, by which key it is named
-abbrev pub IsNamed : Asked → List ℕ → List ℕ → List ℕ → Type 0
-IsNamed a front back text = IfSome (shown a.name) (λ name.
-    text ≡ front ++ name ++ back ++ codes " is named by traitor[" ++ decimal a.index ++ codes "]." ++ reference_of a.key)
+-- what is told of a file of this name, as it is shown: that it cannot be read, or is no text
+abbrev pub fault_lines : ℕ → Key → List ℕ → List ℕ → List ℕ
+fault_lines index key fault name =
+    codes "fault " ++ fault ++ codes " " ++ name ++ codes "\nit is named by traitor[" ++ decimal index ++ codes "]." ++ reference_of key
+
+abbrev pub fault_told : Asked → List ℕ → List ℕ → List ℕ
+fault_told a fault name = fault_lines a.index a.key fault name
+
+-- that an object has this fault
+abbrev pub refused_lines : ℕ → Key → Fault → List ℕ → List ℕ
+refused_lines index key fault name =
+    codes "refused " ++ told fault ++ codes "\n" ++ sentence_of fault ++ codes "\n" ++ name ++ codes " is named by traitor["
+    ++ decimal index ++ codes "]." ++ reference_of key
+
+abbrev pub refused_told : Asked → Fault → List ℕ → List ℕ
+refused_told a fault name = refused_lines a.index a.key fault name
+
+-- the lines, with the file's name as it is shown; of such a name past ASCII nothing is said
+abbrev pub IsNamed : Asked → (List ℕ → List ℕ) → List ℕ → Type 0
+IsNamed a lines text = IfSome (shown a.name) (λ name. text ≡ lines name)
 
 -- no file is read, or one of assembly is no text, or an object has this fault
 abbrev pub IsFaultOf : Asked → List ℕ → Type 0
 IsFaultOf a text =
-    IsNamed a (codes "fault read ") (codes "\nit") text
-    ⊎ (((a.key ≡ Assembly) × IsNamed a (codes "fault text ") (codes "\nit") text)
-    ⊎ ((bytes : List ℕ) × (fault : Fault) × (a.key ≡ Object) × (entry_of bytes a.function ≡ Err fault)
-    × IsNamed a (codes "refused " ++ told fault ++ codes "\n" ++ sentence_of fault ++ codes "\n") (codes "") text))
+    IsNamed a (fault_told a (codes "read")) text
+    ⊎ (((a.key ≡ Assembly) × IsNamed a (fault_told a (codes "text")) text)
+    ⊎ ((bytes : List ℕ) × (fault : Fault) × (a.key ≡ Object) × (entry_of bytes a.function ≡ Err fault) × IsNamed a (refused_told a fault) text))
 
 -- it is not taken, and this is told of it; or want of memory
 abbrev pub IsUntakenOf : Asked → Untaken → Type 0

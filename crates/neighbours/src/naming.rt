@@ -1,11 +1,10 @@
 //! Files that a scenario names.
-ghost use Rattle.std.specs.Prelude.{◌≡◌, ◌++◌, Ok, Err, IfErr, IfOk, MatchResult, codes, string_bytes};
+ghost use Rattle.std.specs.Prelude.{◌≡◌, Ok, Err, IfErr, IfOk, IfSome, MatchResult, string_bytes};
 ghost use Rattle.elf.specs.Entry.{entry_of};
-ghost use Rattle.elf.specs.Sentences.{sentence_of};
 ghost use Rattle.elf.specs.Symbol.{asked};
-ghost use Rattle.elf.specs.Telling.{told as fault_told};
 ghost use Rattle.references.specs.declared.key.Key.TheVariants.{Assembly, Object};
-ghost use Rattle.neighbours.specs.Taken.{IsBeside, IsNamed, IsUntakenOf};
+ghost use Rattle.streams.specs.Names.{shown};
+ghost use Rattle.neighbours.specs.Taken.{IsBeside, IsNamed, IsUntakenOf, fault_lines, fault_told, refused_lines, refused_told};
 ghost use Rattle.neighbours.specs.declared.naming.Untaken.TheVariants.{Memory};
 
 use crate::folder::Folder;
@@ -72,8 +71,8 @@ fn object(alloc: Global, named: &Reference, bytes: &[u8]) -> Result<Beside, Unta
     ensures untaken { IfErr result (IsUntakenOf named.now) }
 {
     let name = named.name.clone()?;
-    let function = named.function.clone()?;
-    match code_in(bytes, named.function.as_deref()) {
+    let function = named.function.as_deref();
+    match code_in(bytes, function) {
         Ok(code) => Ok(Beside::object(alloc, name, function, code)?),
         Err(fault) => Err(Untaken::Told(refused(alloc, fault, named)?)),
     }
@@ -100,23 +99,54 @@ fn unread(alloc: Global, error: &io::Error, named: &Reference) -> Result<Untaken
     }
 }
 
+/// The name of a file as it is shown.
+fn shown(alloc: Global, name: &str) -> Result<String, AllocError>
+    ensures { IfOk result (λ text. IfSome (shown name.now) (λ own. string_bytes text ≡ own)) }
+{
+    format!(in alloc; "{}", FileName(name))
+}
+
 /// The lines of a fault of a file that is named so.
 fn told(alloc: Global, fault: &str, named: &Reference) -> Result<String, AllocError>
-    ensures { IfOk result (λ text. IsNamed named.now (codes "fault " ++ fault.now ++ codes " ") (codes "\nit") (string_bytes text)) }
+    ensures { IfOk result (λ text. IsNamed named.now (fault_told named.now fault.now) (string_bytes text)) }
 {
-    let name = FileName(named.name.as_str());
-    let index = named.index;
-    let key = named.key.reference();
-    format!(in alloc; "fault {fault} {name}\nit is named by traitor[{index}].{key}")
+    let name = shown(alloc, named.name.as_str())?;
+    fault_lines(alloc, fault, name.as_str(), named.index, named.key)
 }
 
 /// The lines of a fault of an object that is named so.
 fn refused(alloc: Global, fault: Fault, named: &Reference) -> Result<String, AllocError>
-    ensures { IfOk result (λ text. IsNamed named.now (codes "refused " ++ fault_told fault ++ codes "\n" ++ sentence_of fault ++ codes "\n") (codes "") (string_bytes text)) }
+    ensures { IfOk result (λ text. IsNamed named.now (refused_told named.now fault) (string_bytes text)) }
 {
-    let name = FileName(named.name.as_str());
-    let index = named.index;
-    let key = named.key.reference();
+    let name = shown(alloc, named.name.as_str())?;
+    refused_lines(alloc, fault, name.as_str(), named.index, named.key)
+}
+
+/// That the file of this name cannot be read, or is no text.
+fn fault_lines(
+    alloc: Global,
+    fault: &str,
+    name: &str,
+    index: usize,
+    key: Key,
+) -> Result<String, AllocError>
+    ensures { IfOk result (λ text. string_bytes text ≡ fault_lines index key fault.now name.now) }
+{
+    let key = key.reference();
+    format!(in alloc; "fault {fault} {name}\nit is named by traitor[{index}].{key}")
+}
+
+/// That the object of this name has this fault.
+fn refused_lines(
+    alloc: Global,
+    fault: Fault,
+    name: &str,
+    index: usize,
+    key: Key,
+) -> Result<String, AllocError>
+    ensures { IfOk result (λ text. string_bytes text ≡ refused_lines index key fault name.now) }
+{
+    let key = key.reference();
     let sentence = sentence(fault);
     format!(in alloc; "refused {fault}\n{sentence}\n{name} is named by traitor[{index}].{key}")
 }

@@ -1,11 +1,9 @@
 //! A scenario in which the files stand that it names.
-ghost use Rattle.std.specs.Prelude.{◌≡◌, ◌++◌, ◌∷◌, [], IfErr, IfOk, List, OnOk, option_map, string_bytes};
+ghost use Rattle.std.specs.Prelude.{◌≡◌, ◌++◌, ◌∷◌, [], IfErr, IfOk, OnOk, option_map, string_bytes};
 ghost use Rattle.std.specs.List.{AllZip};
 ghost use Rattle.toml.specs.Parse.{parse_document};
 ghost use Rattle.references.specs.Asking.{asked};
-ghost use Rattle.references.specs.Names.{File};
-ghost use Rattle.references.specs.Resolved.{Resolves};
-ghost use Rattle.neighbours.specs.Seen.{Sees, reads_scenario};
+ghost use Rattle.neighbours.specs.Seen.{Sees, SeesIn, reads_scenario};
 ghost use Rattle.neighbours.specs.Taken.{IsBeside, IsUntaken};
 
 use crate::folder::Folder;
@@ -36,7 +34,7 @@ pub fn reads_scenario(task: &Task) -> bool
 ///
 /// A file that is named is not taken, or want of memory.
 pub fn with_files<D: Folder>(alloc: Global, bytes: Vec<u8>, folder: &D) -> Result<Vec<u8>, Untaken>
-    ensures seen { IfOk result (λ new. (files : List File) × AllZip IsBeside (asked (parse_document bytes.items)) files × Sees files bytes.items new.items) }
+    ensures seen { IfOk result (λ new. Sees bytes.items new.items) }
     ensures untaken { IfErr result (IsUntaken (asked (parse_document bytes.items))) }
 {
     let Ok(text) = str::from_utf8(bytes.as_slice()) else {
@@ -50,8 +48,7 @@ pub fn with_files<D: Folder>(alloc: Global, bytes: Vec<u8>, folder: &D) -> Resul
 
 /// The text in which the files stand that it names, if it names some.
 fn with_named<D: Folder>(alloc: Global, text: &str, folder: &D) -> Result<Option<String>, Untaken>
-    ensures seen { IfOk result (λ new. (files : List File) × AllZip IsBeside (asked (parse_document text.now)) files
-        × Resolves files (parse_document text.now) (option_map string_bytes new)) }
+    ensures seen { IfOk result (λ new. SeesIn (parse_document text.now) (option_map string_bytes new)) }
     ensures untaken { IfErr result (IsUntaken (asked (parse_document text.now))) }
 {
     let named = asked(alloc, text)?;

@@ -4,6 +4,7 @@ ghost use Rattle.hex.specs.Hex.{encode_lower};
 ghost use Rattle.references.specs.Names.{are_same, text_named};
 ghost use Rattle.references.specs.declared.key.Key.TheVariants.{Assembly, Bytecode, Object};
 
+use crate::asking::copied;
 use crate::key::Key;
 use std::alloc::{AllocError, Global};
 use std::marker::Model;
@@ -66,16 +67,16 @@ impl Beside {
     pub fn object(
         alloc: Global,
         name: String,
-        function: Option<String>,
+        function: Option<&str>,
         code: &[u8],
     ) -> Result<Beside, AllocError>
-        ensures { IfOk result (λ f. f ≡ record { key = Object; name = string_bytes name; function = option_map string_bytes function; text = encode_lower code.now }) }
+        ensures { IfOk result (λ f. f ≡ record { key = Object; name = string_bytes name; function = option_map (λ f. f.now) function.entry; text = encode_lower code.now }) }
     {
         let text = hex::encode(alloc, code)?;
         Ok(Beside {
             key: Key::Object,
             name,
-            function,
+            function: copied(alloc, function)?,
             text,
         })
     }
