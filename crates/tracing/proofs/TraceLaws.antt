@@ -51,10 +51,10 @@ literal x = refl
 
 exit_words : (u e r x : List ℕ) → e ≡ codes "exit" → r ≡ codes "r0"
     → ((u ++ codes " ") ++ e) ++ ((((codes " ; " ++ ((r ++ codes " ") ++ x)) ++ []) ++ [])) ++ [] ≡ (u ++ codes " exit ; r0 ") ++ x
-exit_words u e r x ends zero =
+exit_words u e r x ends first =
     let flat : ((u ++ codes " ") ++ e) ++ ((((codes " ; " ++ ((r ++ codes " ") ++ x)) ++ []) ++ [])) ++ []
     ≡ u ++ (codes " " ++ (e ++ (codes " ; " ++ (r ++ (codes " " ++ x))))) = simp (append_assoc, append-nil) in
-    let named : u ++ (codes " " ++ (e ++ (codes " ; " ++ (r ++ (codes " " ++ x))))) ≡ u ++ (codes " " ++ (codes "exit" ++ (codes " ; " ++ (codes "r0" ++ (codes " " ++ x))))) = rw (ends, zero) refl in
+    let named : u ++ (codes " " ++ (e ++ (codes " ; " ++ (r ++ (codes " " ++ x))))) ≡ u ++ (codes " " ++ (codes "exit" ++ (codes " ; " ++ (codes "r0" ++ (codes " " ++ x))))) = rw (ends, first) refl in
     flat ∙ (named ∙ (ap (λ (l : List ℕ). u ++ l) (literal x) ∙ sym (append_assoc u (codes " exit ; r0 ") x)))
 
 exit_text : insn_text i.Exit ≡ codes "exit"
