@@ -1,13 +1,12 @@
 -- The files that are asked for, one after the other.
-use Rattle.std.proofs.Common.{◌≡◌, ◌∙◌, ℕ, zero, suc, ◌+◌, ◌<◌, List, [], ◌∷◌, ◌++◌, length, get_or, take, sym, ap, subst, refl}
-use Rattle.std.specs.Prelude.{Contains, IfSome, Option, None, Some, Ok, string_bytes}
+use Rattle.std.proofs.Common.{◌≡◌, ◌∙◌, ℕ, ◌+◌, ◌<◌, List, [], ◌∷◌, ◌++◌, length, get_or, take, sym, ap, subst}
+use Rattle.std.specs.Prelude.{Contains, IfSome, Option, None, Some}
 use Rattle.std.specs.List.{AllZip}
 use Rattle.std.proofs.lemmas.List.{take_more}
 use Rattle.std.proofs.lemmas.List.Elements.{Contains-get_or}
 use Rattle.std.proofs.lemmas.Slice.Zip.{all_zipped_more}
 use Rattle.streams.specs.Names.{shown}
 use Rattle.references.specs.declared.key.Key.{Key}
-use Rattle.references.specs.declared.key.Key.TheVariants.{Assembly, Bytecode, Object}
 use Rattle.references.specs.Asking.{Asked}
 use Rattle.references.specs.Names.{File}
 use Rattle.neighbours.specs.Taken.{IsBeside, IsNamed, IsTextOf, IsUntaken, IsUntakenOf, function_in}

@@ -7,6 +7,6 @@ pub returns : goal.returns
 returns c =
     IfOk-weaker c.format.result _ _ (λ s h.
     (let flat : string_bytes s ≡ codes "fault " ++ c.args.fault.now ++ codes " " ++ c.args.name.now ++ codes "\nit is named by traitor[" ++ decimal c.args.index ++ codes "]." ++ c.reference-key.result.now
-        = simp append_assoc h in
+    = simp append_assoc h in
     flat ∙ ap (λ (key : List ℕ). codes "fault " ++ c.args.fault.now ++ codes " " ++ c.args.name.now ++ codes "\nit is named by traitor[" ++ decimal c.args.index ++ codes "]." ++ key) c.reference-key.ensures))
     c.format.ensures.ok

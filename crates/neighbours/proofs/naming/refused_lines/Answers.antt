@@ -2,7 +2,6 @@ use Rattle.std.proofs.Common.{◌≡◌, ◌∙◌, ◌++◌, ℕ, List, ap, app
 use Rattle.std.specs.Prelude.{codes, decimal}
 use Rattle.std.proofs.lemmas.Result.{IfOk-weaker}
 use Rattle.elf.specs.Telling.{told}
-use Rattle.elf.specs.Sentences.{sentence_of}
 use Rattle.references.specs.Names.{reference_of}
 use Rattle.neighbours.proofs.naming.refused_lines.Goals as goal
 
@@ -10,7 +9,7 @@ pub returns : goal.returns
 returns c =
     IfOk-weaker c.format.result _ _ (λ s h.
     (let flat : string_bytes s ≡ codes "refused " ++ told c.args.fault ++ codes "\n" ++ c.sentence-sentence.result.now ++ codes "\n" ++ c.args.name.now ++ codes " is named by traitor[" ++ decimal c.args.index ++ codes "]." ++ c.reference-key.result.now
-        = simp append_assoc h in
+    = simp append_assoc h in
     flat
     ∙ (ap (λ (key : List ℕ). codes "refused " ++ told c.args.fault ++ codes "\n" ++ c.sentence-sentence.result.now ++ codes "\n" ++ c.args.name.now ++ codes " is named by traitor[" ++ decimal c.args.index ++ codes "]." ++ key) c.reference-key.ensures
     ∙ ap (λ (words : List ℕ). codes "refused " ++ told c.args.fault ++ codes "\n" ++ words ++ codes "\n" ++ c.args.name.now ++ codes " is named by traitor[" ++ decimal c.args.index ++ codes "]." ++ reference_of c.args.key) c.sentence-sentence.ensures)))
