@@ -5,6 +5,7 @@ ghost use Rattle.book.specs.Table.{AreNumbersWithin, is_about, told};
 ghost use Rattle.book.specs.Grammar.{is_place, with_message};
 ghost use Rattle.book.specs.Trees.{tree_of};
 
+use crate::heard::Heard;
 use crate::message::Message;
 use combine::Rule;
 use label::Label;
@@ -143,5 +144,33 @@ impl Table {
         ensures { result.now ≡ self.now.messages }
     {
         self.messages.as_slice()
+    }
+}
+
+impl Heard for Table {
+    ghost seen = { λ t. t };
+
+    fn generals(&self) -> u8 {
+        self.generals()
+    }
+
+    fn bound(&self) -> u8 {
+        self.bound()
+    }
+
+    fn commander(&self) -> u8 {
+        self.commander()
+    }
+
+    fn rule(&self) -> Rule {
+        self.rule()
+    }
+
+    fn told(&self, label: &Label, receiver: u8) -> Option<u32> {
+        self.told(label, receiver)
+    }
+
+    fn tree(&self, general: u8) -> &Tree {
+        self.tree(general)
     }
 }

@@ -1,3 +1,4 @@
+pub mod Explaining
 pub mod Heard
 pub mod Named
 pub mod Rounds
