@@ -41,3 +41,4 @@ pub mod Closed
 pub mod Judged
 pub mod Promised
 pub mod Reading
+pub mod Gathering
