@@ -6,10 +6,11 @@ mod folder;
 mod input;
 mod target;
 
-ghost use Rattle.std.specs.Prelude.{◌≡◌, IfOk, IfErr};
+ghost use Rattle.std.specs.Prelude.{◌≡◌, IfOk, IfErr, IfSome, Some, option_map};
 ghost use Rattle.std.specs.IoError.{error_kind};
-ghost use Rattle.byzlab.specs.Files.{IsInputOf};
-ghost use Rattle.byzlab.specs.Telling.{failure_of};
+ghost use Rattle.command_line.specs.Told.{file_of, second_of};
+ghost use Rattle.byzlab.specs.Files.{IsInputIf, IsSecondIf};
+ghost use Rattle.byzlab.specs.Telling.{IsUnasked, failure_of};
 
 use command_line::{Task, TaskError};
 use folder::FolderOf;
@@ -71,33 +72,10 @@ fn prepare(rt: &HostRuntime) -> io::Result<Ready> {
     }
     let task = match command_line::task(alloc, texts.as_slice()) {
         Ok(task) => task,
-        Err(TaskError::Words(error)) => {
-            if error.use_stderr() {
-                let _ = error.print(rt);
-                return Ok(Ready::Done(2));
-            }
-            error.print(rt)?;
-            return Ok(Ready::Done(0));
-        }
-        Err(error @ TaskError::Misuse(_)) => {
-            let _ = rt.eprintln(error);
-            return Ok(Ready::Done(2));
-        }
-        Err(TaskError::Memory) => return Err(io::Error::from(ErrorKind::OutOfMemory)),
+        Err(error) => return Ok(Ready::Done(unasked(rt, error)?)),
     };
-    let first = match task.file() {
-        Some(name) => match opened(rt, name)? {
-            Some(file) => file,
-            None => return Ok(Ready::Done(1)),
-        },
-        None => Input::Nothing,
-    };
-    let second = match task.second() {
-        Some(name) => match opened(rt, name)? {
-            Some(file) => Some(file),
-            None => return Ok(Ready::Done(1)),
-        },
-        None => None,
+    let Some((first, second)) = files(rt, &task)? else {
+        return Ok(Ready::Done(1));
     };
     let Some(first) = completed(rt, &task, first)? else {
         return Ok(Ready::Done(1));
@@ -107,6 +85,46 @@ fn prepare(rt: &HostRuntime) -> io::Result<Ready> {
         first,
         second,
     })
+}
+
+/// Says why the words name no task, or prints help. The result is the exit status.
+fn unasked(rt: &HostRuntime, error: TaskError) -> io::Result<u8>
+    ensures { IfOk result (IsUnasked error) }
+{
+    match error {
+        TaskError::Words(error) => {
+            if error.use_stderr() {
+                let _ = error.print(rt);
+                return Ok(2);
+            }
+            error.print(rt)?;
+            Ok(0)
+        }
+        error @ TaskError::Misuse(_) => {
+            let _ = rt.eprintln(error);
+            Ok(2)
+        }
+        TaskError::Memory => Err(io::Error::from(ErrorKind::OutOfMemory)),
+    }
+}
+
+/// The task's files; none where one of them does not open, after the line that says so.
+fn files(rt: &HostRuntime, task: &Task) -> io::Result<Option<(Input, Option<Input>)>>
+    ensures first { IfOk result (λ files. IfSome files (λ f. IsInputIf (file_of task.now) (Some f.0))) }
+    ensures second { IfOk result (λ files. IfSome files (λ f. IsSecondIf (second_of task.now) f.1)) }
+    ensures memory { IfErr result (λ error. error_kind error ≡ ErrorKind.OutOfMemory) }
+{
+    let Some(first) = opened(rt, task.file())? else {
+        return Ok(None);
+    };
+    let second = match task.second() {
+        None => None,
+        name => match opened(rt, name)? {
+            Some(file) => Some(file),
+            None => return Ok(None),
+        },
+    };
+    Ok(Some((first, second)))
 }
 
 /// The task's first file, in which a scenario has the files that it names; none where one of them is not taken, after the
@@ -144,11 +162,15 @@ fn read(rt: &HostRuntime, name: &str, file: Input) -> io::Result<Option<Vec<u8>>
     }
 }
 
-/// The file; none where it does not open, after the line that says so.
-fn opened(rt: &HostRuntime, name: &str) -> io::Result<Option<Input>>
-    ensures input { IfOk result (IsInputOf name.now) }
+/// The file of this name, or nothing to read where the task has none; none where it does not open, after the line that
+/// says so.
+fn opened(rt: &HostRuntime, name: Option<&str>) -> io::Result<Option<Input>>
+    ensures input { IfOk result (IsInputIf (option_map (λ n. n.now) name.entry)) }
     ensures memory { IfErr result (λ error. error_kind error ≡ ErrorKind.OutOfMemory) }
 {
+    let Some(name) = name else {
+        return Ok(Some(Input::Nothing));
+    };
     let input = Input::open(rt, name)?;
     if input.is_none() {
         let _ = rt.eprintln(format_args!("fault read {}", FileName(name)));
