@@ -2,11 +2,11 @@
 #
 #     source share/byzlab.bash
 #
-# It offers what `byzlab --help` and the help of each subcommand list (./documented compares them), and files otherwise.
+# It offers what `byzlab --help` and the help of each subcommand list (checks/docs compares them), and files otherwise.
 
 _byzlab() {
     local words=("${COMP_WORDS[@]}") at=$COMP_CWORD script="prove --try" offered
-    local commands="check asm dis book table muster play audit explore help"
+    local commands="check asm dis book table muster play audit explore tree draw schedule help"
     # (behind --try stand the same words; it and prove are the script's)
     if [ "$at" -gt 1 ] && [ "${words[1]}" = --try ]; then
         words=("${words[0]}" "${words[@]:2}") at=$((at - 1)) script=
@@ -17,14 +17,18 @@ _byzlab() {
     *:prove:-*) offered="-h --help" ;;
     2:help:*) offered=$commands ;;
     *:help:*) offered= ;;
-    *:play:-*) offered="--table --explain --schedule --of -h --help" ;;
-    *:check:-*) offered="--asm --elf --explain --trace --context --entry -h --help" ;;
-    *:asm:-*) offered="--raw --explain -o -h --help" ;;
-    *:dis:-*) offered="--elf --units --explain --entry -h --help" ;;
-    *:book:-*) offered="--explain --traitors -h --help" ;;
+    *:play:-*) offered="--table --explain --json --verdicts --schedule --of -h --help" ;;
+    *:check:-*) offered="--asm --elf --explain --trace --json --verdicts --context --entry -h --help" ;;
+    *:asm:-*) offered="--raw --explain --partial -o -h --help" ;;
+    *:dis:-*) offered="--elf --units --explain --partial --entry -h --help" ;;
+    *:book:-*) offered="--explain --json --traitors -h --help" ;;
     *:table:-*) offered="--loyal --lie -h --help" ;;
+    *:tree:-*) offered="--ascii --dot --svg --fold --of --traitors --depth -h --help" ;;
+    *:draw:-*) offered="--schedule --chronicle -h --help" ;;
+    *:schedule:-*) offered="-h --help" ;;
     *:explore:-*) offered="--most -h --help" ;;
-    *:muster:-* | *:audit:-*) offered="--explain --of -h --help" ;;
+    *:muster:-*) offered="--explain --json --of -h --help" ;;
+    *:audit:-*) offered="--explain --json --verdicts --of -h --help" ;;
     *) offered= ;;
     esac
     mapfile -t COMPREPLY < <(compgen -W "$offered" -- "$word")

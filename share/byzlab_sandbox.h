@@ -4,8 +4,8 @@
  *     cc program.c $(pkg-config --cflags --libs byzlab_sandbox)
  *
  * A program that is accepted (status 0) never traps, never leaves its memory and ends within as many steps as it has
- * instructions, whatever its context and board hold. What is said of each status is proved: docs/LIBRARY.md says by
- * which clause of a contract.
+ * instructions, whatever its context and board hold. What is said of each status is proved (docs/LIBRARY.md says by
+ * which clause of a contract), but for why it is 3: that malloc or realloc gave NULL then is tested.
  *
  * What nothing checks, and the caller has to see to:
  *
@@ -108,7 +108,8 @@ uint32_t byzlab_run_many(const uint8_t *program, size_t length, const uint8_t *c
 uint32_t byzlab_explain(const uint8_t *program, size_t length, char *text, size_t room, size_t *needed,
                         struct byzlab_fault *fault);
 
-/* Writes so, at 0, the program's assembly text, a line for each instruction, accepted or not: 0, 1 or 3. */
+/* Writes so, at 0, the program's assembly text, a line for each instruction with a line feed behind it, accepted or not:
+ * 0, 1 or 3. */
 uint32_t byzlab_disassemble(const uint8_t *program, size_t length, char *text, size_t room, size_t *needed,
                             struct byzlab_fault *fault);
 

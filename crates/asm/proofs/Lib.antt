@@ -18,3 +18,4 @@ pub mod DistanceLaws
 pub mod NameLaws
 pub mod UnitLemmas
 pub mod PlaceLemmas
+pub mod WordingLemmas

@@ -1,10 +1,14 @@
--- Where the units of a program are written in its text (own).
-use Rattle.std.specs.Prelude.{ℕ, ◌≡◌, ◌≤◌, ◌==◌, if◌then◌else◌, List, [], ◌∷◌, ◌++◌, Result, Ok, Err, codes, decimal}
-use Rattle.std.specs.List.{flat_map}
+-- Where and how the units of a program are written in its text (own).
+use Rattle.std.specs.Prelude.{ℕ, ◌≡◌, ◌≤◌, ◌==◌, ◌&&◌, nat_le, nat_lt, Bool, if◌then◌else◌, List, [], ◌∷◌, ◌++◌, Option, Some, None, Result, Ok, Err, codes, decimal, map}
+use Rattle.std.specs.List.{flat_map, list_all}
 use Rattle.insn.specs.Program.{most_units}
 use Rattle.asm.specs.declared.kept.Kept.{Kept}
 use Rattle.asm.specs.declared.fault.AsmError.{AsmError}
-use Rattle.asm.specs.Program.{Placed, Read, placed_units, units_in}
+use Rattle.asm.specs.declared.fault.Fault.{Fault}
+use Rattle.asm.specs.Line.{Outline, outline_of}
+use Rattle.asm.specs.Printing.{operands_text}
+use Rattle.asm.specs.Program.{Placed, Read, lines_of, placed_units, source_units, units_in}
+use Rattle.asm.specs.Statement.{Source, statement_of}
 use Rattle.asm.specs.Views.{kept_view}
 
 -- `line N`
@@ -22,3 +26,33 @@ kept_places kept = own_places (kept_view kept)
 abbrev pub AreWritten : Result Read AsmError → List (List ℕ) → Type 0
 AreWritten (Ok r) places = units_in r ≤ most_units → places ≡ flat_map own_places r.sources
 AreWritten (Err fault) places = places ≡ []
+
+-- ---- how
+
+abbrev pub is_visible : ℕ → Bool
+is_visible c = nat_le 32 c && nat_lt c 127
+
+-- a word as it stands there; nothing of one that cannot be told on a line, which no statement has
+abbrev pub word_text : List ℕ → List ℕ
+word_text word = if list_all is_visible word then word else []
+
+-- `mnemonic a, b, c`, in the words of the line
+abbrev pub statement_text : List (List ℕ) → List ℕ
+statement_text [] = []
+statement_text (word ∷ operands) = word_text word ++ operands_text (map word_text operands)
+
+-- one for each of its units
+abbrev pub for_units : Result (Option Source) Fault → List ℕ → List (List ℕ)
+for_units (Ok (Some source)) text = if source_units source == 2 then text ∷ text ∷ [] else text ∷ []
+for_units _ text = []
+
+abbrev pub outline_statements : Option Outline → List (List ℕ)
+outline_statements None = []
+outline_statements (Some o) = for_units (statement_of o.words) (statement_text o.words)
+
+abbrev pub line_statements : List ℕ → List (List ℕ)
+line_statements line = outline_statements (outline_of line)
+
+-- of each unit of the program that a text says
+abbrev pub statements_of : List ℕ → List (List ℕ)
+statements_of text = flat_map line_statements (lines_of text)

@@ -6,6 +6,7 @@ ghost use Rattle.asm.specs.Printing.{text_of, unit_lines};
 ghost use Rattle.asm.specs.Program.{program_of};
 
 use crate::printing::put_line;
+use crate::putting::{put, put_unsigned};
 use insn::{Insn, Program};
 use std::alloc::{AllocError, Global};
 
@@ -36,18 +37,18 @@ pub fn disassemble_units(alloc: Global, program: &Program) -> Result<String, All
     ensures { IfOk result (λ s. string_bytes s ≡ unit_lines 0 program.now) }
 {
     let mut out = String::with_capacity(alloc, 16 * program.units())?;
-    put_unit_lines(alloc, &mut out, program.instructions())?;
+    put_unit_lines(&mut out, program.instructions())?;
     Ok(out)
 }
 
 /// Adds the instructions of a program, one a line, each behind its unit.
-fn put_unit_lines(alloc: Global, out: &mut String, insns: &[Insn]) -> Result<(), AllocError>
+fn put_unit_lines(out: &mut String, insns: &[Insn]) -> Result<(), AllocError>
     requires { length (slots_of insns.now) ≤ 4096 }
     ensures { OnOk result (string_bytes out.new ≡ string_bytes out.old ++ unit_lines 0 insns.now) }
 {
     let mut unit = 0;
     for insn in insns {
-        put_unit(alloc, out, unit)?;
+        put_unit(out, unit)?;
         put_line(out, insn)?;
         unit += insn.units();
     }
@@ -55,9 +56,9 @@ fn put_unit_lines(alloc: Global, out: &mut String, insns: &[Insn]) -> Result<(),
 }
 
 /// Adds the unit, and a space.
-fn put_unit(alloc: Global, out: &mut String, unit: u16) -> Result<(), AllocError>
+fn put_unit(out: &mut String, unit: u16) -> Result<(), AllocError>
     ensures { OnOk result (string_bytes out.new ≡ string_bytes out.old ++ decimal unit ++ codes " ") }
 {
-    let number = format!(in alloc; "{unit} ")?;
-    out.push_str(number.as_str())
+    put_unsigned(out, u64::from(unit))?;
+    put(out, " ")
 }

@@ -13,9 +13,11 @@ mod number;
 mod operand;
 mod outline;
 mod printing;
+mod putting;
 mod reading;
 mod resolver;
 mod statement;
+mod wording;
 mod written;
 
 pub use assembler::assemble;
@@ -26,4 +28,6 @@ pub use laws::{
     registers_are_numbered,
 };
 pub use printing::put_instruction;
+pub use putting::{put, put_number, put_unsigned};
+pub use wording::statements;
 pub use written::places;

@@ -5,41 +5,22 @@ ghost use Rattle.std.specs.Fmt.{signed_decimal};
 ghost use Rattle.asm.specs.Printing.{register_text, operand_text, signed_text, place_text, word_of, operands_of, operands_text, insn_text, line_text};
 
 use crate::mnemonic::{Mnemonic, name};
+use crate::putting::{put, put_number, put_unsigned};
 use insn::{Insn, Operand, Reg};
-use itoa::Buffer;
 use std::alloc::AllocError;
-
-/// A decimal number, with a minus where it is negative.
-fn put_number(out: &mut String, number: i64) -> Result<(), AllocError>
-    ensures { OnOk result (string_bytes out.new ≡ string_bytes out.old ++ signed_decimal number) }
-{
-    let mut buffer = Buffer::new();
-    out.push_str(buffer.format(number))?;
-    Ok(())
-}
-
-/// A decimal number.
-fn put_unsigned(out: &mut String, number: u64) -> Result<(), AllocError>
-    ensures { OnOk result (string_bytes out.new ≡ string_bytes out.old ++ decimal number) }
-{
-    let mut buffer = Buffer::new();
-    out.push_str(buffer.format(number))?;
-    Ok(())
-}
 
 /// A comma and a space.
 fn put_comma(out: &mut String) -> Result<(), AllocError>
     ensures { OnOk result (string_bytes out.new ≡ string_bytes out.old ++ codes ", ") }
 {
-    out.push_str(", ")?;
-    Ok(())
+    put(out, ", ")
 }
 
 /// `rN`.
 fn put_register(out: &mut String, reg: Reg) -> Result<(), AllocError>
     ensures { OnOk result (string_bytes out.new ≡ string_bytes out.old ++ register_text reg) }
 {
-    out.push_str("r")?;
+    put(out, "r")?;
     put_unsigned(out, reg.number() as u64)
 }
 
@@ -58,7 +39,7 @@ fn put_signed(out: &mut String, number: i64) -> Result<(), AllocError>
     ensures { OnOk result (string_bytes out.new ≡ string_bytes out.old ++ signed_text number) }
 {
     if number >= 0 {
-        out.push_str("+")?;
+        put(out, "+")?;
     }
     put_number(out, number)
 }
@@ -67,11 +48,10 @@ fn put_signed(out: &mut String, number: i64) -> Result<(), AllocError>
 fn put_place(out: &mut String, base: Reg, offset: i16) -> Result<(), AllocError>
     ensures { OnOk result (string_bytes out.new ≡ string_bytes out.old ++ place_text base offset) }
 {
-    out.push_str("[")?;
+    put(out, "[")?;
     put_register(out, base)?;
     put_signed(out, offset as i64)?;
-    out.push_str("]")?;
-    Ok(())
+    put(out, "]")
 }
 
 /// The mnemonic of an instruction.
@@ -116,7 +96,7 @@ fn mnemonic_for(insn: &Insn) -> Mnemonic
 fn put_target(out: &mut String, dst: Reg) -> Result<(), AllocError>
     ensures { OnOk result (string_bytes out.new ≡ string_bytes out.old ++ operands_text (register_text dst ∷ [])) }
 {
-    out.push_str(" ")?;
+    put(out, " ")?;
     put_register(out, dst)
 }
 
@@ -124,7 +104,7 @@ fn put_target(out: &mut String, dst: Reg) -> Result<(), AllocError>
 fn put_pair(out: &mut String, dst: Reg, operand: Operand) -> Result<(), AllocError>
     ensures { OnOk result (string_bytes out.new ≡ string_bytes out.old ++ operands_text (register_text dst ∷ operand_text operand ∷ [])) }
 {
-    out.push_str(" ")?;
+    put(out, " ")?;
     put_register(out, dst)?;
     put_comma(out)?;
     put_operand(out, operand)
@@ -134,7 +114,7 @@ fn put_pair(out: &mut String, dst: Reg, operand: Operand) -> Result<(), AllocErr
 fn put_wide(out: &mut String, dst: Reg, number: u64) -> Result<(), AllocError>
     ensures { OnOk result (string_bytes out.new ≡ string_bytes out.old ++ operands_text (register_text dst ∷ decimal number ∷ [])) }
 {
-    out.push_str(" ")?;
+    put(out, " ")?;
     put_register(out, dst)?;
     put_comma(out)?;
     put_unsigned(out, number)
@@ -144,7 +124,7 @@ fn put_wide(out: &mut String, dst: Reg, number: u64) -> Result<(), AllocError>
 fn put_distance(out: &mut String, distance: i64) -> Result<(), AllocError>
     ensures { OnOk result (string_bytes out.new ≡ string_bytes out.old ++ operands_text (signed_text distance ∷ [])) }
 {
-    out.push_str(" ")?;
+    put(out, " ")?;
     put_signed(out, distance)
 }
 
@@ -152,7 +132,7 @@ fn put_distance(out: &mut String, distance: i64) -> Result<(), AllocError>
 fn put_branch(out: &mut String, dst: Reg, operand: Operand, distance: i16) -> Result<(), AllocError>
     ensures { OnOk result (string_bytes out.new ≡ string_bytes out.old ++ operands_text (register_text dst ∷ operand_text operand ∷ signed_text distance ∷ [])) }
 {
-    out.push_str(" ")?;
+    put(out, " ")?;
     put_register(out, dst)?;
     put_comma(out)?;
     put_operand(out, operand)?;
@@ -164,7 +144,7 @@ fn put_branch(out: &mut String, dst: Reg, operand: Operand, distance: i16) -> Re
 fn put_load(out: &mut String, dst: Reg, base: Reg, offset: i16) -> Result<(), AllocError>
     ensures { OnOk result (string_bytes out.new ≡ string_bytes out.old ++ operands_text (register_text dst ∷ place_text base offset ∷ [])) }
 {
-    out.push_str(" ")?;
+    put(out, " ")?;
     put_register(out, dst)?;
     put_comma(out)?;
     put_place(out, base, offset)
@@ -174,7 +154,7 @@ fn put_load(out: &mut String, dst: Reg, base: Reg, offset: i16) -> Result<(), Al
 fn put_store(out: &mut String, base: Reg, offset: i16, source: Operand) -> Result<(), AllocError>
     ensures { OnOk result (string_bytes out.new ≡ string_bytes out.old ++ operands_text (place_text base offset ∷ operand_text source ∷ [])) }
 {
-    out.push_str(" ")?;
+    put(out, " ")?;
     put_place(out, base, offset)?;
     put_comma(out)?;
     put_operand(out, source)
@@ -184,7 +164,7 @@ fn put_store(out: &mut String, base: Reg, offset: i16, source: Operand) -> Resul
 fn put_helper(out: &mut String, helper: i32) -> Result<(), AllocError>
     ensures { OnOk result (string_bytes out.new ≡ string_bytes out.old ++ operands_text (signed_decimal helper ∷ [])) }
 {
-    out.push_str(" ")?;
+    put(out, " ")?;
     put_number(out, helper as i64)
 }
 
@@ -234,7 +214,7 @@ fn put_operands(out: &mut String, insn: &Insn) -> Result<(), AllocError>
 pub fn put_instruction(out: &mut String, insn: &Insn) -> Result<(), AllocError>
     ensures { OnOk result (string_bytes out.new ≡ string_bytes out.old ++ insn_text insn.now) }
 {
-    out.push_str(name(mnemonic_for(insn)))?;
+    put(out, name(mnemonic_for(insn)))?;
     put_operands(out, insn)
 }
 
@@ -243,6 +223,5 @@ pub fn put_line(out: &mut String, insn: &Insn) -> Result<(), AllocError>
     ensures { OnOk result (string_bytes out.new ≡ string_bytes out.old ++ line_text insn.now) }
 {
     put_instruction(out, insn)?;
-    out.push_str("\n")?;
-    Ok(())
+    put(out, "\n")
 }

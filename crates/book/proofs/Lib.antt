@@ -14,3 +14,4 @@ pub mod TextLemmas
 pub mod ConditionLemmas
 pub mod Places
 pub mod FormLemmas
+pub mod Naming

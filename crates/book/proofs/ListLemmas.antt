@@ -8,6 +8,7 @@ use Rattle.label.specs.Labels.{on, others}
 use Rattle.label.specs.Oral.{order_of, taken, om}
 use Rattle.book.specs.Table.{MessageTable, told}
 use Rattle.book.specs.Explained.{list_words, decided, element, held, part, outcome, list_line, list_lines}
+use Rattle.book.specs.Decisions.{decision_of}
 use Rattle.book.specs.Grammar.{is_place}
 use Rattle.book.specs.Laws.{IsMessage}
 use Rattle.book.proofs.Gathering.{map_yes}
@@ -75,3 +76,11 @@ pub place_off : (t : MessageTable) (w : List ℕ) (p : ℕ) → is_place t w p �
 place_off t w p e =
     let said : IsMessage t.generals t.bound t.commander (record { label = w; receiver = p; order = 0 }) = place_message t (record { label = w; receiver = p; order = 0 }) e (omega arith) in
     said.off
+
+-- what a lieutenant holds of the commander's label is his decision
+pub held_decides : (t : MessageTable) (m : ℕ) (w : List ℕ) (p : ℕ) (o : Option ℕ) (d : ℕ) → m ≡ t.bound → w ≡ t.commander ∷ [] → o ≡ held t m w p → d ≡ unwrap_or o 0 → d ≡ decision_of t p
+unfolding decision_of
+held_decides t m w p o d em ew eo ed =
+    ed
+    ∙ (ap (λ (x : Option ℕ). unwrap_or x 0) (eo ∙ (ap (λ (k : ℕ). held t k w p) em ∙ ap (λ (v : List ℕ). held t t.bound v p) ew))
+    ∙ held_order t t.bound (t.commander ∷ []) p)

@@ -10,25 +10,9 @@ use Rattle.label.specs.Labels.{on, others, is_distinct}
 use Rattle.label.proofs.Counting.{distinct-push, others-on, range-distinct, range-on, range-on_within, others-distinct}
 use Rattle.label.proofs.Counts.{among}
 use Rattle.label.specs.Space.{begins_with}
+pub use Rattle.book.specs.Places.{Place, places, places_at, places_from}
 use Rattle.book.proofs.LabelLemmas.{twice}
 use Rattle.label.proofs.Places.{all-append}
-
--- a label, and a general who is off it
-abbrev pub Place : Type 0
-Place = List ℕ × ℕ
-
--- those of a label
-abbrev pub places_at : ℕ → List ℕ → List Place
-places_at n w = flat_map (λ p. (w, p) ∷ []) (others n w)
-
--- those of the labels that have k generals more
-abbrev pub places_from : ℕ → ℕ → List ℕ → List Place
-places_from n zero w = places_at n w
-places_from n (suc k) w = flat_map (λ j. places_from n k (w ++ j ∷ [])) (others n w)
-
--- all of a campaign's
-abbrev pub places : ℕ → ℕ → ℕ → List Place
-places n m c = flat_map (λ k. places_from n k (c ∷ [])) (range_with_len 0 (m + 1))
 
 -- what holds in each part
 pub all_flat : {A : Type 0} (P : A → Type 0) (F : ℕ → List A) (xs : List ℕ) → ((x : ℕ) → on xs x ≡ true → AllByRecursion P (F x)) → AllByRecursion P (flat_map F xs)

@@ -8,5 +8,6 @@ pub mod Laws
 pub mod Conditions
 pub mod Explained
 pub mod Forms
+pub mod Places
 pub mod Consistency
 pub mod Telling

@@ -5,10 +5,9 @@ ghost use Rattle.book.specs.Explained.{alike_line, bound_line, condition_lines, 
 ghost use Rattle.book.specs.Explained.{few_part, few_words, is_lieutenant, lieutenant_lines, mark, obedience_line, part_of, yes_no};
 
 use crate::conditions::{Conditions, Obedience};
+use crate::heard::Heard;
 use crate::judging::{is_named, judge};
 use crate::listing::push_lists;
-use crate::recursion::decision;
-use crate::table::Table;
 use label::Label;
 use std::alloc::{AllocError, Global};
 
@@ -18,8 +17,8 @@ use std::alloc::{AllocError, Global};
 /// # Errors
 ///
 /// No memory for the text.
-pub fn explain(alloc: Global, table: &Table, traitors: &[u8]) -> Result<String, AllocError>
-    ensures { IfOk result (λ text. string_bytes text ≡ explained table.now traitors.now) }
+pub fn explain<H: Heard>(alloc: Global, table: &H, traitors: &[u8]) -> Result<String, AllocError>
+    ensures { IfOk result (λ text. string_bytes text ≡ explained (H.seen table.now) traitors.now) }
 {
     let mut lines = String::new(alloc);
     for general in 0..table.generals() {
@@ -37,13 +36,13 @@ pub fn explain(alloc: Global, table: &Table, traitors: &[u8]) -> Result<String, 
 ///
 /// No memory for the text.
 #[tactic(auto, unfolding(crate::specs::Explained::explained_one))]
-pub fn explain_one(
+pub fn explain_one<H: Heard>(
     alloc: Global,
-    table: &Table,
+    table: &H,
     traitors: &[u8],
     general: u8,
 ) -> Result<String, AllocError>
-    ensures { IfOk result (λ text. string_bytes text ≡ explained_one table.now traitors.now general) }
+    ensures { IfOk result (λ text. string_bytes text ≡ explained_one (H.seen table.now) traitors.now general) }
 {
     let mut lines = part(alloc, table, traitors, general)?;
     let met = judge(table, traitors);
@@ -52,8 +51,13 @@ pub fn explain_one(
 }
 
 /// The lines of this general, and none where he is no lieutenant.
-fn part(alloc: Global, table: &Table, traitors: &[u8], general: u8) -> Result<String, AllocError>
-    ensures { IfOk result (λ text. string_bytes text ≡ part_of table.now traitors.now general) }
+fn part<H: Heard>(
+    alloc: Global,
+    table: &H,
+    traitors: &[u8],
+    general: u8,
+) -> Result<String, AllocError>
+    ensures { IfOk result (λ text. string_bytes text ≡ part_of (H.seen table.now) traitors.now general) }
 {
     let mut lines = String::new(alloc);
     if !is_lieutenant(table, general) {
@@ -64,40 +68,39 @@ fn part(alloc: Global, table: &Table, traitors: &[u8], general: u8) -> Result<St
 }
 
 /// Whether the general is one of the lieutenants.
-fn is_lieutenant(table: &Table, general: u8) -> bool
-    ensures { result ≡ is_lieutenant table.now general }
+fn is_lieutenant<H: Heard>(table: &H, general: u8) -> bool
+    ensures { result ≡ is_lieutenant (H.seen table.now) general }
 {
     general < table.generals() && general != table.commander()
 }
 
 /// Adds the lines of a lieutenant.
-fn push_lieutenant(
+fn push_lieutenant<H: Heard>(
     alloc: Global,
     lines: &mut String,
-    table: &Table,
+    table: &H,
     traitors: &[u8],
     general: u8,
 ) -> Result<(), AllocError>
-    requires general { general < table.now.generals }
-    requires lieutenant { general ≢ table.now.commander }
-    ensures { OnOk result (string_bytes lines.new ≡ string_bytes lines.old ++ lieutenant_lines table.now traitors.now general) }
+    requires general { general < (H.seen table.now).generals }
+    requires lieutenant { general ≢ (H.seen table.now).commander }
+    ensures { OnOk result (string_bytes lines.new ≡ string_bytes lines.old ++ lieutenant_lines (H.seen table.now) traitors.now general) }
 {
-    let head = format!(in alloc; "lieutenant {general}\n")?;
-    lines.push_str(head.as_str())?;
-    let label = Label::of(table.commander());
-    push_lists(alloc, lines, table, general, &label, table.bound())?;
+    write!(lines, "lieutenant {general}\n")?;
+    let commander = table.commander();
+    let label = Label::of(commander);
+    let bound = table.bound();
+    let held = push_lists(alloc, lines, table, general, &label, "", commander, bound)?;
     push_decision(
-        alloc,
         lines,
         general,
         is_named(traitors, general),
-        decision(table, general),
+        held.unwrap_or(0),
     )
 }
 
 /// Adds the line of a decision.
 fn push_decision(
-    alloc: Global,
     lines: &mut String,
     general: u8,
     is_named: bool,
@@ -106,8 +109,7 @@ fn push_decision(
     ensures { OnOk result (string_bytes lines.new ≡ string_bytes lines.old ++ decision_line general is_named order) }
 {
     let mark = mark(is_named);
-    let line = format!(in alloc; "decision {general}{mark}{order}\n")?;
-    lines.push_str(line.as_str())
+    write!(lines, "decision {general}{mark}{order}\n")
 }
 
 /// What marks the decision of one who is named.
@@ -118,13 +120,13 @@ fn mark(named: bool) -> &'static str
 }
 
 /// Adds whether the bound and the conditions hold.
-fn push_conditions(
+fn push_conditions<H: Heard>(
     alloc: Global,
     lines: &mut String,
-    table: &Table,
+    table: &H,
     met: &Conditions,
 ) -> Result<(), AllocError>
-    ensures { OnOk result (string_bytes lines.new ≡ string_bytes lines.old ++ condition_lines table.now met.now) }
+    ensures { OnOk result (string_bytes lines.new ≡ string_bytes lines.old ++ condition_lines (H.seen table.now) met.now) }
 {
     let bound = bound_line(alloc, table, met)?;
     lines.push_str(bound.as_str())?;
@@ -134,8 +136,8 @@ fn push_conditions(
 }
 
 /// Whether the bound holds, with its numbers.
-fn bound_line(alloc: Global, table: &Table, met: &Conditions) -> Result<String, AllocError>
-    ensures { IfOk result (λ text. string_bytes text ≡ bound_line table.now met.now) }
+fn bound_line<H: Heard>(alloc: Global, table: &H, met: &Conditions) -> Result<String, AllocError>
+    ensures { IfOk result (λ text. string_bytes text ≡ bound_line (H.seen table.now) met.now) }
 {
     let mut line = enough_part(alloc, table, met)?;
     let few = few_part(alloc, table, met)?;
@@ -144,8 +146,8 @@ fn bound_line(alloc: Global, table: &Table, met: &Conditions) -> Result<String, 
 }
 
 /// Whether there are enough generals.
-fn enough_part(alloc: Global, table: &Table, met: &Conditions) -> Result<String, AllocError>
-    ensures { IfOk result (λ text. string_bytes text ≡ enough_part table.now met.now) }
+fn enough_part<H: Heard>(alloc: Global, table: &H, met: &Conditions) -> Result<String, AllocError>
+    ensures { IfOk result (λ text. string_bytes text ≡ enough_part (H.seen table.now) met.now) }
 {
     let holds = yes_no(met.bound);
     let generals = table.generals();
@@ -155,8 +157,8 @@ fn enough_part(alloc: Global, table: &Table, met: &Conditions) -> Result<String,
 }
 
 /// Whether few enough are named.
-fn few_part(alloc: Global, table: &Table, met: &Conditions) -> Result<String, AllocError>
-    ensures { IfOk result (λ text. string_bytes text ≡ few_part table.now met.now) }
+fn few_part<H: Heard>(alloc: Global, table: &H, met: &Conditions) -> Result<String, AllocError>
+    ensures { IfOk result (λ text. string_bytes text ≡ few_part (H.seen table.now) met.now) }
 {
     let named = met.named;
     let few = few_words(met.few);

@@ -5,16 +5,16 @@ ghost use Rattle.label.specs.Labels.{on, generals};
 ghost use Rattle.book.specs.Conditions.{are_alike, is_told, judged, loyal_decisions, named_in, obedience_in, obedience_to, same_order, sent};
 
 use crate::conditions::{Conditions, Obedience};
+use crate::heard::Heard;
 use crate::recursion::decision;
-use crate::table::Table;
 use arrayvec::ArrayVec;
 use label::Label;
 
 /// Whether the bound and the conditions hold in a table, where these generals are named as traitors and all others
 /// count as loyal.
 #[tactic(auto, unfolding(crate::specs::Conditions::judged))]
-pub fn judge(table: &Table, traitors: &[u8]) -> Conditions
-    ensures { result ≡ judged table.now traitors.now }
+pub fn judge<H: Heard>(table: &H, traitors: &[u8]) -> Conditions
+    ensures { result ≡ judged (H.seen table.now) traitors.now }
 {
     let named = named_among(traitors, table.generals());
     let enough = 3 * table.bound() < table.generals();
@@ -55,8 +55,8 @@ fn named_among(traitors: &[u8], all: u8) -> u8
 }
 
 /// What the lieutenants who are not named decide, ascending.
-fn loyal_decisions(table: &Table, traitors: &[u8]) -> ArrayVec<u32, 13>
-    ensures { result.items ≡ loyal_decisions table.now traitors.now }
+fn loyal_decisions<H: Heard>(table: &H, traitors: &[u8]) -> ArrayVec<u32, 13>
+    ensures { result.items ≡ loyal_decisions (H.seen table.now) traitors.now }
 {
     let commander = table.commander();
     let mut decisions = ArrayVec::new();
@@ -69,8 +69,8 @@ fn loyal_decisions(table: &Table, traitors: &[u8]) -> ArrayVec<u32, 13>
 }
 
 /// What the commander told the lieutenants, ascending.
-fn sent(table: &Table) -> ArrayVec<Option<u32>, 13>
-    ensures { result.items ≡ sent table.now }
+fn sent<H: Heard>(table: &H) -> ArrayVec<Option<u32>, 13>
+    ensures { result.items ≡ sent (H.seen table.now) }
 {
     let commander = table.commander();
     let label = Label::of(commander);

@@ -1,10 +1,11 @@
 //! The lists that a lieutenant combines, label by label.
-ghost use Rattle.std.specs.Prelude.{◌≡◌, ◌≤◌, ◌+◌, ◌++◌, ◌∷◌, true, length, IfOk, OnOk, string_bytes};
+ghost use Rattle.std.specs.Prelude.{◌≡◌, ◌≤◌, ◌+◌, ◌++◌, ◌∷◌, [], ℕ, List, true, length, IfOk, OnOk, None, string_bytes};
+ghost use Rattle.std.specs.Fmt.{decimal};
 ghost use Rattle.combine.specs.Rule.{is_most};
 ghost use Rattle.book.specs.Grammar.{is_place};
-ghost use Rattle.book.specs.Explained.{dotted, held, list_lines, list_words, order_words, outcome, part_words};
+ghost use Rattle.book.specs.Explained.{dotted, held, list_lines, list_words, outcome, part_words};
 
-use crate::table::Table;
+use crate::heard::Heard;
 use arrayvec::ArrayVec;
 use combine::{Combine, Rule};
 use label::Label;
@@ -32,14 +33,13 @@ fn joined(alloc: Global, first: u8, rest: &[u8]) -> Result<String, AllocError>
     Ok(text)
 }
 
-/// An order that was told, or that none was.
-fn order_words(alloc: Global, order: Option<u32>) -> Result<String, AllocError>
-    ensures { IfOk result (λ text. string_bytes text ≡ order_words order) }
+/// How the labels begin that go on from one that is written so far, and then its last general.
+fn behind(alloc: Global, label: &Label, front: &str, last: u8) -> Result<String, AllocError>
+    requires { front.now ++ decimal last ≡ dotted label.now }
+    ensures { IfOk result (λ text. (other : ℕ) → string_bytes text ++ decimal other ≡ dotted (label.now ++ other ∷ [])) }
 {
-    match order {
-        Some(order) => format!(in alloc; "{order}"),
-        None => String::from_str(alloc, "nothing"),
-    }
+    let _generals = label.len();
+    format!(in alloc; "{front}{last}.")
 }
 
 /// Whether the order stands in more than half of the places.
@@ -67,57 +67,75 @@ fn outcome(alloc: Global, rule: Rule, orders: &[u32]) -> Result<String, AllocErr
     }
 }
 
-/// Adds what a general adds to a list: the label with him, and what is held of it.
+/// Adds what a general adds to a list: the label with him, which is written so before his number, and what is held of it.
 fn push_part(
-    alloc: Global,
     parts: &mut String,
-    label: &Label,
+    front: &str,
+    general: u8,
     held: Option<u32>,
 ) -> Result<(), AllocError>
-    ensures { OnOk result (string_bytes parts.new ≡ string_bytes parts.old ++ part_words label.now held) }
+    ensures { (w : List ℕ) → front.now ++ decimal general ≡ dotted w → OnOk result (string_bytes parts.new ≡ string_bytes parts.old ++ part_words w held) }
 {
-    let label = dotted(alloc, label)?;
-    let held = order_words(alloc, held)?;
-    let part = format!(in alloc; ", {label} {held}")?;
-    parts.push_str(part.as_str())
+    match held {
+        Some(order) => write!(parts, ", {front}{general} {order}"),
+        None => write!(parts, ", {front}{general} nothing"),
+    }
 }
 
-/// Adds the line of a label.
-fn push_list(
-    alloc: Global,
+/// Adds the line of a label of which nothing was told.
+fn push_silent_list(
     lines: &mut String,
-    label: &Label,
+    front: &str,
+    last: u8,
+    parts: &str,
+    outcome: &str,
+) -> Result<(), AllocError>
+    ensures { (w : List ℕ) → front.now ++ decimal last ≡ dotted w → OnOk result (string_bytes lines.new ≡ string_bytes lines.old ++ list_words w None parts.now outcome.now) }
+{
+    write!(lines, "{front}{last}: told ")?;
+    write!(lines, "nothing{parts}: {outcome}\n")
+}
+
+/// Adds the line of a label, which is written so before its last general.
+fn push_list(
+    lines: &mut String,
+    front: &str,
+    last: u8,
     told: Option<u32>,
     parts: &str,
     outcome: &str,
 ) -> Result<(), AllocError>
-    ensures { OnOk result (string_bytes lines.new ≡ string_bytes lines.old ++ list_words label.now told parts.now outcome.now) }
+    ensures { (w : List ℕ) → front.now ++ decimal last ≡ dotted w → OnOk result (string_bytes lines.new ≡ string_bytes lines.old ++ list_words w told parts.now outcome.now) }
 {
-    let label = dotted(alloc, label)?;
-    let told = order_words(alloc, told)?;
-    let line = format!(in alloc; "{label}: told {told}{parts}: {outcome}\n")?;
-    lines.push_str(line.as_str())
+    match told {
+        Some(order) => write!(lines, "{front}{last}: told {order}{parts}: {outcome}\n"),
+        None => push_silent_list(lines, front, last, parts, outcome),
+    }
 }
 
-/// Adds the lines of a label and of those that go on from it, with so many relays left: what the lieutenant then
-/// holds of the label.
-pub(crate) fn push_lists(
+/// Adds the lines of a label, which is written so before its last general, and of those that go on from it, with so many
+/// relays left: what the lieutenant then holds of the label.
+pub(crate) fn push_lists<H: Heard>(
     alloc: Global,
     lines: &mut String,
-    table: &Table,
+    table: &H,
     general: u8,
     label: &Label,
+    front: &str,
+    last: u8,
     relays: u8,
 ) -> Result<Option<u32>, AllocError>
-    requires place { is_place table.now label.now general ≡ true }
-    requires relays { length label.now + relays ≡ table.now.bound + 1 }
-    ensures held { IfOk result (λ order. order ≡ held table.now relays label.now general) }
-    ensures lines { OnOk result (string_bytes lines.new ≡ string_bytes lines.old ++ list_lines table.now relays label.now general) }
+    requires place { is_place (H.seen table.now) label.now general ≡ true }
+    requires spelt { front.now ++ decimal last ≡ dotted label.now }
+    requires relays { length label.now + relays ≡ (H.seen table.now).bound + 1 }
+    ensures held { IfOk result (λ order. order ≡ held (H.seen table.now) relays label.now general) }
+    ensures lines { OnOk result (string_bytes lines.new ≡ string_bytes lines.old ++ list_lines (H.seen table.now) relays label.now general) }
 {
     let told = table.told(label, general);
     if relays == 0 {
         return Ok(told);
     }
+    let ahead = behind(alloc, label, front, last)?;
     let mut parts = String::new(alloc);
     let mut orders: ArrayVec<u32, 13> = ArrayVec::new();
     for other in 0..table.generals() {
@@ -125,12 +143,22 @@ pub(crate) fn push_lists(
             orders.push(told.unwrap_or(0));
         } else if !label.has(other) {
             let next = label.with(other);
-            let held = push_lists(alloc, lines, table, general, &next, relays - 1)?;
-            push_part(alloc, &mut parts, &next, held)?;
+            let begun = ahead.as_str();
+            let held = push_lists(
+                alloc,
+                lines,
+                table,
+                general,
+                &next,
+                begun,
+                other,
+                relays - 1,
+            )?;
+            push_part(&mut parts, begun, other, held)?;
             orders.push(held.unwrap_or(0));
         }
     }
     let outcome = outcome(alloc, table.rule(), orders.as_slice())?;
-    push_list(alloc, lines, label, told, parts.as_str(), outcome.as_str())?;
+    push_list(lines, front, last, told, parts.as_str(), outcome.as_str())?;
     Ok(Some(table.rule().combine(orders.as_slice())))
 }

@@ -1,6 +1,7 @@
 ghost use Rattle.std.specs.Prelude.{◌≡◌, ◌≢◌, ◌<◌};
 ghost use Rattle.book.specs.Decisions.{decision_of, decisions_of, TableAgrees};
 
+use crate::heard::Heard;
 use crate::table::Table;
 use crate::theorem::agreement;
 use arrayvec::ArrayVec;
@@ -9,10 +10,10 @@ use resolve::resolve;
 /// What a lieutenant decides: by the table's rule, the decision of OM(m) of the messages that the table
 /// tells (TOPLAS 1982).
 #[tactic(auto, unfolding(crate::specs::Decisions::decision_of))]
-pub fn decision(table: &Table, general: u8) -> u32
-    requires general { general < table.now.generals }
-    requires lieutenant { general ≢ table.now.commander }
-    ensures { result ≡ decision_of table.now general }
+pub fn decision<H: Heard>(table: &H, general: u8) -> u32
+    requires general { general < (H.seen table.now).generals }
+    requires lieutenant { general ≢ (H.seen table.now).commander }
+    ensures { result ≡ decision_of (H.seen table.now) general }
 {
     resolve(table.tree(general), &table.rule())
 }

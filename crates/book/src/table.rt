@@ -5,6 +5,7 @@ ghost use Rattle.book.specs.Table.{AreNumbersWithin, is_about, told};
 ghost use Rattle.book.specs.Grammar.{is_place, with_message};
 ghost use Rattle.book.specs.Trees.{tree_of};
 
+use crate::heard::Heard;
 use crate::message::Message;
 use combine::Rule;
 use label::Label;
@@ -143,5 +144,33 @@ impl Table {
         ensures { result.now ≡ self.now.messages }
     {
         self.messages.as_slice()
+    }
+}
+
+impl Heard for Table {
+    ghost seen = { λ t. t };
+
+    fn generals(&self) -> u8 {
+        Table::generals(self)
+    }
+
+    fn bound(&self) -> u8 {
+        Table::bound(self)
+    }
+
+    fn commander(&self) -> u8 {
+        Table::commander(self)
+    }
+
+    fn rule(&self) -> Rule {
+        Table::rule(self)
+    }
+
+    fn told(&self, label: &Label, receiver: u8) -> Option<u32> {
+        Table::told(self, label, receiver)
+    }
+
+    fn tree(&self, general: u8) -> &Tree {
+        Table::tree(self, general)
     }
 }

@@ -14,6 +14,19 @@ IsInputOf name (Some (input.Text text)) = ⊥
 IsInputOf name (Some input.Nothing) = ⊥
 IsInputOf name None = name ≢ codes "-"
 
+-- the file of this name; nothing is read where there is no name
+abbrev pub IsInputIf : Option (List ℕ) → Option Input → Type 0
+IsInputIf None (Some input.Nothing) = Unit {0}
+IsInputIf None _ = ⊥
+IsInputIf (Some name) opened = IsInputOf name opened
+
+-- the second file, of this name; none where there is no name
+abbrev pub IsSecondIf : Option (List ℕ) → Option Input → Type 0
+IsSecondIf None None = Unit {0}
+IsSecondIf None (Some file) = ⊥
+IsSecondIf (Some name) None = ⊥
+IsSecondIf (Some name) (Some file) = IsInputOf name (Some file)
+
 -- where there is no file nothing is read, of a text what is left of it; what a file or standard input has is not known
 abbrev pub remaining_of : Input → Option (List ℕ)
 remaining_of input.Nothing = Some []

@@ -1,5 +1,4 @@
-ghost use Rattle.std.specs.Prelude.{◌≡◌, IfOk, IfErr};
-ghost use Rattle.std.specs.IoError.{error_kind};
+ghost use Rattle.std.specs.Prelude.{IfOk, IfErr, None, Some};
 ghost use Rattle.byzlab.specs.Files.{IsInputOf};
 
 use std::fs::File;
@@ -19,23 +18,23 @@ pub enum Input {
 }
 
 impl Input {
-    /// The file of this name; none where it does not open.
+    /// The file of this name.
     ///
     /// # Errors
     ///
-    /// Want of memory.
-    pub fn open(rt: &HostRuntime, name: &str) -> io::Result<Option<Input>>
-        ensures input { IfOk result (IsInputOf name.now) }
-        ensures memory { IfErr result (λ error. error_kind error ≡ ErrorKind.OutOfMemory) }
+    /// It does not open, or is a folder; a hyphen always opens.
+    pub fn open(rt: &HostRuntime, name: &str) -> io::Result<Input>
+        ensures input { IfOk result (λ input. IsInputOf name.now (Some input)) }
+        ensures closed { IfErr result (λ _. IsInputOf name.now None) }
     {
         if name == "-" {
-            return Ok(Some(Input::Standard(rt.stdin())));
+            return Ok(Input::Standard(rt.stdin()));
         }
-        match File::open(rt, name) {
-            Ok(file) => Ok(Some(Input::File(file))),
-            Err(error) if error.kind() == ErrorKind::OutOfMemory => Err(error),
-            Err(_) => Ok(None),
+        let file = File::open(rt, name)?;
+        if file.metadata()?.is_dir() {
+            return Err(io::Error::from(ErrorKind::IsADirectory));
         }
+        Ok(Input::File(file))
     }
 }
 

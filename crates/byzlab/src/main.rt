@@ -4,156 +4,292 @@
 
 mod folder;
 mod input;
+mod progress;
 mod target;
+mod watched;
 
-ghost use Rattle.std.specs.Prelude.{◌≡◌, IfOk, IfErr};
+ghost use Rattle.std.specs.Prelude.{◌≡◌, IfOk, IfErr, IfSome, Some, max, option_map};
 ghost use Rattle.std.specs.IoError.{error_kind};
-ghost use Rattle.byzlab.specs.Files.{IsInputOf};
-ghost use Rattle.byzlab.specs.Telling.{failure_of};
+ghost use Rattle.command_line.specs.Told.{file_of, second_of};
+ghost use Rattle.byzlab.specs.Files.{IsInputIf, IsSecondIf};
+ghost use Rattle.byzlab.specs.Telling.{IsUnasked, failure_of};
 
-use command_line::{Task, TaskError};
+use command_line::{Request, TaskError, each};
+use desk::{serve, turned_down};
 use folder::FolderOf;
 use input::Input;
-use lab::{FileName, serve};
+use lab::{FileName, is_explained, reason};
 use neighbours::{Untaken, reads_scenario, with_files};
+use progress::Progress;
 use std::env;
+use std::fmt::Display;
 use std::io::{self, Cursor, ErrorKind, Read};
 use std::process::ExitCode;
+use std::sync::Wait;
+use std::thread::Threads;
 use target::Target;
+use watched::Watched;
 
 fn main(rt: HostRuntime) -> ExitCode {
-    let status = match prepare(&rt) {
-        Ok(
-            Ready::Task {
-                task,
-                first,
-                second,
-            },
-        ) => serve(
-            &rt,
-            rt.alloc(),
-            &task,
-            first,
-            second,
-            &mut Target::of(&rt, task.target()),
-            &mut rt.stderr(),
-        ),
-        Ok(Ready::Done(status)) => status,
-        Err(error) => {
-            let (line, status) = failure(error.kind());
-            let _ = rt.eprintln(line);
-            status
-        }
+    let status = match called(&rt, &rt) {
+        Ok(status) => status,
+        Err(error) => lacking(&rt, error.kind()),
     };
     ExitCode::from(status)
 }
 
-/// What the words come to.
-#[derive(Drop)]
-enum Ready {
-    /// A task, and its files, which are open.
-    Task {
-        task: Task,
-        first: Input,
-        second: Option<Input>,
-    },
-    /// No task is left: help or a fault has been told, with this exit status.
-    Done(u8),
+/// Says why nothing more is done. The result is the exit status.
+fn lacking(rt: &HostRuntime, kind: ErrorKind) -> u8
+    ensures { result ≡ (failure_of kind).1 }
+{
+    let (line, status) = failure(kind);
+    let _ = rt.eprintln(line);
+    status
 }
 
-/// Reads the words, and opens the files that they name.
-fn prepare(rt: &HostRuntime) -> io::Result<Ready> {
+/// Reads the words, and does each request of theirs, up to the first that is none. The result is the worst exit status.
+fn called<T: Threads + Wait + Sync>(rt: &HostRuntime, threads: &T) -> io::Result<u8> {
     let alloc = rt.alloc();
     let words: Vec<String> = env::args(rt)?.skip(1).collect(alloc)?;
     let mut texts: Vec<&str> = Vec::with_capacity(alloc, words.len())?;
     for word in &words {
         texts.push(word.as_str())?;
     }
-    let task = match command_line::task(alloc, texts.as_slice()) {
-        Ok(task) => task,
-        Err(TaskError::Words(error)) => {
-            if error.use_stderr() {
-                let _ = error.print(rt);
-                return Ok(Ready::Done(2));
-            }
-            error.print(rt)?;
-            return Ok(Ready::Done(0));
+    let requests = each(alloc, texts.as_slice())?;
+    let progress = Progress::of(rt, requests.len());
+    let mut worst = 0;
+    for (index, words) in requests.iter().enumerate() {
+        let request = match command_line::request(alloc, words.as_slice()) {
+            Ok(request) => request,
+            Err(error) => return unasked(rt, error),
+        };
+        let _ = progress.clear();
+        let ending = match answered(rt, threads, &request) {
+            Ok(ending) => ending,
+            Err(error) => Ending::with(lacking(rt, error.kind())),
+        };
+        worst = worse(worst, ending.status);
+        if ending.is_unwritten {
+            break;
         }
-        Err(error @ TaskError::Misuse(_)) => {
-            let _ = rt.eprintln(error);
-            return Ok(Ready::Done(2));
-        }
-        Err(TaskError::Memory) => return Err(io::Error::from(ErrorKind::OutOfMemory)),
-    };
-    let first = match task.file() {
-        Some(name) => match opened(rt, name)? {
-            Some(file) => file,
-            None => return Ok(Ready::Done(1)),
-        },
-        None => Input::Nothing,
-    };
-    let second = match task.second() {
-        Some(name) => match opened(rt, name)? {
-            Some(file) => Some(file),
-            None => return Ok(Ready::Done(1)),
-        },
-        None => None,
-    };
-    let Some(first) = completed(rt, &task, first)? else {
-        return Ok(Ready::Done(1));
-    };
-    Ok(Ready::Task {
-        task,
-        first,
-        second,
-    })
+        let _ = progress.tell(index + 1);
+    }
+    Ok(worst)
 }
 
-/// The task's first file, in which a scenario has the files that it names; none where one of them is not taken, after the
-/// lines that say so.
-fn completed(rt: &HostRuntime, task: &Task, first: Input) -> io::Result<Option<Input>> {
-    let name = match task.file() {
-        Some(name) if reads_scenario(task) => name,
+/// How a request came out.
+#[derive(Drop)]
+struct Ending {
+    /// The exit status.
+    status: u8,
+    /// Whether the output failed, so that no further answer can be written.
+    is_unwritten: bool,
+}
+
+impl Ending {
+    ghost use Rattle.std.specs.Prelude.{◌≡◌, false};
+
+    /// With this status, and an output that did not fail.
+    fn with(status: u8) -> Ending
+        ensures status { result.status ≡ status }
+        ensures written { result.is_unwritten ≡ false }
+    {
+        Ending {
+            status,
+            is_unwritten: false,
+        }
+    }
+}
+
+/// The worse of two exit statuses.
+fn worse(first: u8, second: u8) -> u8
+    ensures { result ≡ max first second }
+{
+    if first < second { second } else { first }
+}
+
+/// Does what is asked for.
+fn answered<T: Threads + Wait + Sync>(
+    rt: &HostRuntime,
+    threads: &T,
+    request: &Request,
+) -> io::Result<Ending> {
+    let Some((first, second)) = files(rt, request)? else {
+        return Ok(Ending::with(1));
+    };
+    let Some(first) = completed(rt, request, first)? else {
+        return Ok(Ending::with(1));
+    };
+    Ok(served(rt, threads, request, first, second))
+}
+
+/// The task's files; none where one of them does not open, after what says so.
+fn files(rt: &HostRuntime, request: &Request) -> io::Result<Option<(Input, Option<Input>)>>
+    ensures first { IfOk result (λ files. IfSome files (λ f. IsInputIf (file_of request.now.task) (Some f.0))) }
+    ensures second { IfOk result (λ files. IfSome files (λ f. IsSecondIf (second_of request.now.task) f.1)) }
+    ensures memory { IfErr result (λ error. error_kind error ≡ ErrorKind.OutOfMemory) }
+{
+    let Some(first) = opened(rt, request, request.task.file())? else {
+        return Ok(None);
+    };
+    let second = match request.task.second() {
+        None => None,
+        name => match opened(rt, request, name)? {
+            Some(file) => Some(file),
+            None => return Ok(None),
+        },
+    };
+    Ok(Some((first, second)))
+}
+
+/// Does what is asked for on these files, and tells behind a fault of its output why, where it explains what it refuses.
+fn served<T: Threads + Wait + Sync>(
+    rt: &HostRuntime,
+    threads: &T,
+    request: &Request,
+    first: Input,
+    second: Option<Input>,
+) -> Ending {
+    let mut target = Watched::new(Target::of(rt, request.task.target()));
+    let alloc = rt.alloc();
+    let status = serve(
+        threads,
+        alloc,
+        request,
+        first,
+        second,
+        &mut target,
+        &mut rt.stderr(),
+    );
+    let fault = target.fault();
+    if let (1, true, Some(kind)) = (status, is_explained(&request.task), fault) {
+        let why = reason(kind);
+        let _ = rt.eprintln(format_args!("error: {why}"));
+    }
+    Ending {
+        status,
+        is_unwritten: fault.is_some(),
+    }
+}
+
+/// Says why the words name no task, or prints help. The result is the exit status.
+fn unasked(rt: &HostRuntime, error: TaskError) -> io::Result<u8>
+    ensures { IfOk result (IsUnasked error) }
+{
+    match error {
+        TaskError::Words(error) => {
+            if error.use_stderr() {
+                let _ = error.print(rt);
+                return Ok(2);
+            }
+            error.print(rt)?;
+            Ok(0)
+        }
+        error @ TaskError::Misuse(_) => {
+            let _ = rt.eprintln(error);
+            Ok(2)
+        }
+        TaskError::Memory => Err(io::Error::from(ErrorKind::OutOfMemory)),
+    }
+}
+
+/// The first file, in which a scenario has the files that it names; none where one of them is not taken, after what says so.
+fn completed(rt: &HostRuntime, request: &Request, first: Input) -> io::Result<Option<Input>> {
+    let name = match request.task.file() {
+        Some(name) if reads_scenario(&request.task) => name,
         _ => return Ok(Some(first)),
     };
-    let Some(bytes) = read(rt, name, first)? else {
+    let Some(bytes) = read(rt, request, name, first)? else {
         return Ok(None);
     };
     let folder = FolderOf { rt, scenario: name };
     match with_files(rt.alloc(), bytes, &folder) {
         Ok(bytes) => Ok(Some(Input::Text(Cursor::new(bytes)))),
-        Err(Untaken::Told(text)) => {
-            let _ = rt.eprintln(text);
+        Err(Untaken::Told { lines, kind }) => {
+            tell_untaken(rt, request, lines.as_str(), kind)?;
             Ok(None)
         }
         Err(Untaken::Memory) => Err(io::Error::from(ErrorKind::OutOfMemory)),
     }
 }
 
-/// All bytes of the file of this name; none where it cannot be read, after the line that says so.
-fn read(rt: &HostRuntime, name: &str, file: Input) -> io::Result<Option<Vec<u8>>> {
+/// Says that the task is not done, by this line.
+fn turn_down<D: Display + Drop>(rt: &HostRuntime, request: &Request, line: D) -> io::Result<()>
+    ensures memory { IfErr result (λ error. error_kind error ≡ ErrorKind.OutOfMemory) }
+{
+    match turned_down(
+        rt.alloc(),
+        request,
+        line,
+        &mut rt.stdout(),
+        &mut rt.stderr(),
+    ) {
+        1 => Ok(()),
+        _ => Err(io::Error::from(ErrorKind::OutOfMemory)),
+    }
+}
+
+/// All bytes of the file of this name; none where it cannot be read, after what says so.
+fn read(
+    rt: &HostRuntime,
+    request: &Request,
+    name: &str,
+    file: Input,
+) -> io::Result<Option<Vec<u8>>> {
     let mut file = file;
     let mut bytes = Vec::new(rt.alloc());
     match file.read_to_end(&mut bytes) {
         Ok(_) => Ok(Some(bytes)),
         Err(error) if error.kind() == ErrorKind::OutOfMemory => Err(error),
-        Err(_) => {
-            let _ = rt.eprintln(format_args!("fault read {}", FileName(name)));
+        Err(error) => {
+            tell_unread(rt, request, name, error.kind())?;
             Ok(None)
         }
     }
 }
 
-/// The file; none where it does not open, after the line that says so.
-fn opened(rt: &HostRuntime, name: &str) -> io::Result<Option<Input>>
-    ensures input { IfOk result (IsInputOf name.now) }
+/// The file of this name, or nothing to read where the task has none; none where it does not open, after what says so.
+fn opened(rt: &HostRuntime, request: &Request, name: Option<&str>) -> io::Result<Option<Input>>
+    ensures input { IfOk result (IsInputIf (option_map (λ n. n.now) name.entry)) }
     ensures memory { IfErr result (λ error. error_kind error ≡ ErrorKind.OutOfMemory) }
 {
-    let input = Input::open(rt, name)?;
-    if input.is_none() {
-        let _ = rt.eprintln(format_args!("fault read {}", FileName(name)));
+    let Some(name) = name else {
+        return Ok(Some(Input::Nothing));
+    };
+    match Input::open(rt, name) {
+        Ok(input) => Ok(Some(input)),
+        Err(closed) if closed.kind() == ErrorKind::OutOfMemory => Err(closed),
+        Err(closed) => {
+            tell_unread(rt, request, name, closed.kind())?;
+            Ok(None)
+        }
     }
-    Ok(input)
+}
+
+/// Tells that the file of this name is not read and, where the task explains what it refuses, why.
+fn tell_unread(rt: &HostRuntime, request: &Request, name: &str, kind: ErrorKind) -> io::Result<()>
+    ensures memory { IfErr result (λ error. error_kind error ≡ ErrorKind.OutOfMemory) }
+{
+    let name = FileName(name);
+    tell_untaken(rt, request, format_args!("fault read {name}"), Some(kind))
+}
+
+/// Tells that a file is not taken and, of one that is not read, why, where the task explains what it refuses.
+fn tell_untaken<D: Display + Drop>(
+    rt: &HostRuntime,
+    request: &Request,
+    lines: D,
+    kind: Option<ErrorKind>,
+) -> io::Result<()>
+    ensures memory { IfErr result (λ error. error_kind error ≡ ErrorKind.OutOfMemory) }
+{
+    match kind {
+        Some(kind) if is_explained(&request.task) => {
+            let why = reason(kind);
+            turn_down(rt, request, format_args!("{lines}\nerror: {why}"))
+        }
+        _ => turn_down(rt, request, lines),
+    }
 }
 
 /// The line and the exit status where the words could not be had, help not be written, or memory to open a file not be had.

@@ -9,7 +9,7 @@ use std::io::{self, Stdout, Write};
 pub enum Target<'a> {
     /// Standard output.
     Standard(Stdout),
-    /// A file of this name, which is made by the first write: where there is no answer, none is.
+    /// A file of this name, which is made by the first write or flush: where there is no answer, none is.
     Unmade { rt: &'a HostRuntime, name: &'a str },
     /// The file, once it is made.
     File(File),
@@ -25,14 +25,20 @@ impl<'a> Target<'a> {
             Some(name) => Target::Unmade { rt, name },
         }
     }
-}
 
-impl Write for Target<'_> {
-    fn write(&mut self, buf: &[u8]) -> io::Result<usize> {
+    /// Makes the file, if it is one that is not made yet.
+    fn make(&mut self) -> io::Result<()> {
         if let Target::Unmade { rt, name } = self {
             let made = File::create(*rt, *name)?;
             *self = Target::File(made);
         }
+        Ok(())
+    }
+}
+
+impl Write for Target<'_> {
+    fn write(&mut self, buf: &[u8]) -> io::Result<usize> {
+        self.make()?;
         match self {
             Target::Standard(stdout) => stdout.write(buf),
             Target::File(file) => file.write(buf),
@@ -41,6 +47,7 @@ impl Write for Target<'_> {
     }
 
     fn flush(&mut self) -> io::Result<()> {
+        self.make()?;
         match self {
             Target::Standard(stdout) => stdout.flush(),
             Target::File(file) => file.flush(),

@@ -1,3 +1,4 @@
 pub mod OpenLemmas
 pub mod LeftLaws
 pub mod MendLemmas
+pub mod ColumnLemmas

@@ -1,16 +1,16 @@
 -- Programs with an edit grow with their instructions, and their instructions are well formed.
-use Rattle.std.proofs.Common.{◌≡◌, ◌∙◌, ℕ, ◌+◌, ◌<◌, List, [], ◌∷◌, ◌++◌, Bool, true, false, ap, append_assoc, append-nil, arith, get_or, length, sym, take, refl}
+use Rattle.std.proofs.Common.{◌≡◌, ◌∙◌, ℕ, ◌+◌, ◌*◌, ◌<◌, ◌≤◌, List, [], ◌∷◌, ◌++◌, Bool, true, false, Some, None, ap, append_assoc, append-nil, arith, get_or, length, sym, take, refl}
 use Rattle.std.specs.Prelude.{◌==◌, nat_lt, if◌then◌else◌}
 use Rattle.std.specs.List.{AllByRecursion}
-use Rattle.std.proofs.lemmas.List.{take_more}
+use Rattle.std.proofs.lemmas.List.{length-append, take_more}
 use Rattle.insn.specs.declared.insn.Insn.{Insn}
 use Rattle.insn.specs.declared.insn.Insn.TheVariants.{SignExtend}
 use Rattle.insn.specs.Insn.{units_of, IsInsn, IsWell}
 use Rattle.insn.specs.Program.{slots_of}
 use Rattle.insn.proofs.SlotLemmas.{length-slots_of-cons, units_bound, units_some}
 use Rattle.causes.specs.declared.mends.Edit.{Edit}
-use Rattle.causes.specs.declared.mends.Edit.TheVariants.{Before, Instead}
-use Rattle.causes.specs.Mends.{stretched, wide, put_before, edited, mended}
+use Rattle.causes.specs.declared.mends.Edit.TheVariants.{Before, Instead, Moved}
+use Rattle.causes.specs.Mends.{grown, stretched, put_at, passed, edited, mended}
 
 -- one more instruction
 mended-push : (edit : Edit) (place unit : ℕ) (xs : List Insn) (i : Insn)
@@ -41,26 +41,43 @@ insn_well : (i : Insn) → IsInsn i → IsWell i
 insn_well (SignExtend w part dst src) h = h.0
 insn_well i h = tt
 
-stretched_well : (place unit : ℕ) (i : Insn) → IsInsn i → IsWell (stretched place unit i)
-stretched_well place unit (SignExtend w part dst src) h = h.0
-stretched_well place unit i h = tt
+stretched_well : (more place unit : ℕ) (i : Insn) → IsInsn i → IsWell (stretched more place unit i)
+stretched_well more place unit (SignExtend w part dst src) h = h.0
+stretched_well more place unit i h = tt
 
-put_well : (x : Insn) (place unit : ℕ) (i : Insn) (rest : List Insn) → IsWell x → IsInsn i → AllByRecursion IsWell rest → AllByRecursion IsWell (put_before x place unit i ++ rest)
-put_well x place unit i rest put h more = by_test (unit == place) (nat_lt unit place)
-  where
-    by_test : (s t : Bool) → AllByRecursion IsWell ((if s then x ∷ i ∷ [] else (if t then stretched place unit i else i) ∷ []) ++ rest)
-    by_test true t = (put, (insn_well i h, more))
-    by_test false true = (stretched_well place unit i h, more)
-    by_test false false = (insn_well i h, more)
+put_well : (edit : Edit) (i : Insn) (rest : List Insn) → IsInsn i → AllByRecursion IsWell rest → AllByRecursion IsWell (put_at edit i ++ rest)
+put_well (Before operation dst operand) i rest h more = (tt, (insn_well i h, more))
+put_well (Instead operation dst operand) i rest h more = (tt, more)
+put_well (Moved None number pointer) i rest h more = (tt, (tt, more))
+put_well (Moved (Some mask) number pointer) i rest h more = (tt, (tt, (tt, more)))
 
 edited_well : (edit : Edit) (place unit : ℕ) (i : Insn) (rest : List Insn) → IsInsn i → AllByRecursion IsWell rest → AllByRecursion IsWell (edited edit place unit i ++ rest)
-edited_well (Before operation dst operand) place unit i rest h more = put_well (wide operation dst operand) place unit i rest tt h more
-edited_well (Instead operation dst operand) place unit i rest h more = by_test (unit == place)
+edited_well edit place unit i rest h more = by_test (unit == place) (nat_lt unit place)
   where
-    by_test : (s : Bool) → AllByRecursion IsWell ((if s then wide operation dst operand else i) ∷ rest)
-    by_test true = (tt, more)
-    by_test false = (insn_well i h, more)
+    by_test : (s t : Bool) → AllByRecursion IsWell ((if s then put_at edit i else (if t then stretched (grown edit) place unit i else i) ∷ []) ++ rest)
+    by_test true t = put_well edit i rest h more
+    by_test false true = (stretched_well (grown edit) place unit i h, more)
+    by_test false false = (insn_well i h, more)
 
 pub mended_well : (edit : Edit) (place unit : ℕ) (is : List Insn) → AllByRecursion IsInsn is → AllByRecursion IsWell (mended edit place unit is)
 mended_well edit place unit [] h = tt
 mended_well edit place unit (i ∷ is) h = edited_well edit place unit i (mended edit place (unit + units_of i) is) h.0 (mended_well edit place (unit + units_of i) is h.1)
+
+-- ---- few
+
+put_few : (edit : Edit) (i : Insn) → length (put_at edit i) ≤ 3
+put_few (Before operation dst operand) i = omega arith
+put_few (Instead operation dst operand) i = omega arith
+put_few (Moved None number pointer) i = omega arith
+put_few (Moved (Some mask) number pointer) i = omega arith
+
+pub edited_few : (edit : Edit) (place unit : ℕ) (i : Insn) → length (edited edit place unit i) ≤ 3
+edited_few edit place unit i = by_test (unit == place)
+  where
+    by_test : (s : Bool) → length (if s then put_at edit i else passed edit place unit i ∷ []) ≤ 3
+    by_test true = put_few edit i
+    by_test false = omega arith
+
+-- of each instruction at most three are made
+pub few_more : (out new more : List Insn) (k : ℕ) → length out ≤ 3 * k → length more ≤ 3 → new ≡ out ++ more → length new ≤ 3 * (k + 1)
+few_more out new more k less three e = rw e (omega (arith, length-append out more))

@@ -2,5 +2,6 @@ pub mod Contents
 pub mod Left
 pub mod Setting
 pub mod Marks
+pub mod Columns
 pub mod Laws
 pub mod Mends

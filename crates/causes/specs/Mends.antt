@@ -1,9 +1,11 @@
--- A program with one instruction put before another, or in its place, and how far the verifier comes in it (own).
+-- A program with an instruction put before another or in its place, or a sum in the pointer's register, and how far the verifier comes in it (own).
 use Rattle.std.specs.Prelude.{ℕ, ℤ, pos, ◌+◌, ◌+ℤ◌, ◌==◌, ◌&&◌, nat_lt, nat_le, int_lt, if◌then◌else◌, List, [], ◌∷◌, ◌++◌, Option, Some, None, length}
 use Rattle.word.specs.declared.Width.TheVariants.{W64}
 use Rattle.word.specs.declared.Operation.{Operation}
+use Rattle.word.specs.declared.Operation.TheVariants.{Add, And, Move}
 use Rattle.insn.specs.declared.insn.Insn.{Insn}
 use Rattle.insn.specs.declared.insn.Operand.{Operand}
+use Rattle.insn.specs.declared.insn.Operand.TheVariants.{Register, Immediate}
 use Rattle.insn.specs.declared.insn.Insn.TheVariants.{Arithmetic, Jump, LongJump, Branch}
 use Rattle.insn.specs.Insn.{units_of}
 use Rattle.insn.specs.Program.{slots_of, most_units}
@@ -11,35 +13,48 @@ use Rattle.verify.specs.declared.error.VerifyError.{VerifyError}
 use Rattle.verify.specs.declared.error.VerifyError.TheVariants.{At, Memory}
 use Rattle.verify.specs.Judgement.{judged}
 use Rattle.causes.specs.declared.mends.Edit.{Edit}
-use Rattle.causes.specs.declared.mends.Edit.TheVariants.{Before, Instead}
+use Rattle.causes.specs.declared.mends.Edit.TheVariants.{Before, Instead, Moved}
 use Rattle.causes.specs.declared.mends.Trial.{Trial}
 use Rattle.causes.specs.declared.mends.Trial.TheVariants.{Refused, Passes, Accepted}
 
--- a jump over the place where an instruction is put leads one unit further
-abbrev pub longer : ℕ → ℕ → ℤ → ℤ
-longer place unit distance =
-    if int_lt (pos place) (pos (unit + 1) +ℤ distance) && int_lt distance (pos most_units) then distance +ℤ pos 1 else distance
+-- how many units more a program has with an edit
+abbrev pub grown : Edit → ℕ
+grown (Before operation dst operand) = 1
+grown (Instead operation dst operand) = 0
+grown (Moved None number pointer) = 1
+grown (Moved (Some mask) number pointer) = 2
 
-abbrev pub stretched : ℕ → ℕ → Insn → Insn
-stretched place unit (Jump distance) = Jump (longer place unit distance)
-stretched place unit (LongJump distance) = LongJump (longer place unit distance)
-stretched place unit (Branch w condition dst operand distance) = Branch w condition dst operand (longer place unit distance)
-stretched place unit i = i
+-- a jump over the place of the edit leads so many units further
+abbrev pub longer : ℕ → ℕ → ℕ → ℤ → ℤ
+longer more place unit distance =
+    if int_lt (pos place) (pos (unit + 1) +ℤ distance) && int_lt distance (pos most_units) then distance +ℤ pos more else distance
+
+abbrev pub stretched : ℕ → ℕ → ℕ → Insn → Insn
+stretched more place unit (Jump distance) = Jump (longer more place unit distance)
+stretched more place unit (LongJump distance) = LongJump (longer more place unit distance)
+stretched more place unit (Branch w condition dst operand distance) = Branch w condition dst operand (longer more place unit distance)
+stretched more place unit i = i
 
 abbrev pub wide : Operation → ℕ → Operand → Insn
 wide operation dst operand = Arithmetic W64 operation dst operand
 
-abbrev pub put_by : Edit → Insn
-put_by (Before operation dst operand) = wide operation dst operand
-put_by (Instead operation dst operand) = wide operation dst operand
+abbrev pub masked : Option ℤ → ℕ → List Insn
+masked None number = []
+masked (Some mask) number = wide And number (Immediate mask) ∷ []
 
-abbrev pub put_before : Insn → ℕ → ℕ → Insn → List Insn
-put_before x place unit i = if unit == place then x ∷ i ∷ [] else (if nat_lt unit place then stretched place unit i else i) ∷ []
+-- what stands for the instruction at the place of the edit
+abbrev pub put_at : Edit → Insn → List Insn
+put_at (Before operation dst operand) i = wide operation dst operand ∷ i ∷ []
+put_at (Instead operation dst operand) i = wide operation dst operand ∷ []
+put_at (Moved mask number pointer) i = masked mask number ++ wide Add pointer (Register number) ∷ wide Move number (Register pointer) ∷ []
+
+-- another instruction
+abbrev pub passed : Edit → ℕ → ℕ → Insn → Insn
+passed edit place unit i = if nat_lt unit place then stretched (grown edit) place unit i else i
 
 -- what stands for the instruction of a unit, where the edit is made at a place
 abbrev pub edited : Edit → ℕ → ℕ → Insn → List Insn
-edited (Before operation dst operand) place unit i = put_before (wide operation dst operand) place unit i
-edited (Instead operation dst operand) place unit i = (if unit == place then wide operation dst operand else i) ∷ []
+edited edit place unit i = if unit == place then put_at edit i else passed edit place unit i ∷ []
 
 -- the instructions from a unit on
 abbrev pub mended : Edit → ℕ → ℕ → List Insn → List Insn

@@ -56,6 +56,7 @@ fn content_in(stack: &AbsStack, place: usize) -> Content
 }
 
 /// What is known of a cell.
+#[inline(never)]
 pub fn held_at(stack: &AbsStack, place: usize) -> Content
     ensures { result ≡ held_at stack.now place }
 {

@@ -2,6 +2,7 @@
 #![tactic(auto)]
 
 mod cells;
+mod changes;
 mod laws;
 mod left;
 mod loads;
@@ -14,10 +15,11 @@ mod subject;
 mod ways;
 
 pub use cells::{Content, held_at};
+pub use changes::{Column, columns};
 pub use laws::left_is_the_transfer;
 pub use left::left_by;
 pub use mark::Mark;
-pub use marking::{known_by, marks};
-pub use mends::{Edit, Trial, tried};
+pub use marking::{cell_marks, known_by, marks};
+pub use mends::{Edit, Trial, operation_of, tried};
 pub use register::{numbered, result_of};
 pub use subject::Subject;

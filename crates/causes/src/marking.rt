@@ -1,8 +1,11 @@
 //! Which units set a register or a cell last before a unit.
 ghost use Rattle.std.specs.Prelude.{◌≡◌, ◌<◌, length, replicate, slice_get, option_map, IfOk};
 ghost use Rattle.insn.specs.Program.{slots_of, instruction_at};
+ghost use Rattle.causes.specs.declared.subject.Subject.TheVariants.{Cell};
 ghost use Rattle.causes.specs.Marks.{known_by, mark_of, marks};
+ghost use Rattle.causes.specs.Columns.{set_by, IsColumn};
 
+use crate::changes::Column;
 use crate::mark::Mark;
 use crate::subject::Subject;
 use crate::ways::leads_open;
@@ -18,14 +21,11 @@ pub fn known_by(states: &[Option<AbsState>], unit: usize) -> Option<&AbsState>
 }
 
 /// So many units of which none is open.
+#[inline(never)]
 fn closed(alloc: Global, units: usize) -> Result<Vec<Mark>, AllocError>
     ensures { IfOk result (λ marks. marks.items ≡ replicate units Mark.Closed) }
 {
-    let mut marks = Vec::with_capacity(alloc, units)?;
-    for _unit in 0..units {
-        marks.push(Mark::Closed)?;
-    }
-    Ok(marks)
+    vec![in alloc; Mark::Closed; units]
 }
 
 /// The mark of a unit, by those of the units behind it.
@@ -70,6 +70,54 @@ pub fn marks(
     for below in 0..unit {
         let place = unit - (below + 1);
         let mark = mark_of(subject, marks.as_slice(), program, states, place);
+        marks[place] = mark;
+    }
+    Ok(marks)
+}
+
+/// The mark of a unit for a cell of the stack, with whether the unit sets it.
+fn cell_mark_of(
+    cell: u16,
+    changed: bool,
+    behind: &[Mark],
+    program: &Program,
+    states: &[Option<AbsState>],
+    unit: usize,
+) -> Mark
+    requires { changed ≡ set_by (Cell cell) (instruction_at program.now unit) (known_by (slice_get states.now unit)) }
+    ensures { result ≡ mark_of (Cell cell) behind.now unit (instruction_at program.now unit) (known_by (slice_get states.now unit)) }
+{
+    let Some(insn) = program.at(unit) else {
+        return Mark::Closed;
+    };
+    let Some(_state) = known_by(states, unit) else {
+        return Mark::Closed;
+    };
+    if !leads_open(behind, &insn, unit) {
+        return Mark::Closed;
+    }
+    if changed { Mark::Sets } else { Mark::Open }
+}
+
+/// The marks for a cell of the stack, with its column.
+pub fn cell_marks(
+    alloc: Global,
+    program: &Program,
+    states: &[Option<AbsState>],
+    column: &Column,
+    cell: u16,
+    unit: usize,
+) -> Result<Vec<Mark>, AllocError>
+    requires inside { unit < length (slots_of program.now) }
+    requires column { IsColumn program.now (slice_get states.now) cell column.now }
+    ensures { IfOk result (λ vec. vec.items ≡ marks program.now (slice_get states.now) (Cell cell) unit) }
+{
+    let mut marks = closed(alloc, program.units())?;
+    marks[unit] = Mark::Open;
+    for below in 0..unit {
+        let place = unit - (below + 1);
+        let changed = column.is_set_by(place);
+        let mark = cell_mark_of(cell, changed, marks.as_slice(), program, states, place);
         marks[place] = mark;
     }
     Ok(marks)

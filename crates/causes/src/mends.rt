@@ -1,21 +1,24 @@
-//! Programs with one instruction more, or another, and how far the verifier comes in them.
-ghost use Rattle.std.specs.Prelude.{◌≡◌, ◌≤◌, ◌<◌, ◌+◌, ◌++◌, ◌&&◌, ◌+ℤ◌, ◌<ℤ◌, pos, int_lt, length, IfOk, OnOk, IsTrue};
+//! Programs with other instructions in one's place, and how far the verifier comes in them.
+ghost use Rattle.std.specs.Prelude.{◌≡◌, ◌≤◌, ◌<◌, ◌+◌, ◌++◌, ◌∷◌, [], ◌&&◌, ◌+ℤ◌, ◌<ℤ◌, pos, int_lt, length, IfOk, OnOk, IsTrue};
 ghost use Rattle.insn.specs.Program.{slots_of, most_units};
 ghost use Rattle.verify.specs.Judgement.{judged};
-ghost use Rattle.causes.specs.Mends.{longer, stretched, wide, put_by, edited, mended, comes, tried};
+ghost use Rattle.causes.specs.Mends.{grown, longer, stretched, wide, masked, put_at, passed, edited, mended, comes, tried};
 
 use insn::{Insn, Operand, Program, Reg};
 use std::alloc::{AllocError, Global};
 use verify::{VerifyError, verify};
 use word::{Operation, Width};
 
-/// What is changed of a program at one instruction: an operation of 64 bits, with its operands.
+/// What is changed of a program at one instruction.
 #[derive(Clone, Copy, Debug, PartialEq, Eq)]
 pub enum Edit {
-    /// It is put before the instruction.
+    /// An operation of 64 bits is put before it.
     Before(Operation, Reg, Operand),
-    /// It stands in its place.
+    /// An operation of 64 bits stands in its place.
     Instead(Operation, Reg, Operand),
+    /// In its place a number, behind a mask if there is one, moves a pointer in the pointer's register, of which the
+    /// number's then has a copy.
+    Moved(Option<i32>, Reg, Reg),
 }
 
 /// How far the verifier comes in a program.
@@ -40,44 +43,47 @@ fn is_over(place: usize, unit: usize, distance: i32) -> bool
     to > place as i64 && distance < 4096
 }
 
-/// The distance of a jump at a unit, one more where it leads over a place.
-fn longer(place: usize, unit: usize, distance: i16) -> i16
+/// The distance of a jump at a unit, so much more where it leads over a place.
+fn longer(more: u8, place: usize, unit: usize, distance: i16) -> i16
+    requires more { more ≤ 2 }
     requires unit { unit < 4096 }
     requires place { place < 4096 }
-    ensures { result ≡ longer place unit distance }
+    ensures { result ≡ longer more place unit distance }
 {
     if is_over(place, unit, i32::from(distance)) {
-        distance + 1
+        distance + i16::from(more)
     } else {
         distance
     }
 }
 
 /// The same of a wide distance.
-fn longer_wide(place: usize, unit: usize, distance: i32) -> i32
+fn longer_wide(more: u8, place: usize, unit: usize, distance: i32) -> i32
+    requires more { more ≤ 2 }
     requires unit { unit < 4096 }
     requires place { place < 4096 }
-    ensures { result ≡ longer place unit distance }
+    ensures { result ≡ longer more place unit distance }
 {
     if is_over(place, unit, distance) {
-        distance + 1
+        distance + i32::from(more)
     } else {
         distance
     }
 }
 
-/// An instruction that stands before a place where one is put.
-fn stretched(place: usize, unit: usize, insn: Insn) -> Insn
+/// An instruction that stands before a place where so many units more are put.
+fn stretched(more: u8, place: usize, unit: usize, insn: Insn) -> Insn
+    requires more { more ≤ 2 }
     requires unit { unit < 4096 }
     requires place { place < 4096 }
-    ensures { result ≡ stretched place unit insn }
+    ensures { result ≡ stretched more place unit insn }
 {
     match insn {
         Insn::Jump { distance } => Insn::Jump {
-            distance: longer(place, unit, distance),
+            distance: longer(more, place, unit, distance),
         },
         Insn::LongJump { distance } => Insn::LongJump {
-            distance: longer_wide(place, unit, distance),
+            distance: longer_wide(more, place, unit, distance),
         },
         Insn::Branch {
             width,
@@ -90,14 +96,14 @@ fn stretched(place: usize, unit: usize, insn: Insn) -> Insn
             condition,
             dst,
             operand,
-            distance: longer(place, unit, distance),
+            distance: longer(more, place, unit, distance),
         },
         _ => insn,
     }
 }
 
 /// An operation of 64 bits.
-fn operation_of(operation: Operation, dst: Reg, operand: Operand) -> Insn
+pub fn operation_of(operation: Operation, dst: Reg, operand: Operand) -> Insn
     ensures { result ≡ wide operation dst operand }
 {
     Insn::Arithmetic {
@@ -109,15 +115,87 @@ fn operation_of(operation: Operation, dst: Reg, operand: Operand) -> Insn
 }
 
 impl Edit {
-    /// The instruction that is put there.
-    pub fn insn(self) -> Insn
-        ensures { result ≡ put_by self }
+    /// How many units more a program has with it: 0 to 2.
+    pub fn grown(self) -> u8
+        ensures grown { result ≡ grown self }
+        ensures few { result ≤ 2 }
     {
         match self {
-            Edit::Before(operation, dst, operand) | Edit::Instead(operation, dst, operand) => {
-                operation_of(operation, dst, operand)
-            }
+            Edit::Before(..) | Edit::Moved(None, _, _) => 1,
+            Edit::Instead(..) => 0,
+            Edit::Moved(Some(_), _, _) => 2,
         }
+    }
+}
+
+/// Adds an instruction.
+fn push_one(insns: &mut Vec<Insn>, insn: Insn) -> Result<(), AllocError>
+    ensures { OnOk result (insns.new.items ≡ insns.old.items ++ insn ∷ []) }
+{
+    insns.extend_from_slice(&[insn])?;
+    Ok(())
+}
+
+/// Adds a mask of a number, if there is one.
+fn push_mask(insns: &mut Vec<Insn>, mask: Option<i32>, number: Reg) -> Result<(), AllocError>
+    ensures { OnOk result (insns.new.items ≡ insns.old.items ++ masked mask number) }
+{
+    let Some(mask) = mask else {
+        return Ok(());
+    };
+    push_one(
+        insns,
+        operation_of(Operation::And, number, Operand::Immediate(mask)),
+    )
+}
+
+/// Adds a number's move of a pointer, and a copy of it.
+fn push_moved(
+    insns: &mut Vec<Insn>,
+    mask: Option<i32>,
+    number: Reg,
+    pointer: Reg,
+    insn: &Insn,
+) -> Result<(), AllocError>
+    ensures { OnOk result (insns.new.items ≡ insns.old.items ++ put_at (Edit.Moved mask number pointer) insn.now) }
+{
+    push_mask(insns, mask, number)?;
+    push_one(
+        insns,
+        operation_of(Operation::Add, pointer, Operand::Register(number)),
+    )?;
+    push_one(
+        insns,
+        operation_of(Operation::Move, number, Operand::Register(pointer)),
+    )
+}
+
+/// Adds what stands for the instruction at the place of an edit.
+fn push_at(insns: &mut Vec<Insn>, edit: &Edit, insn: &Insn) -> Result<(), AllocError>
+    ensures { OnOk result (insns.new.items ≡ insns.old.items ++ put_at edit.now insn.now) }
+{
+    match edit {
+        Edit::Before(operation, dst, operand) => {
+            push_one(insns, operation_of(*operation, *dst, *operand))?;
+            push_one(insns, *insn)
+        }
+        Edit::Instead(operation, dst, operand) => {
+            push_one(insns, operation_of(*operation, *dst, *operand))
+        }
+        Edit::Moved(mask, number, pointer) => push_moved(insns, *mask, *number, *pointer, insn),
+    }
+}
+
+/// An instruction that stands elsewhere.
+fn passed(edit: &Edit, place: usize, unit: usize, insn: Insn) -> Insn
+    requires unit { unit < 4096 }
+    requires place { place < 4096 }
+    ensures { result ≡ passed edit.now place unit insn }
+{
+    if unit < place {
+        stretched(edit.grown(), place, unit, insn)
+    } else {
+        insn
     }
 }
 
@@ -131,21 +209,13 @@ fn push_edited(
 ) -> Result<(), AllocError>
     requires unit { unit < 4096 }
     requires place { place < 4096 }
-    ensures pushed { OnOk result (insns.new.items ≡ insns.old.items ++ edited edit.now place unit insn.now) }
-    ensures few { OnOk result (length insns.new.items ≤ length insns.old.items + 2) }
+    ensures { OnOk result (insns.new.items ≡ insns.old.items ++ edited edit.now place unit insn.now) }
 {
-    match edit {
-        Edit::Before(operation, dst, operand) if unit == place => {
-            insns.push(operation_of(*operation, *dst, *operand))?;
-            insns.push(*insn)?;
-        }
-        Edit::Before(..) if unit < place => insns.push(stretched(place, unit, *insn))?,
-        Edit::Instead(operation, dst, operand) if unit == place => {
-            insns.push(operation_of(*operation, *dst, *operand))?;
-        }
-        _ => insns.push(*insn)?,
+    if unit == place {
+        push_at(insns, edit, insn)
+    } else {
+        push_one(insns, passed(edit, place, unit, *insn))
     }
-    Ok(())
 }
 
 /// The instructions of a program with an edit.
@@ -153,9 +223,9 @@ fn mended(alloc: Global, insns: &[Insn], edit: &Edit, place: usize) -> Result<Ve
     requires place { place < 4096 }
     requires units { length (slots_of insns.now) ≤ 4096 }
     ensures mended { IfOk result (λ vec. vec.items ≡ mended edit.now place 0 insns.now) }
-    ensures few { IfOk result (λ vec. length vec.items ≤ 8192) }
+    ensures few { IfOk result (λ vec. length vec.items ≤ 12288) }
 {
-    let mut out = Vec::with_capacity(alloc, insns.len() + 1)?;
+    let mut out = Vec::with_capacity(alloc, insns.len() + 2)?;
     let mut unit = 0;
     for insn in insns {
         push_edited(&mut out, edit, place, unit, insn)?;
@@ -166,7 +236,7 @@ fn mended(alloc: Global, insns: &[Insn], edit: &Edit, place: usize) -> Result<Ve
 
 /// How many units instructions take.
 fn units_of(insns: &[Insn]) -> usize
-    requires { length insns.now ≤ 8192 }
+    requires { length insns.now ≤ 12288 }
     ensures { result ≡ length (slots_of insns.now) }
 {
     let mut units = 0;

@@ -41,6 +41,7 @@ fn is_open_to(marks: &[Mark], unit: usize, distance: i32) -> bool
 }
 
 /// Whether an instruction may lead to an open unit.
+#[inline(never)]
 pub(crate) fn leads_open(marks: &[Mark], insn: &Insn, unit: usize) -> bool
     requires { unit < 4096 }
     ensures { result ≡ leads_open marks.now (leads_to insn.now unit) }

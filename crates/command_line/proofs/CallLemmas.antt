@@ -7,8 +7,8 @@ use Rattle.clap.proofs.OnLiterals.{clap_on_literals}
 use Rattle.command_line.specs.Asked.{asked, is_meant, spelt}
 use Rattle.command_line.specs.Lab.{lab_app, task_met}
 use Rattle.command_line.specs.Met.{has_places}
-use Rattle.command_line.specs.Told.{IfMisuse, IfRefused, IsErrorOf, IsMisused, Says, Told}
-use Rattle.command_line.specs.declared.tasks.Task.{Task}
+use Rattle.command_line.specs.Told.{Asks, IfMisuse, IfRefused, IsErrorOf, IsMisused, Told}
+use Rattle.command_line.specs.declared.tasks.Request.{Request}
 use Rattle.command_line.specs.declared.errors.TaskError.{TaskError}
 use Rattle.command_line.specs.declared.errors.TaskError.TheVariants.{Words, Misuse, Memory}
 use Rattle.command_line.proofs.AskedLemmas.{LabAgrees, rule_agrees}
@@ -82,20 +82,20 @@ module _ (words : List Text) (told : Told) (is : spelt words ≡ Some told) wher
   none_asked : is_meant told ≡ false → asked words ≡ None
   none_asked other = rw (is, other) refl
 
-  pub task_is_asked : (r : Result Task TaskError) → IfOk r (Says told) → IfOk r (λ task. IsSomeAnd (asked words) (λ t. Says t task))
-  task_is_asked (Ok task) says = subst (λ (o : Option Told). IsSomeAnd o (λ t. Says t task)) (sym (asked_is (says_meant told task says))) says
-  task_is_asked (Err error) says = tt
+  pub request_is_asked : (r : Result Request TaskError) → IfOk r (Asks told) → IfOk r (λ request. IsSomeAnd (asked words) (λ t. Asks t request))
+  request_is_asked (Ok request) asks = subst (λ (o : Option Told). IsSomeAnd o (λ t. Asks t request)) (sym (asked_is (says_meant told request.task asks.0))) asks
+  request_is_asked (Err error) asks = tt
 
   refused : (error : TaskError) → IsErrorOf told error → IfRefused error (asked words ≡ None)
   refused (Words error) is_error = absurd is_error
   refused (Misuse misuse) is_error = none_asked (misused_not_meant told misuse is_error)
   refused Memory is_error = tt
 
-  pub error_is_refused : (r : Result Task TaskError) → IfErr r (IsErrorOf told) → IfErr r (λ error. IfRefused error (asked words ≡ None))
+  pub error_is_refused : (r : Result Request TaskError) → IfErr r (IsErrorOf told) → IfErr r (λ error. IfRefused error (asked words ≡ None))
   error_is_refused (Ok task) is_error = tt
   error_is_refused (Err error) is_error = refused error is_error
 
-  pub misuse_is_told : (r : Result Task TaskError) → IfErr r (IsErrorOf told)
+  pub misuse_is_told : (r : Result Request TaskError) → IfErr r (IsErrorOf told)
       → IfErr r (λ error. IfMisuse error (λ misuse. IsSomeAnd (spelt words) (λ t. IsMisused t misuse)))
   misuse_is_told (Ok task) is_error = tt
   misuse_is_told (Err (Words error)) is_error = tt

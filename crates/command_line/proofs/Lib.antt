@@ -9,4 +9,5 @@ pub mod PlaceLemmas
 pub mod ReadLemmas
 pub mod RowLemmas
 pub mod RuleLemmas
+pub mod SeveralLemmas
 pub mod WordLemmas

@@ -4,18 +4,22 @@ use Rattle.std.proofs.lemmas.Bool.{and_from, and_left, and_right, or_right}
 use Rattle.std.specs.Option.{option_map_or}
 use Rattle.text.specs.Options.{◌>>=◌}
 use Rattle.clap.specs.Walk.{Text}
-use Rattle.command_line.specs.Asked.{has_filling, has_lieutenants, has_notation, if_of, is_meant, reads, wants}
-use Rattle.command_line.specs.Generals.{count_in, general_in, generals_in, order_in}
-use Rattle.command_line.specs.Told.{AreExplained, IsFilling, IsMisused, IsNotation, NamesCount, NamesGeneral, Says, Told, campaigns, has, is_of, named, programs, word_of}
+use Rattle.command_line.specs.Asked.{has_filling, excludes, has_notation, has_tree, if_of, is_meant, reads, wants}
+use Rattle.command_line.specs.Generals.{count_in, depth_in, general_in, generals_in, order_in}
+use Rattle.command_line.specs.Told.{AreExplained, IsCourse, IsDrawing, IsFilling, IsMisused, IsNotation, NamesCount, NamesGeneral, Says, Told, are_two, campaigns, has, is_of, levels_in, named, of_one, of_traitors, programs, word_of}
+use Rattle.command_line.specs.declared.tasks.Course.{Course}
+use Rattle.command_line.specs.declared.tasks.Course.TheVariants.{Scheduled, Recorded}
+use Rattle.command_line.specs.declared.tasks.Drawing.{Drawing}
+use Rattle.command_line.specs.declared.tasks.Drawing.TheVariants.{Boxes, Ascii, Graph, Svg}
 use Rattle.command_line.specs.declared.tasks.Filling.{Filling}
 use Rattle.command_line.specs.declared.tasks.Lieutenants.{Lieutenants}
 use Rattle.command_line.specs.declared.tasks.Lieutenants.TheVariants.{All, One}
 use Rattle.command_line.specs.declared.tasks.Notation.{Notation}
 use Rattle.command_line.specs.declared.tasks.Notation.TheVariants.{Bytecode, Assembly, Object}
 use Rattle.command_line.specs.declared.tasks.Task.{Task}
-use Rattle.command_line.specs.declared.tasks.Task.TheVariants.{Check, Assemble, Disassemble, Book, ExplainDecisions, Form, Play, Muster, Audit, Explore}
+use Rattle.command_line.specs.declared.tasks.Task.TheVariants.{Check, Assemble, AssemblePartly, Disassemble, DisassemblePartly, Book, ExplainDecisions, Form, Play, Muster, Audit, Explore, Tree, Draw, Retrace}
 use Rattle.command_line.specs.declared.errors.Misuse.{Misuse}
-use Rattle.command_line.specs.declared.errors.Misuse.TheVariants.{Traitors, Of, Lie, Loyal, Most, TwoNotations, EntryAlone, OfAlone, LieAlone}
+use Rattle.command_line.specs.declared.errors.Misuse.TheVariants.{Traitors, Of, Lie, Loyal, Most, Depth, NobodyNamed, TwoDrawings, TwoNotations, UnitsOfParts, TwoCourses, EntryAlone, OfAlone, LieAlone}
 
 -- ---- the rules hold
 
@@ -49,29 +53,67 @@ module _ (told : Told) where
       loyal None e = absurd cc
       loyal (Some word) e = refl
 
-  lieutenants_hold : (explained : Option Lieutenants) → AreExplained told explained → has_lieutenants told ≡ true
-  lieutenants_hold None is = rw (is.0, is.1) refl
-  lieutenants_hold (Some All) is = rw (is.0, is.1) refl
-  lieutenants_hold (Some (One g)) is =
-      and_from (reads general_in (codes "of") told) (wants (codes "of") (codes "explain") told) (general_holds (codes "of") (Some g) is.1)
-      (or_right (not (has (codes "of") told)) (has (codes "explain") told) is.0)
+  lieutenant_holds : (explained : Option Lieutenants) → AreExplained told explained → reads general_in (codes "of") told ≡ true
+  lieutenant_holds None is = rw is.1 refl
+  lieutenant_holds (Some All) is = rw is.1 refl
+  lieutenant_holds (Some (One g)) is = general_holds (codes "of") (Some g) is.1
+
+  explanation_holds : (explained : Option Lieutenants) → AreExplained told explained → wants (codes "of") (codes "explain") told ≡ true
+  explanation_holds None is = rw (is.0, is.1) refl
+  explanation_holds (Some All) is = rw (is.0, is.1) refl
+  explanation_holds (Some (One g)) is = or_right (not (has (codes "of") told)) (has (codes "explain") told) is.0
+
+  levels_hold : (word : Option Text) (depth : ℕ) → levels_in word ≡ Some depth → option_map_or (λ w. is_some (depth_in w)) word true ≡ true
+  levels_hold None depth is = refl
+  levels_hold (Some word) depth is = ap (λ o. is_some o) is
+
+  there : (word : Option Text) (g : ℕ) → (word >>= general_in) ≡ Some g → is_some word ≡ true
+  there None g is = absurd cc
+  there (Some word) g is = refl
+
+  drawing_holds : (drawing : Drawing) → IsDrawing told drawing → not (are_two (has (codes "ascii") told) (has (codes "dot") told) (has (codes "svg") told)) ≡ true
+  drawing_holds Boxes is = rw (is.0, is.1) refl
+  drawing_holds Ascii is = rw (is.0, is.1, is.2) refl
+  drawing_holds Graph is = rw (is.0, is.1, is.2) refl
+  drawing_holds Svg is = rw (is.0, is.1) refl
+
+  tree_holds : (g depth : ℕ) (drawing : Drawing) → NamesGeneral (codes "of") told (Some g) → IsDrawing told drawing
+      → levels_in (word_of (codes "depth") told) ≡ Some depth → has_tree told ≡ true
+  tree_holds g depth drawing named is levels =
+      and_from (has (codes "of") told && reads depth_in (codes "depth") told) (not (are_two (has (codes "ascii") told) (has (codes "dot") told) (has (codes "svg") told)))
+      (and_from (has (codes "of") told) (reads depth_in (codes "depth") told) (there (word_of (codes "of") told) g named) (levels_hold (word_of (codes "depth") told) depth levels))
+      (drawing_holds drawing is)
 
   traitors_hold : (explained : Bool) (word : Option Text) (traitors : List ℕ) → named explained word ≡ Some traitors → option_map_or (λ w. is_some (generals_in w)) word true ≡ true
   traitors_hold explained None traitors is = refl
   traitors_hold explained (Some word) traitors is = ap (λ o. is_some o) is
 
+  course_holds : (course : Course) → IsCourse told course → excludes (codes "chronicle") (codes "schedule") told ≡ true
+  course_holds (Scheduled file) is = rw is.1 refl
+  course_holds (Recorded file) is = rw (is.0, is.1) refl
+
 pub says_meant : (told : Told) (task : Task) → Says told task → is_meant told ≡ true
 says_meant told (Check file notation context explained traced) says = rw says.0 (rw (notation_holds told notation says.2) refl)
 says_meant told (Assemble file spelling target explained) says = rw says.0 refl
-says_meant told (Disassemble file notation units explained) says = rw says.0 (rw (notation_holds told notation says.2) refl)
+says_meant told (AssemblePartly file spelling target explained) says = rw says.0 refl
+says_meant told (Disassemble file notation units explained) says = rw says.0 (rw (notation_holds told notation says.2, says.5) refl)
+says_meant told (DisassemblePartly file notation explained) says = rw says.0 (rw (notation_holds told notation says.2, says.3, says.5) refl)
 says_meant told (Book file) says = rw says.0 (rw says.3 refl)
 says_meant told (ExplainDecisions file traitors) says =
     rw says.0 (rw (traitors_hold told (has (codes "explain") told) (word_of (codes "traitors") told) traitors.items says.2) refl)
 says_meant told (Form n m c filling) says = rw says.0 (rw (filling_holds told filling says.4) refl)
-says_meant told (Play scenario schedule account explained) says = rw says.0 (rw (lieutenants_hold told explained says.4) refl)
-says_meant told (Muster scenario explained) says = rw says.0 (rw (lieutenants_hold told explained says.2) refl)
-says_meant told (Audit scenario chronicle explained) says = rw says.0 (rw (lieutenants_hold told explained says.3) refl)
+says_meant told (Play scenario schedule account explained) says = rw says.0 (rw (lieutenant_holds told explained says.4, explanation_holds told explained says.4) refl)
+says_meant told (Muster scenario explained) says = rw says.0 (rw (lieutenant_holds told explained says.2, explanation_holds told explained says.2) refl)
+says_meant told (Audit scenario chronicle explained) says = rw says.0 (rw (lieutenant_holds told explained says.3, explanation_holds told explained says.3) refl)
 says_meant told (Explore scenario most) says = rw says.0 (rw (count_holds told (codes "most") most says.2) refl)
+says_meant told (Tree file general traitors drawing depth folded) says =
+    rw says.0 (rw (
+      traitors_hold told true (word_of (codes "traitors") told) traitors.items says.3,
+      general_holds told (codes "of") (Some general) says.2,
+      tree_holds told general depth drawing says.2 says.4 says.5,
+    ) refl)
+says_meant told (Draw scenario course) says = rw says.0 (rw (course_holds told course says.2) refl)
+says_meant told (Retrace scenario chronicle) says = rw says.0 refl
 
 -- ---- a rule is broken
 
@@ -81,61 +123,118 @@ not_read read told name word is none = rw (is, none) refl
 broken : (names : List Text) (told : Told) (holds : Bool) → is_of names told ≡ true → holds ≡ false → if_of names told holds ≡ false
 broken names told holds of fails = rw (of, fails) refl
 
-module _ (a b c d e : Bool) where
-  first_broken : a ≡ false → a && b && c && d && e ≡ false
-  first_broken is = and_left (a && b && c && d) e (and_left (a && b && c) d (and_left (a && b) c (and_left a b is)))
+module _ (a b c d e f g : Bool) where
+  first_broken : a ≡ false → a && b && c && d && e && f && g ≡ false
+  first_broken is = and_left (a && b && c && d && e && f) g (and_left (a && b && c && d && e) f (and_left (a && b && c && d) e (and_left (a && b && c) d (and_left (a && b) c (and_left a b is)))))
 
-  second_broken : b ≡ false → a && b && c && d && e ≡ false
-  second_broken is = and_left (a && b && c && d) e (and_left (a && b && c) d (and_left (a && b) c (and_right a b is)))
+  second_broken : b ≡ false → a && b && c && d && e && f && g ≡ false
+  second_broken is = and_left (a && b && c && d && e && f) g (and_left (a && b && c && d && e) f (and_left (a && b && c && d) e (and_left (a && b && c) d (and_left (a && b) c (and_right a b is)))))
 
-  third_broken : c ≡ false → a && b && c && d && e ≡ false
-  third_broken is = and_left (a && b && c && d) e (and_left (a && b && c) d (and_right (a && b) c is))
+  third_broken : c ≡ false → a && b && c && d && e && f && g ≡ false
+  third_broken is = and_left (a && b && c && d && e && f) g (and_left (a && b && c && d && e) f (and_left (a && b && c && d) e (and_left (a && b && c) d (and_right (a && b) c is))))
 
-  fourth_broken : d ≡ false → a && b && c && d && e ≡ false
-  fourth_broken is = and_left (a && b && c && d) e (and_right (a && b && c) d is)
+  fourth_broken : d ≡ false → a && b && c && d && e && f && g ≡ false
+  fourth_broken is = and_left (a && b && c && d && e && f) g (and_left (a && b && c && d && e) f (and_left (a && b && c && d) e (and_right (a && b && c) d is)))
 
-  fifth_broken : e ≡ false → a && b && c && d && e ≡ false
-  fifth_broken is = and_right (a && b && c && d) e is
+  fifth_broken : e ≡ false → a && b && c && d && e && f && g ≡ false
+  fifth_broken is = and_left (a && b && c && d && e && f) g (and_left (a && b && c && d && e) f (and_right (a && b && c && d) e is))
+
+  sixth_broken : f ≡ false → a && b && c && d && e && f && g ≡ false
+  sixth_broken is = and_left (a && b && c && d && e && f) g (and_right (a && b && c && d && e) f is)
+
+  seventh_broken : g ≡ false → a && b && c && d && e && f && g ≡ false
+  seventh_broken is = and_right (a && b && c && d && e && f) g is
+
+-- the same of two more behind them
+module _ (first h i : Bool) where
+  either_broken : first ≡ false → first && h && i ≡ false
+  either_broken is = and_left (first && h) i (and_left first h is)
+
+  eighth_broken : h ≡ false → first && h && i ≡ false
+  eighth_broken is = and_left (first && h) i (and_right first h is)
+
+  ninth_broken : i ≡ false → first && h && i ≡ false
+  ninth_broken is = and_right (first && h) i is
 
 module _ (told : Told) where
   abbrev of_program : Bool
   of_program = if_of programs told (has_notation told)
 
-  abbrev of_book : Bool
-  of_book = if_of (codes "book" ∷ []) told (reads generals_in (codes "traitors") told)
+  abbrev of_naming : Bool
+  of_naming = if_of of_traitors told (reads generals_in (codes "traitors") told)
 
   abbrev of_table : Bool
   of_table = if_of (codes "table" ∷ []) told (has_filling told)
 
-  abbrev of_campaign : Bool
-  of_campaign = if_of campaigns told (has_lieutenants told)
+  abbrev of_lieutenant : Bool
+  of_lieutenant = if_of of_one told (reads general_in (codes "of") told)
+
+  abbrev of_explanation : Bool
+  of_explanation = if_of campaigns told (wants (codes "of") (codes "explain") told)
 
   abbrev of_exploration : Bool
   of_exploration = if_of (codes "explore" ∷ []) told (reads count_in (codes "most") told)
 
-  program_broken : is_of programs told ≡ true → has_notation told ≡ false → is_meant told ≡ false
-  program_broken of fails = first_broken of_program of_book of_table of_campaign of_exploration (broken programs told (has_notation told) of fails)
+  abbrev of_tree : Bool
+  of_tree = if_of (codes "tree" ∷ []) told (has_tree told)
 
-  book_broken : is_of (codes "book" ∷ []) told ≡ true → reads generals_in (codes "traitors") told ≡ false → is_meant told ≡ false
-  book_broken of fails = second_broken of_program of_book of_table of_campaign of_exploration (broken (codes "book" ∷ []) told (reads generals_in (codes "traitors") told) of fails)
+  abbrev of_listing : Bool
+  of_listing = if_of (codes "dis" ∷ []) told (excludes (codes "partial") (codes "units") told)
+
+  abbrev of_course : Bool
+  of_course = if_of (codes "draw" ∷ []) told (excludes (codes "chronicle") (codes "schedule") told)
+
+  abbrev of_first : Bool
+  of_first = of_program && of_naming && of_table && of_lieutenant && of_explanation && of_exploration && of_tree
+
+  listing_broken : is_of (codes "dis" ∷ []) told ≡ true → excludes (codes "partial") (codes "units") told ≡ false → is_meant told ≡ false
+  listing_broken of fails = eighth_broken of_first of_listing of_course (broken (codes "dis" ∷ []) told (excludes (codes "partial") (codes "units") told) of fails)
+
+  course_broken : is_of (codes "draw" ∷ []) told ≡ true → excludes (codes "chronicle") (codes "schedule") told ≡ false → is_meant told ≡ false
+  course_broken of fails = ninth_broken of_first of_listing of_course (broken (codes "draw" ∷ []) told (excludes (codes "chronicle") (codes "schedule") told) of fails)
+
+  program_broken : is_of programs told ≡ true → has_notation told ≡ false → is_meant told ≡ false
+  program_broken of fails = either_broken of_first of_listing of_course (first_broken of_program of_naming of_table of_lieutenant of_explanation of_exploration of_tree (broken programs told (has_notation told) of fails))
+
+  naming_broken : is_of of_traitors told ≡ true → reads generals_in (codes "traitors") told ≡ false → is_meant told ≡ false
+  naming_broken of fails = either_broken of_first of_listing of_course (second_broken of_program of_naming of_table of_lieutenant of_explanation of_exploration of_tree (broken of_traitors told (reads generals_in (codes "traitors") told) of fails))
 
   table_broken : is_of (codes "table" ∷ []) told ≡ true → has_filling told ≡ false → is_meant told ≡ false
-  table_broken of fails = third_broken of_program of_book of_table of_campaign of_exploration (broken (codes "table" ∷ []) told (has_filling told) of fails)
+  table_broken of fails = either_broken of_first of_listing of_course (third_broken of_program of_naming of_table of_lieutenant of_explanation of_exploration of_tree (broken (codes "table" ∷ []) told (has_filling told) of fails))
 
-  campaign_broken : is_of campaigns told ≡ true → has_lieutenants told ≡ false → is_meant told ≡ false
-  campaign_broken of fails = fourth_broken of_program of_book of_table of_campaign of_exploration (broken campaigns told (has_lieutenants told) of fails)
+  lieutenant_broken : is_of of_one told ≡ true → reads general_in (codes "of") told ≡ false → is_meant told ≡ false
+  lieutenant_broken of fails = either_broken of_first of_listing of_course (fourth_broken of_program of_naming of_table of_lieutenant of_explanation of_exploration of_tree (broken of_one told (reads general_in (codes "of") told) of fails))
+
+  explanation_broken : is_of campaigns told ≡ true → wants (codes "of") (codes "explain") told ≡ false → is_meant told ≡ false
+  explanation_broken of fails = either_broken of_first of_listing of_course (fifth_broken of_program of_naming of_table of_lieutenant of_explanation of_exploration of_tree (broken campaigns told (wants (codes "of") (codes "explain") told) of fails))
 
   exploration_broken : is_of (codes "explore" ∷ []) told ≡ true → reads count_in (codes "most") told ≡ false → is_meant told ≡ false
-  exploration_broken of fails = fifth_broken of_program of_book of_table of_campaign of_exploration
-      (broken (codes "explore" ∷ []) told (reads count_in (codes "most") told) of fails)
+  exploration_broken of fails = either_broken of_first of_listing of_course (sixth_broken of_program of_naming of_table of_lieutenant of_explanation of_exploration of_tree (broken (codes "explore" ∷ []) told (reads count_in (codes "most") told) of fails))
+
+  tree_broken : is_of (codes "tree" ∷ []) told ≡ true → has_tree told ≡ false → is_meant told ≡ false
+  tree_broken of fails = either_broken of_first of_listing of_course (seventh_broken of_program of_naming of_table of_lieutenant of_explanation of_exploration of_tree (broken (codes "tree" ∷ []) told (has_tree told) of fails))
 
   not_wanted : (name other : Text) → has name told ≡ true → has other told ≡ false → wants name other told ≡ false
   not_wanted name other there lacks = rw (there, lacks) refl
 
+  nobody : has (codes "of") told ≡ false → has_tree told ≡ false
+  nobody lacks =
+      and_left (has (codes "of") told && reads depth_in (codes "depth") told) (not (are_two (has (codes "ascii") told) (has (codes "dot") told) (has (codes "svg") told)))
+      (and_left (has (codes "of") told) (reads depth_in (codes "depth") told) lacks)
+
+  no_depth : reads depth_in (codes "depth") told ≡ false → has_tree told ≡ false
+  no_depth fails =
+      and_left (has (codes "of") told && reads depth_in (codes "depth") told) (not (are_two (has (codes "ascii") told) (has (codes "dot") told) (has (codes "svg") told)))
+      (and_right (has (codes "of") told) (reads depth_in (codes "depth") told) fails)
+
+  two_drawn : are_two (has (codes "ascii") told) (has (codes "dot") told) (has (codes "svg") told) ≡ true → has_tree told ≡ false
+  two_drawn are =
+      and_right (has (codes "of") told && reads depth_in (codes "depth") told) (not (are_two (has (codes "ascii") told) (has (codes "dot") told) (has (codes "svg") told)))
+      (ap not are)
+
 pub misused_not_meant : (told : Told) (misuse : Misuse) → IsMisused told misuse → is_meant told ≡ false
-misused_not_meant told (Traitors word) is = book_broken told is.0 (not_read generals_in told (codes "traitors") (string_bytes word) is.1 is.2)
-misused_not_meant told (Of word) is = campaign_broken told is.0
-    (and_left (reads general_in (codes "of") told) (wants (codes "of") (codes "explain") told) (not_read general_in told (codes "of") (string_bytes word) is.1 is.2))
+misused_not_meant told (Traitors word) is = naming_broken told is.0 (not_read generals_in told (codes "traitors") (string_bytes word) is.1 is.2)
+misused_not_meant told (Of word) is = lieutenant_broken told is.0 (not_read general_in told (codes "of") (string_bytes word) is.1 is.2)
 misused_not_meant told (Lie word) is = table_broken told is.0
     (and_left (reads order_in (codes "loyal") told && reads general_in (codes "lie") told) (wants (codes "lie") (codes "loyal") told)
     (and_right (reads order_in (codes "loyal") told) (reads general_in (codes "lie") told) (not_read general_in told (codes "lie") (string_bytes word) is.1 is.2)))
@@ -143,9 +242,13 @@ misused_not_meant told (Loyal word) is = table_broken told is.0
     (and_left (reads order_in (codes "loyal") told && reads general_in (codes "lie") told) (wants (codes "lie") (codes "loyal") told)
     (and_left (reads order_in (codes "loyal") told) (reads general_in (codes "lie") told) (not_read order_in told (codes "loyal") (string_bytes word) is.1 is.2)))
 misused_not_meant told (Most word) is = exploration_broken told is.0 (not_read count_in told (codes "most") (string_bytes word) is.1 is.2)
+misused_not_meant told (Depth word) is = tree_broken told is.0 (no_depth told (not_read depth_in told (codes "depth") (string_bytes word) is.1 is.2))
+misused_not_meant told NobodyNamed is = tree_broken told is.0 (nobody told is.1)
+misused_not_meant told TwoDrawings is = tree_broken told is.0 (two_drawn told is.1)
 misused_not_meant told TwoNotations is = program_broken told is.0 (rw (is.1, is.2) refl)
+misused_not_meant told UnitsOfParts is = listing_broken told is.0 (rw (is.1, is.2) refl)
+misused_not_meant told TwoCourses is = course_broken told is.0 (rw (is.1, is.2) refl)
 misused_not_meant told EntryAlone is = program_broken told is.0 (and_right (not (has (codes "asm") told && has (codes "elf") told)) (wants (codes "entry") (codes "elf") told) (not_wanted told (codes "entry") (codes "elf") is.1 is.2))
-misused_not_meant told OfAlone is = campaign_broken told is.0
-    (and_right (reads general_in (codes "of") told) (wants (codes "of") (codes "explain") told) (not_wanted told (codes "of") (codes "explain") is.1 is.2))
+misused_not_meant told OfAlone is = explanation_broken told is.0 (not_wanted told (codes "of") (codes "explain") is.1 is.2)
 misused_not_meant told LieAlone is = table_broken told is.0
     (and_right (reads order_in (codes "loyal") told && reads general_in (codes "lie") told) (wants (codes "lie") (codes "loyal") told) (not_wanted told (codes "lie") (codes "loyal") is.1 is.2))

@@ -40,8 +40,8 @@ off known name apart = elim (cases_Bool (bytes_eq known name)) [
 pub no_other_task : (told : Told) → has_places told ≡ true
     → (told.name ≡ codes "check" → ⊥) → (told.name ≡ codes "asm" → ⊥) → (told.name ≡ codes "dis" → ⊥) → (told.name ≡ codes "book" → ⊥)
     → (told.name ≡ codes "table" → ⊥) → (told.name ≡ codes "muster" → ⊥) → (told.name ≡ codes "play" → ⊥) → (told.name ≡ codes "audit" → ⊥)
-    → (told.name ≡ codes "explore" → ⊥) → ⊥
-no_other_task told is check asm dis book table muster play audit explore =
+    → (told.name ≡ codes "explore" → ⊥) → (told.name ≡ codes "tree" → ⊥) → (told.name ≡ codes "draw" → ⊥) → (told.name ≡ codes "schedule" → ⊥) → ⊥
+no_other_task told is check asm dis book table muster play audit explore tree draw schedule =
     let bad : false ≡ true = rw (
       off (codes "check") told.name check,
       off (codes "asm") told.name asm,
@@ -52,4 +52,7 @@ no_other_task told is check asm dis book table muster play audit explore =
       off (codes "play") told.name play,
       off (codes "audit") told.name audit,
       off (codes "explore") told.name explore,
+      off (codes "tree") told.name tree,
+      off (codes "draw") told.name draw,
+      off (codes "schedule") told.name schedule,
     ) at is in absurd cc

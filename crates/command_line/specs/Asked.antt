@@ -3,8 +3,8 @@ use Rattle.std.specs.Prelude.{◌&&◌, ◌||◌, not, Bool, true, List, [], ◌
 use Rattle.std.specs.Prelude.{codes, if◌then◌else◌, is_some, map, option_and_then, option_map}
 use Rattle.std.specs.Borrow.{Bor}
 use Rattle.std.specs.Option.{option_map_or}
-use Rattle.command_line.specs.Generals.{count_in, general_in, generals_in, order_in}
-use Rattle.command_line.specs.Told.{Told, campaigns, has, is_of, programs, word_of}
+use Rattle.command_line.specs.Generals.{count_in, depth_in, general_in, generals_in, order_in}
+use Rattle.command_line.specs.Told.{Told, are_two, campaigns, has, is_of, of_one, of_traitors, programs, word_of}
 use Rattle.command_line.specs.Usage.{Text, Usage, taken_in, value_at}
 use Rattle.command_line.specs.Usages.{usage_named}
 
@@ -39,9 +39,14 @@ has_notation told = not (has (codes "asm") told && has (codes "elf") told) && wa
 abbrev pub has_filling : Told → Bool
 has_filling told = reads order_in (codes "loyal") told && reads general_in (codes "lie") told && wants (codes "lie") (codes "loyal") told
 
--- the lieutenant is one whose decision is explained
-abbrev pub has_lieutenants : Told → Bool
-has_lieutenants told = reads general_in (codes "of") told && wants (codes "of") (codes "explain") told
+-- somebody's tree is drawn in one way, to a depth
+abbrev pub has_tree : Told → Bool
+has_tree told = has (codes "of") told && reads depth_in (codes "depth") told
+    && not (are_two (has (codes "ascii") told) (has (codes "dot") told) (has (codes "svg") told))
+
+-- the one does not stand with the other
+abbrev pub excludes : Text → Text → Told → Bool
+excludes name other told = not (has name told && has other told)
 
 -- a rule for these subcommands alone
 abbrev pub if_of : List Text → Told → Bool → Bool
@@ -49,10 +54,14 @@ if_of names told holds = not (is_of names told) || holds
 
 abbrev pub is_meant : Told → Bool
 is_meant told = if_of programs told (has_notation told)
-    && if_of (codes "book" ∷ []) told (reads generals_in (codes "traitors") told)
+    && if_of of_traitors told (reads generals_in (codes "traitors") told)
     && if_of (codes "table" ∷ []) told (has_filling told)
-    && if_of campaigns told (has_lieutenants told)
+    && if_of of_one told (reads general_in (codes "of") told)
+    && if_of campaigns told (wants (codes "of") (codes "explain") told)
     && if_of (codes "explore" ∷ []) told (reads count_in (codes "most") told)
+    && if_of (codes "tree" ∷ []) told (has_tree told)
+    && if_of (codes "dis" ∷ []) told (excludes (codes "partial") (codes "units") told)
+    && if_of (codes "draw" ∷ []) told (excludes (codes "chronicle") (codes "schedule") told)
 
 -- what the words ask for: what they spell, where that is no misuse
 abbrev pub asked : List Text → Option Told

@@ -2,6 +2,7 @@ pub mod Asked
 pub mod Generals
 pub mod Lab
 pub mod Met
+pub mod Several
 pub mod Subcommand
 pub mod Telling
 pub mod Told

@@ -1,25 +1,30 @@
 -- What a task and its refusal say.
-use Rattle.std.specs.Prelude.{⊤, ℕ, ◌≡◌, Bool, true, false, List, [], ◌∷◌, Option, None, Some, codes, is_some, option_map}
+use Rattle.std.specs.Prelude.{⊤, ℕ, ◌≡◌, ◌&&◌, Bool, true, false, List, [], ◌∷◌, Option, None, Some, codes, is_some, option_map}
 use Rattle.std.specs.List.{list_any}
 use Rattle.std.specs.Str.{bytes_eq}
 use Rattle.std.specs.String.{string_bytes}
 use Rattle.text.specs.Options.{◌>>=◌}
 use Rattle.clap.specs.declared.error.Error.{Error}
-use Rattle.command_line.specs.Generals.{count_in, general_in, generals_in, order_in}
+use Rattle.command_line.specs.Generals.{count_in, depth_in, general_in, generals_in, order_in}
 use Rattle.command_line.specs.Usage.{Text}
 use Rattle.command_line.specs.declared.tasks.Account.{Account}
 use Rattle.command_line.specs.declared.tasks.Account.TheVariants.{Chronicle, Table}
+use Rattle.command_line.specs.declared.tasks.Course.{Course}
+use Rattle.command_line.specs.declared.tasks.Course.TheVariants.{Scheduled, Recorded}
+use Rattle.command_line.specs.declared.tasks.Drawing.{Drawing}
+use Rattle.command_line.specs.declared.tasks.Drawing.TheVariants.{Boxes, Ascii, Graph, Svg}
 use Rattle.command_line.specs.declared.tasks.Filling.{Filling}
 use Rattle.command_line.specs.declared.tasks.Lieutenants.{Lieutenants}
 use Rattle.command_line.specs.declared.tasks.Lieutenants.TheVariants.{All, One}
 use Rattle.command_line.specs.declared.tasks.Notation.{Notation}
 use Rattle.command_line.specs.declared.tasks.Notation.TheVariants.{Bytecode, Assembly, Object}
+use Rattle.command_line.specs.declared.tasks.Request.{Request}
 use Rattle.command_line.specs.declared.tasks.Spelling.{Spelling}
 use Rattle.command_line.specs.declared.tasks.Spelling.TheVariants.{Hex, Raw}
 use Rattle.command_line.specs.declared.tasks.Task.{Task}
-use Rattle.command_line.specs.declared.tasks.Task.TheVariants.{Check, Assemble, Disassemble, Book, ExplainDecisions, Form, Play, Muster, Audit, Explore}
+use Rattle.command_line.specs.declared.tasks.Task.TheVariants.{Check, Assemble, AssemblePartly, Disassemble, DisassemblePartly, Book, ExplainDecisions, Form, Play, Muster, Audit, Explore, Tree, Draw, Retrace}
 use Rattle.command_line.specs.declared.errors.Misuse.{Misuse}
-use Rattle.command_line.specs.declared.errors.Misuse.TheVariants.{Traitors, Of, Lie, Loyal, Most, TwoNotations, EntryAlone, OfAlone, LieAlone}
+use Rattle.command_line.specs.declared.errors.Misuse.TheVariants.{Traitors, Of, Lie, Loyal, Most, Depth, NobodyNamed, TwoDrawings, TwoNotations, UnitsOfParts, TwoCourses, EntryAlone, OfAlone, LieAlone}
 use Rattle.command_line.specs.declared.errors.TaskError.{TaskError}
 use Rattle.command_line.specs.declared.errors.TaskError.TheVariants as error
 
@@ -44,6 +49,13 @@ programs = codes "check" ∷ codes "dis" ∷ []
 
 abbrev pub campaigns : List Text
 campaigns = codes "play" ∷ codes "muster" ∷ codes "audit" ∷ []
+
+-- those that take the number of a lieutenant, and those that take names of traitors
+abbrev pub of_one : List Text
+of_one = codes "tree" ∷ campaigns
+
+abbrev pub of_traitors : List Text
+of_traitors = codes "book" ∷ codes "tree" ∷ []
 
 -- ---- what the words say of a part of a task
 
@@ -87,6 +99,21 @@ abbrev pub NamesCount : Text → Told → Option ℕ → Type 0
 NamesCount name told None = word_of name told ≡ None
 NamesCount name told (Some n) = (word_of name told >>= count_in) ≡ Some n
 
+abbrev pub IsDrawing : Told → Drawing → Type 0
+IsDrawing told Boxes = (has (codes "ascii") told ≡ false) × (has (codes "dot") told ≡ false) × (has (codes "svg") told ≡ false)
+IsDrawing told Ascii = (has (codes "ascii") told ≡ true) × (has (codes "dot") told ≡ false) × (has (codes "svg") told ≡ false)
+IsDrawing told Graph = (has (codes "ascii") told ≡ false) × (has (codes "dot") told ≡ true) × (has (codes "svg") told ≡ false)
+IsDrawing told Svg = (has (codes "ascii") told ≡ false) × (has (codes "dot") told ≡ false) × (has (codes "svg") told ≡ true)
+
+-- so many levels, all where none are named
+abbrev pub levels_in : Option Text → Option ℕ
+levels_in None = Some 4
+levels_in (Some word) = depth_in word
+
+abbrev pub IsCourse : Told → Course → Type 0
+IsCourse told (Scheduled file) = (word_of (codes "schedule") told ≡ option_map string_bytes file) × (word_of (codes "chronicle") told ≡ None)
+IsCourse told (Recorded file) = (word_of (codes "schedule") told ≡ None) × (word_of (codes "chronicle") told ≡ Some (string_bytes file))
+
 -- ---- the words say this task
 
 abbrev pub Says : Told → Task → Type 0
@@ -97,9 +124,17 @@ Says told (Check file notation context explained traced) = (told.name ≡ codes 
 Says told (Assemble file spelling target explained) = (told.name ≡ codes "asm")
     × (word_of (codes "FILE") told ≡ Some (string_bytes file)) × (has (codes "raw") told ≡ is_raw spelling)
     × (word_of (codes "target") told ≡ option_map string_bytes target) × (has (codes "explain") told ≡ explained)
+    × (has (codes "partial") told ≡ false)
+Says told (AssemblePartly file spelling target explained) = (told.name ≡ codes "asm")
+    × (word_of (codes "FILE") told ≡ Some (string_bytes file)) × (has (codes "raw") told ≡ is_raw spelling)
+    × (word_of (codes "target") told ≡ option_map string_bytes target) × (has (codes "explain") told ≡ explained)
+    × (has (codes "partial") told ≡ true)
 Says told (Disassemble file notation units explained) = (told.name ≡ codes "dis")
     × (word_of (codes "FILE") told ≡ Some (string_bytes file)) × IsNotation told notation
-    × (has (codes "units") told ≡ units) × (has (codes "explain") told ≡ explained)
+    × (has (codes "units") told ≡ units) × (has (codes "explain") told ≡ explained) × (has (codes "partial") told ≡ false)
+Says told (DisassemblePartly file notation explained) = (told.name ≡ codes "dis")
+    × (word_of (codes "FILE") told ≡ Some (string_bytes file)) × IsNotation told notation
+    × (has (codes "units") told ≡ false) × (has (codes "explain") told ≡ explained) × (has (codes "partial") told ≡ true)
 Says told (Book file) = (told.name ≡ codes "book")
     × (word_of (codes "FILE") told ≡ Some (string_bytes file))
     × (has (codes "explain") told ≡ false) × (word_of (codes "traitors") told ≡ None)
@@ -120,13 +155,28 @@ Says told (Audit scenario chronicle explained) = (told.name ≡ codes "audit")
     × (word_of (codes "CHRONICLE") told ≡ Some (string_bytes chronicle)) × AreExplained told explained
 Says told (Explore scenario most) = (told.name ≡ codes "explore")
     × (word_of (codes "SCENARIO") told ≡ Some (string_bytes scenario)) × NamesCount (codes "most") told most
+Says told (Tree file general traitors drawing depth folded) = (told.name ≡ codes "tree")
+    × (word_of (codes "FILE") told ≡ Some (string_bytes file)) × NamesGeneral (codes "of") told (Some general)
+    × (named true (word_of (codes "traitors") told) ≡ Some traitors.items) × IsDrawing told drawing
+    × (levels_in (word_of (codes "depth") told) ≡ Some depth) × (has (codes "fold") told ≡ folded)
+Says told (Draw scenario course) = (told.name ≡ codes "draw")
+    × (word_of (codes "SCENARIO") told ≡ Some (string_bytes scenario)) × IsCourse told course
+Says told (Retrace scenario chronicle) = (told.name ≡ codes "schedule")
+    × (word_of (codes "SCENARIO") told ≡ Some (string_bytes scenario))
+    × (word_of (codes "CHRONICLE") told ≡ Some (string_bytes chronicle))
+
+-- the words ask for this: the task, and whether its answer is to be JSON, or one line
+abbrev pub Asks : Told → Request → Type 0
+Asks told request = Says told request.task × (has (codes "json") told ≡ request.json) × (has (codes "verdicts") told ≡ request.verdicts)
 
 -- ---- the names of the task's files: of its only or first, of the second, and of the one that it writes
 
 abbrev pub file_of : Task → Option Text
 file_of (Check file notation context explained traced) = Some (string_bytes file)
 file_of (Assemble file spelling target explained) = Some (string_bytes file)
+file_of (AssemblePartly file spelling target explained) = Some (string_bytes file)
 file_of (Disassemble file notation units explained) = Some (string_bytes file)
+file_of (DisassemblePartly file notation explained) = Some (string_bytes file)
 file_of (Book file) = Some (string_bytes file)
 file_of (ExplainDecisions file traitors) = Some (string_bytes file)
 file_of (Form n m c filling) = None
@@ -134,24 +184,37 @@ file_of (Play scenario schedule account explained) = Some (string_bytes scenario
 file_of (Muster scenario explained) = Some (string_bytes scenario)
 file_of (Audit scenario chronicle explained) = Some (string_bytes scenario)
 file_of (Explore scenario most) = Some (string_bytes scenario)
+file_of (Tree file general traitors drawing depth folded) = Some (string_bytes file)
+file_of (Draw scenario course) = Some (string_bytes scenario)
+file_of (Retrace scenario chronicle) = Some (string_bytes scenario)
 
 abbrev pub second_of : Task → Option Text
 second_of (Check file notation context explained traced) = option_map string_bytes context
 second_of (Play scenario schedule account explained) = option_map string_bytes schedule
 second_of (Audit scenario chronicle explained) = Some (string_bytes chronicle)
+second_of (Draw scenario (Scheduled schedule)) = option_map string_bytes schedule
+second_of (Draw scenario (Recorded chronicle)) = Some (string_bytes chronicle)
+second_of (Retrace scenario chronicle) = Some (string_bytes chronicle)
 second_of _ = None
 
 abbrev pub target_of : Task → Option Text
 target_of (Assemble file spelling target explained) = option_map string_bytes target
+target_of (AssemblePartly file spelling target explained) = option_map string_bytes target
 target_of _ = None
 
 -- ---- refusals
 
+-- two of these are there
+abbrev pub are_two : Bool → Bool → Bool → Bool
+are_two true true c = true
+are_two true false c = c
+are_two false b c = b && c
+
 -- the words are misused so
 abbrev pub IsMisused : Told → Misuse → Type 0
-IsMisused told (Traitors word) = (is_of (codes "book" ∷ []) told ≡ true)
+IsMisused told (Traitors word) = (is_of of_traitors told ≡ true)
     × (word_of (codes "traitors") told ≡ Some (string_bytes word)) × (generals_in (string_bytes word) ≡ None)
-IsMisused told (Of word) = (is_of campaigns told ≡ true)
+IsMisused told (Of word) = (is_of of_one told ≡ true)
     × (word_of (codes "of") told ≡ Some (string_bytes word)) × (general_in (string_bytes word) ≡ None)
 IsMisused told (Lie word) = (is_of (codes "table" ∷ []) told ≡ true)
     × (word_of (codes "lie") told ≡ Some (string_bytes word)) × (general_in (string_bytes word) ≡ None)
@@ -159,7 +222,15 @@ IsMisused told (Loyal word) = (is_of (codes "table" ∷ []) told ≡ true)
     × (word_of (codes "loyal") told ≡ Some (string_bytes word)) × (order_in (string_bytes word) ≡ None)
 IsMisused told (Most word) = (is_of (codes "explore" ∷ []) told ≡ true)
     × (word_of (codes "most") told ≡ Some (string_bytes word)) × (count_in (string_bytes word) ≡ None)
+IsMisused told (Depth word) = (is_of (codes "tree" ∷ []) told ≡ true)
+    × (word_of (codes "depth") told ≡ Some (string_bytes word)) × (depth_in (string_bytes word) ≡ None)
+IsMisused told NobodyNamed = (is_of (codes "tree" ∷ []) told ≡ true) × (has (codes "of") told ≡ false)
+IsMisused told TwoDrawings = (is_of (codes "tree" ∷ []) told ≡ true)
+    × (are_two (has (codes "ascii") told) (has (codes "dot") told) (has (codes "svg") told) ≡ true)
 IsMisused told TwoNotations = (is_of programs told ≡ true) × (has (codes "asm") told ≡ true) × (has (codes "elf") told ≡ true)
+IsMisused told UnitsOfParts = (is_of (codes "dis" ∷ []) told ≡ true) × (has (codes "units") told ≡ true) × (has (codes "partial") told ≡ true)
+IsMisused told TwoCourses = (is_of (codes "draw" ∷ []) told ≡ true)
+    × (has (codes "schedule") told ≡ true) × (has (codes "chronicle") told ≡ true)
 IsMisused told EntryAlone = (is_of programs told ≡ true) × (has (codes "entry") told ≡ true) × (has (codes "elf") told ≡ false)
 IsMisused told OfAlone = (is_of campaigns told ≡ true) × (has (codes "of") told ≡ true) × (has (codes "explain") told ≡ false)
 IsMisused told LieAlone = (is_of (codes "table" ∷ []) told ≡ true) × (has (codes "lie") told ≡ true) × (has (codes "loyal") told ≡ false)

@@ -7,28 +7,28 @@ abbrev pub check : Usage
 check = record {
   name = codes "check";
   places = codes "FILE" ∷ [];
-  flags = switch (codes "asm") ∷ switch (codes "elf") ∷ switch (codes "explain") ∷ switch (codes "trace") ∷ option (codes "context") ∷ option (codes "entry") ∷ [];
+  flags = switch (codes "asm") ∷ switch (codes "elf") ∷ switch (codes "explain") ∷ switch (codes "trace") ∷ switch (codes "json") ∷ switch (codes "verdicts") ∷ option (codes "context") ∷ option (codes "entry") ∷ [];
 }
 
 abbrev pub asm : Usage
 asm = record {
   name = codes "asm";
   places = codes "FILE" ∷ [];
-  flags = switch (codes "raw") ∷ switch (codes "explain") ∷ letter (codes "target") 111 ∷ [];
+  flags = switch (codes "raw") ∷ switch (codes "explain") ∷ switch (codes "partial") ∷ letter (codes "target") 111 ∷ [];
 }
 
 abbrev pub dis : Usage
 dis = record {
   name = codes "dis";
   places = codes "FILE" ∷ [];
-  flags = switch (codes "elf") ∷ switch (codes "units") ∷ switch (codes "explain") ∷ option (codes "entry") ∷ [];
+  flags = switch (codes "elf") ∷ switch (codes "units") ∷ switch (codes "explain") ∷ switch (codes "partial") ∷ option (codes "entry") ∷ [];
 }
 
 abbrev pub book : Usage
 book = record {
   name = codes "book";
   places = codes "FILE" ∷ [];
-  flags = switch (codes "explain") ∷ option (codes "traitors") ∷ [];
+  flags = switch (codes "explain") ∷ switch (codes "json") ∷ option (codes "traitors") ∷ [];
 }
 
 abbrev pub table : Usage
@@ -39,27 +39,45 @@ table = record {
 }
 
 abbrev pub muster : Usage
-muster = record { name = codes "muster"; places = codes "SCENARIO" ∷ []; flags = switch (codes "explain") ∷ option (codes "of") ∷ [] }
+muster = record {
+  name = codes "muster";
+  places = codes "SCENARIO" ∷ [];
+  flags = switch (codes "explain") ∷ switch (codes "json") ∷ option (codes "of") ∷ [];
+}
 
 abbrev pub play : Usage
 play = record {
   name = codes "play";
   places = codes "SCENARIO" ∷ [];
-  flags = switch (codes "table") ∷ switch (codes "explain") ∷ option (codes "schedule") ∷ option (codes "of") ∷ [];
+  flags = switch (codes "table") ∷ switch (codes "explain") ∷ switch (codes "json") ∷ switch (codes "verdicts") ∷ option (codes "schedule") ∷ option (codes "of") ∷ [];
 }
 
 abbrev pub audit : Usage
 audit = record {
   name = codes "audit";
   places = codes "SCENARIO" ∷ codes "CHRONICLE" ∷ [];
-  flags = switch (codes "explain") ∷ option (codes "of") ∷ [];
+  flags = switch (codes "explain") ∷ switch (codes "json") ∷ switch (codes "verdicts") ∷ option (codes "of") ∷ [];
 }
 
 abbrev pub explore : Usage
 explore = record { name = codes "explore"; places = codes "SCENARIO" ∷ []; flags = option (codes "most") ∷ [] }
 
+abbrev pub tree : Usage
+tree = record {
+  name = codes "tree";
+  places = codes "FILE" ∷ [];
+  flags = switch (codes "ascii") ∷ switch (codes "dot") ∷ switch (codes "svg") ∷ switch (codes "fold")
+      ∷ option (codes "of") ∷ option (codes "traitors") ∷ option (codes "depth") ∷ [];
+}
+
+abbrev pub draw : Usage
+draw = record { name = codes "draw"; places = codes "SCENARIO" ∷ []; flags = option (codes "schedule") ∷ option (codes "chronicle") ∷ [] }
+
+abbrev pub schedule : Usage
+schedule = record { name = codes "schedule"; places = codes "SCENARIO" ∷ codes "CHRONICLE" ∷ []; flags = [] }
+
 abbrev pub usages : List Usage
-usages = check ∷ asm ∷ dis ∷ book ∷ table ∷ muster ∷ play ∷ audit ∷ explore ∷ []
+usages = check ∷ asm ∷ dis ∷ book ∷ table ∷ muster ∷ play ∷ audit ∷ explore ∷ tree ∷ draw ∷ schedule ∷ []
 
 abbrev pub usage_named : Text → Option Usage
 usage_named name = find (λ usage. bytes_eq usage.name name) usages

@@ -26,10 +26,20 @@ pub enum Misuse {
     Loyal(String),
     /// The word behind `--most` is no number of orders.
     Most(String),
+    /// The word behind `--depth` is no number of levels.
+    Depth(String),
     /// A file is said to be assembly text and an ELF object.
     TwoNotations,
+    /// Units are to stand before parts of which not all are instructions.
+    UnitsOfParts,
+    /// A campaign is to take two courses.
+    TwoCourses,
     /// `--entry` stands without `--elf`.
     EntryAlone,
+    /// `--of` is wanting.
+    NobodyNamed,
+    /// A tree is to be drawn in two ways.
+    TwoDrawings,
     /// `--of` stands without `--explain`.
     OfAlone,
     /// `--lie` stands without `--loyal`.
@@ -79,9 +89,23 @@ impl fmt::Display for Misuse {
                 f,
                 "invalid value {word:?} for '--most <N>': a whole number, 1 to 18446744073709551615"
             ),
+            Misuse::Depth(word) => write!(
+                f,
+                "invalid value {word:?} for '--depth <D>': a number of levels, 0 to 4"
+            ),
+            Misuse::NobodyNamed => f.write_str("the argument '--of <G>' is required"),
+            Misuse::TwoDrawings => f.write_str(
+                "the arguments '--ascii', '--dot' and '--svg' cannot be used with each other",
+            ),
             Misuse::TwoNotations => {
                 f.write_str("the argument '--elf' cannot be used with '--asm'")
             }
+            Misuse::UnitsOfParts => {
+                f.write_str("the argument '--units' cannot be used with '--partial'")
+            }
+            Misuse::TwoCourses => f.write_str(
+                "the argument '--schedule <FILE>' cannot be used with '--chronicle <FILE>'",
+            ),
             Misuse::EntryAlone => {
                 f.write_str("the argument '--entry <NAME>' cannot be used without '--elf'")
             }

@@ -1,6 +1,6 @@
-ghost use Rattle.std.specs.Prelude.{◌≡◌, ◌≢◌, IfOk, IfErr, Some, None};
-ghost use Rattle.command_line.specs.Generals.{count_in, general_in, generals_in, order_in};
-ghost use Rattle.command_line.specs.declared.generals.GeneralsError.TheVariants.{Memory};
+ghost use Rattle.std.specs.Prelude.{◌≡◌, ◌≢◌, Ok, Err, IfOk, IfErr, MatchOption, Some, None};
+ghost use Rattle.command_line.specs.Generals.{count_in, depth_in, general_in, generals_in, order_in};
+ghost use Rattle.command_line.specs.declared.generals.GeneralsError.TheVariants.{NoGeneral, Memory};
 
 use std::alloc::{AllocError, Global};
 use text::{Stop, decimal, piece};
@@ -33,15 +33,23 @@ pub(crate) fn generals(alloc: Global, word: &str) -> Result<Vec<u8>, GeneralsErr
     let mut rest = Some(word.as_bytes());
     while let Some(parts) = rest {
         let (part, behind) = piece(COMMA, parts);
-        let Some(named) = general(part) else {
-            return Err(GeneralsError::NoGeneral);
-        };
+        let named = named(part)?;
         if let Err(error) = generals.push(named) {
             return Err(GeneralsError::from(AllocError::from(error)));
         }
         rest = behind;
     }
     Ok(generals)
+}
+
+/// The general whom a part of the word names.
+fn named(part: &[u8]) -> Result<u8, GeneralsError>
+    ensures { MatchOption (general_in part.now) (result ≡ Err NoGeneral) (λ general. result ≡ Ok general) }
+{
+    match general(part) {
+        Some(general) => Ok(general),
+        None => Err(GeneralsError::NoGeneral),
+    }
 }
 
 /// The number of a general.
@@ -81,4 +89,13 @@ pub(crate) fn count(word: &[u8]) -> Option<u64>
     } else {
         None
     }
+}
+
+/// A number of levels of a tree.
+#[tactic(auto, unfolding(crate::specs::Generals::depth_in))]
+pub(crate) fn depth(word: &[u8]) -> Option<u8>
+    ensures { result ≡ depth_in word.now }
+{
+    let number = decimal(word)?;
+    if number < 5 { Some(number as u8) } else { None }
 }

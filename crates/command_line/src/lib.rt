@@ -6,10 +6,14 @@ mod generals;
 mod lab;
 mod met;
 mod reading;
+mod several;
 mod subcommand;
 mod subcommands;
 mod tasks;
 
 pub use errors::{Misuse, TaskError};
-pub use reading::task;
-pub use tasks::{Account, Filling, Lieutenants, Notation, Spelling, Task};
+pub use reading::request;
+pub use several::each;
+pub use tasks::{
+    Account, Course, Drawing, Filling, Lieutenants, Notation, Request, Spelling, Task,
+};

@@ -1,12 +1,15 @@
 ghost use Rattle.std.specs.Prelude.{◌≡◌, if◌then◌else◌, IfOk, IfErr, IsSome, None, Some, [], ◌∷◌, codes, option_map, string_bytes, true};
 ghost use Rattle.clap.specs.Words.{subcommand_rows_of};
 ghost use Rattle.command_line.specs.Lab.{is_given, task_met};
+ghost use Rattle.command_line.specs.Told.{IsDrawing, levels_in, named};
 ghost use Rattle.command_line.specs.Met.{has_places, told_by};
-ghost use Rattle.command_line.specs.Told.{AreExplained, IsErrorOf, IsFilling, IsNotation, NamesCount, NamesGeneral, Says, campaigns, has, is_of, is_raw, is_table, programs, word_of};
+ghost use Rattle.command_line.specs.Told.{AreExplained, Asks, IsCourse, IsErrorOf, IsFilling, IsNotation, NamesCount, NamesGeneral, Says, campaigns, has, is_of, is_raw, is_table, programs, word_of};
 
 use crate::errors::{Misuse, TaskError};
-use crate::generals::{GeneralsError, count, general, generals, order};
-use crate::tasks::{Account, Filling, Lieutenants, Notation, Spelling, Task};
+use crate::generals::{GeneralsError, count, depth, general, generals, order};
+use crate::tasks::{
+    Account, Course, Drawing, Filling, Lieutenants, Notation, Request, Spelling, Task,
+};
 use clap::ArgMatches;
 use clap::parser::ValueSource;
 use std::alloc::{AllocError, Global};
@@ -65,8 +68,21 @@ impl<'m, 'a> Met<'m, 'a> {
         })
     }
 
+    /// What is asked for.
+    pub(crate) fn request(self, alloc: Global) -> Result<Request, TaskError>
+        requires { has_places (told_by self) ≡ true }
+        ensures request { IfOk result (Asks (told_by self.entry)) }
+        ensures refused { IfErr result (IsErrorOf (told_by self.entry)) }
+    {
+        Ok(Request {
+            json: self.has("json"),
+            verdicts: self.has("verdicts"),
+            task: self.task(alloc)?,
+        })
+    }
+
     /// The task of the subcommand.
-    pub(crate) fn task(self, alloc: Global) -> Result<Task, TaskError>
+    fn task(self, alloc: Global) -> Result<Task, TaskError>
         requires { has_places (told_by self) ≡ true }
         ensures task { IfOk result (Says (told_by self.entry)) }
         ensures refused { IfErr result (IsErrorOf (told_by self.entry)) }
@@ -81,6 +97,9 @@ impl<'m, 'a> Met<'m, 'a> {
             "play" => self.play(alloc),
             "audit" => self.audit(alloc),
             "explore" => self.explore(alloc),
+            "tree" => self.tree(alloc),
+            "draw" => self.draw(alloc),
+            "schedule" => self.retrace(alloc),
             _ => unreachable!(),
         }
     }
@@ -108,7 +127,26 @@ impl<'m, 'a> Met<'m, 'a> {
         ensures task { IfOk result (Says (told_by self.entry)) }
         ensures refused { IfErr result (IsErrorOf (told_by self.entry)) }
     {
+        if self.has("partial") {
+            return self.assemble_partly(alloc);
+        }
         Ok(Task::Assemble {
+            text: self.required(alloc, "FILE")?,
+            spelling: self.spelling(),
+            target: self.optional(alloc, "target")?,
+            explained: self.has("explain"),
+        })
+    }
+
+    /// The task of `asm --partial`.
+    fn assemble_partly(self, alloc: Global) -> Result<Task, TaskError>
+        requires name { self.name.now ≡ codes "asm" }
+        requires file { has (codes "FILE") (told_by self) ≡ true }
+        requires partial { has (codes "partial") (told_by self) ≡ true }
+        ensures task { IfOk result (Says (told_by self.entry)) }
+        ensures refused { IfErr result (IsErrorOf (told_by self.entry)) }
+    {
+        Ok(Task::AssemblePartly {
             text: self.required(alloc, "FILE")?,
             spelling: self.spelling(),
             target: self.optional(alloc, "target")?,
@@ -123,10 +161,31 @@ impl<'m, 'a> Met<'m, 'a> {
         ensures task { IfOk result (Says (told_by self.entry)) }
         ensures refused { IfErr result (IsErrorOf (told_by self.entry)) }
     {
+        if self.has("partial") {
+            return self.disassemble_partly(alloc);
+        }
         Ok(Task::Disassemble {
             program: self.required(alloc, "FILE")?,
             notation: self.notation(alloc)?,
             units: self.has("units"),
+            explained: self.has("explain"),
+        })
+    }
+
+    /// The task of `dis --partial`.
+    fn disassemble_partly(self, alloc: Global) -> Result<Task, TaskError>
+        requires name { self.name.now ≡ codes "dis" }
+        requires file { has (codes "FILE") (told_by self) ≡ true }
+        requires partial { has (codes "partial") (told_by self) ≡ true }
+        ensures task { IfOk result (Says (told_by self.entry)) }
+        ensures refused { IfErr result (IsErrorOf (told_by self.entry)) }
+    {
+        if self.has("units") {
+            return Err(TaskError::Misuse(Misuse::UnitsOfParts));
+        }
+        Ok(Task::DisassemblePartly {
+            program: self.required(alloc, "FILE")?,
+            notation: self.notation(alloc)?,
             explained: self.has("explain"),
         })
     }
@@ -244,6 +303,134 @@ impl<'m, 'a> Met<'m, 'a> {
             Some(most) => Ok(Some(most)),
             None => Err(TaskError::Misuse(Misuse::Most(String::from_str(alloc, word)?))),
         }
+    }
+
+    /// The task of `tree`.
+    fn tree(self, alloc: Global) -> Result<Task, TaskError>
+        requires name { self.name.now ≡ codes "tree" }
+        requires file { has (codes "FILE") (told_by self) ≡ true }
+        ensures task { IfOk result (Says (told_by self.entry)) }
+        ensures refused { IfErr result (IsErrorOf (told_by self.entry)) }
+    {
+        Ok(Task::Tree {
+            file: self.required(alloc, "FILE")?,
+            general: self.whose(alloc)?,
+            traitors: self.traitors(alloc)?,
+            drawing: self.drawing()?,
+            depth: self.depth(alloc)?,
+            folded: self.has("fold"),
+        })
+    }
+
+    /// Whose tree is drawn.
+    fn whose(self, alloc: Global) -> Result<u8, TaskError>
+        requires { is_of (codes "tree" ∷ []) (told_by self) ≡ true }
+        ensures named { IfOk result (λ g. NamesGeneral (codes "of") (told_by self.entry) (Some g)) }
+        ensures refused { IfErr result (IsErrorOf (told_by self.entry)) }
+    {
+        let Some(word) = self.value("of") else {
+            return Err(TaskError::Misuse(Misuse::NobodyNamed));
+        };
+        match general(word.as_bytes()) {
+            Some(general) => Ok(general),
+            None => Err(TaskError::Misuse(Misuse::Of(String::from_str(alloc, word)?))),
+        }
+    }
+
+    /// Whose lies are marked.
+    fn traitors(self, alloc: Global) -> Result<Vec<u8>, TaskError>
+        requires { is_of (codes "tree" ∷ []) (told_by self) ≡ true }
+        ensures named { IfOk result (λ traitors. named true (word_of (codes "traitors") (told_by self.entry)) ≡ Some traitors.items) }
+        ensures refused { IfErr result (IsErrorOf (told_by self.entry)) }
+    {
+        let Some(word) = self.value("traitors") else {
+            return Ok(Vec::new(alloc));
+        };
+        match generals(alloc, word) {
+            Ok(traitors) => Ok(traitors),
+            Err(GeneralsError::NoGeneral) => {
+                let word = String::from_str(alloc, word)?;
+                Err(TaskError::Misuse(Misuse::Traitors(word)))
+            }
+            Err(GeneralsError::Memory) => Err(TaskError::Memory),
+        }
+    }
+
+    /// How a tree is drawn.
+    fn drawing(self) -> Result<Drawing, TaskError>
+        requires { is_of (codes "tree" ∷ []) (told_by self) ≡ true }
+        ensures drawing { IfOk result (IsDrawing (told_by self.entry)) }
+        ensures refused { IfErr result (IsErrorOf (told_by self.entry)) }
+    {
+        match (self.has("ascii"), self.has("dot"), self.has("svg")) {
+            (false, false, false) => Ok(Drawing::Boxes),
+            (true, false, false) => Ok(Drawing::Ascii),
+            (false, true, false) => Ok(Drawing::Graph),
+            (false, false, true) => Ok(Drawing::Svg),
+            (true, true, _) | (true, _, true) | (_, true, true) => {
+                Err(TaskError::Misuse(Misuse::TwoDrawings))
+            }
+        }
+    }
+
+    /// How many levels of a tree are drawn.
+    fn depth(self, alloc: Global) -> Result<u8, TaskError>
+        requires { is_of (codes "tree" ∷ []) (told_by self) ≡ true }
+        ensures levels { IfOk result (λ depth. levels_in (word_of (codes "depth") (told_by self.entry)) ≡ Some depth) }
+        ensures refused { IfErr result (IsErrorOf (told_by self.entry)) }
+    {
+        let Some(word) = self.value("depth") else {
+            return Ok(4);
+        };
+        match depth(word.as_bytes()) {
+            Some(depth) => Ok(depth),
+            None => Err(TaskError::Misuse(Misuse::Depth(String::from_str(alloc, word)?))),
+        }
+    }
+
+    /// The task of `draw`.
+    fn draw(self, alloc: Global) -> Result<Task, TaskError>
+        requires name { self.name.now ≡ codes "draw" }
+        requires scenario { has (codes "SCENARIO") (told_by self) ≡ true }
+        ensures task { IfOk result (Says (told_by self.entry)) }
+        ensures refused { IfErr result (IsErrorOf (told_by self.entry)) }
+    {
+        Ok(Task::Draw {
+            scenario: self.required(alloc, "SCENARIO")?,
+            course: self.course(alloc)?,
+        })
+    }
+
+    /// Which course a campaign takes.
+    fn course(self, alloc: Global) -> Result<Course, TaskError>
+        requires { is_of (codes "draw" ∷ []) (told_by self) ≡ true }
+        ensures course { IfOk result (IsCourse (told_by self.entry)) }
+        ensures refused { IfErr result (IsErrorOf (told_by self.entry)) }
+    {
+        let schedule = self.optional(alloc, "schedule")?;
+        let Some(chronicle) = self.optional(alloc, "chronicle")? else {
+            return Ok(Course::Scheduled(schedule));
+        };
+        if schedule.is_some() {
+            return Err(TaskError::Misuse(Misuse::TwoCourses));
+        }
+        Ok(Course::Recorded(chronicle))
+    }
+
+    /// The task of `schedule`.
+    fn retrace(self, alloc: Global) -> Result<Task, TaskError>
+        requires name { self.name.now ≡ codes "schedule" }
+        requires scenario { has (codes "SCENARIO") (told_by self) ≡ true }
+        requires chronicle { has (codes "CHRONICLE") (told_by self) ≡ true }
+        ensures task { IfOk result (Says (told_by self.entry)) }
+        ensures refused { IfErr result (IsErrorOf (told_by self.entry)) }
+    {
+        let scenario = self.required(alloc, "SCENARIO")?;
+        let chronicle = self.required(alloc, "CHRONICLE")?;
+        Ok(Task::Retrace {
+            scenario,
+            chronicle,
+        })
     }
 
     /// How the program is written.

@@ -2,18 +2,18 @@ ghost use Rattle.std.specs.Prelude.{◌≡◌, ◌≢◌, IfOk, IfErr, IsSomeAnd
 ghost use Rattle.clap.specs.Words.{IsAmong, fault_of, kind_of};
 ghost use Rattle.command_line.specs.Asked.{asked, spelt, words_of};
 ghost use Rattle.command_line.specs.Lab.{lab_app};
-ghost use Rattle.command_line.specs.Told.{IfMisuse, IfRefused, IfWords, IsMisused, Says};
+ghost use Rattle.command_line.specs.Told.{Asks, IfMisuse, IfRefused, IfWords, IsMisused};
 
 use crate::errors::TaskError;
 use crate::lab::lab_command;
 use crate::met::Met;
-use crate::tasks::Task;
+use crate::tasks::Request;
 use clap::error::ErrorKind;
 use std::alloc::Global;
 
 /// Reads the words behind the program's name.
-pub fn task(alloc: Global, words: &[&str]) -> Result<Task, TaskError>
-    ensures found { IfOk result (λ task. IsSomeAnd (asked (words_of words.now)) (λ told. Says told task)) }
+pub fn request(alloc: Global, words: &[&str]) -> Result<Request, TaskError>
+    ensures found { IfOk result (λ request. IsSomeAnd (asked (words_of words.now)) (λ told. Asks told request)) }
     ensures refused { IfErr result (λ error. IfRefused error (asked (words_of words.now) ≡ None)) }
 
     // Which kind of error it is, and so its exit status.
@@ -26,7 +26,7 @@ pub fn task(alloc: Global, words: &[&str]) -> Result<Task, TaskError>
 {
     let lab = lab_command(alloc)?;
     match lab.try_get_matches_from(words) {
-        Ok(matches) => Met::of(&matches).task(alloc),
+        Ok(matches) => Met::of(&matches).request(alloc),
         Err(error) => {
             if error.kind() == ErrorKind::OutOfMemory {
                 return Err(TaskError::Memory);

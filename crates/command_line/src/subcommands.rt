@@ -8,6 +8,10 @@ const EXPLAIN_DECISIONS: &str = "Tells how each decision comes about, or why a f
 
 const ENTRY: &str = "The function of the object; without it, its only global one";
 
+const JSON: &str = "Prints JSON Lines, an object for each line, and what is refused as one too";
+
+const VERDICTS: &str = "Prints one line for each file, and takes several";
+
 const OF: &str = "Explains this lieutenant's decision alone";
 
 const BYTECODE: Place<'static> = Place {
@@ -15,12 +19,22 @@ const BYTECODE: Place<'static> = Place {
     help: "The program, as raw bytecode",
 };
 
+const TOLD: Place<'static> = Place {
+    name: "FILE",
+    help: "The message table: who told whom what",
+};
+
 const SCENARIO: Place<'static> = Place {
     name: "SCENARIO",
     help: "The campaign, as TOML: the generals, the order, the traitors' programs",
 };
 
-const CHECK: Subcommand<'static> = Subcommand {
+const CHRONICLE: Place<'static> = Place {
+    name: "CHRONICLE",
+    help: "What `play` or `muster` has printed of this campaign",
+};
+
+pub(crate) const CHECK: Subcommand<'static> = Subcommand {
     name: "check",
     about: "Verifies a program and runs it",
     places: &[BYTECODE],
@@ -40,6 +54,14 @@ const CHECK: Subcommand<'static> = Subcommand {
         Flag::Switch {
             name: "trace",
             help: "Tells each step of the run",
+        },
+        Flag::Switch {
+            name: "json",
+            help: JSON,
+        },
+        Flag::Switch {
+            name: "verdicts",
+            help: VERDICTS,
         },
         Flag::Option {
             name: "context",
@@ -70,6 +92,10 @@ const ASM: Subcommand<'static> = Subcommand {
             name: "explain",
             help: "Shows a refused line, and says what was wanted there",
         },
+        Flag::Switch {
+            name: "partial",
+            help: "Takes units as bytes too, as `dis --partial` writes them",
+        },
         Flag::Letter {
             name: "target",
             letter: 'o',
@@ -96,6 +122,10 @@ const DIS: Subcommand<'static> = Subcommand {
             name: "explain",
             help: "Says what is wrong with refused bytes",
         },
+        Flag::Switch {
+            name: "partial",
+            help: "Writes a unit that cannot be decoded as bytes, and why, and goes on",
+        },
         Flag::Option {
             name: "entry",
             value: "NAME",
@@ -107,14 +137,15 @@ const DIS: Subcommand<'static> = Subcommand {
 const BOOK: Subcommand<'static> = Subcommand {
     name: "book",
     about: "Computes the decisions of a message table",
-    places: &[Place {
-        name: "FILE",
-        help: "The message table: who told whom what",
-    }],
+    places: &[TOLD],
     flags: &[
         Flag::Switch {
             name: "explain",
             help: "Tells how each decision comes about",
+        },
+        Flag::Switch {
+            name: "json",
+            help: JSON,
         },
         Flag::Option {
             name: "traitors",
@@ -164,6 +195,10 @@ const MUSTER: Subcommand<'static> = Subcommand {
             name: "explain",
             help: EXPLAIN_DECISIONS,
         },
+        Flag::Switch {
+            name: "json",
+            help: JSON,
+        },
         Flag::Option {
             name: "of",
             value: "G",
@@ -172,7 +207,7 @@ const MUSTER: Subcommand<'static> = Subcommand {
     ],
 };
 
-const PLAY: Subcommand<'static> = Subcommand {
+pub(crate) const PLAY: Subcommand<'static> = Subcommand {
     name: "play",
     about: "Plays a campaign and prints its chronicle",
     places: &[SCENARIO],
@@ -184,6 +219,14 @@ const PLAY: Subcommand<'static> = Subcommand {
         Flag::Switch {
             name: "explain",
             help: EXPLAIN_DECISIONS,
+        },
+        Flag::Switch {
+            name: "json",
+            help: JSON,
+        },
+        Flag::Switch {
+            name: "verdicts",
+            help: VERDICTS,
         },
         Flag::Option {
             name: "schedule",
@@ -198,20 +241,22 @@ const PLAY: Subcommand<'static> = Subcommand {
     ],
 };
 
-const AUDIT: Subcommand<'static> = Subcommand {
+pub(crate) const AUDIT: Subcommand<'static> = Subcommand {
     name: "audit",
     about: "Replays a chronicle and says whether it is sound",
-    places: &[
-        SCENARIO,
-        Place {
-            name: "CHRONICLE",
-            help: "What `play` or `muster` has printed of this campaign",
-        },
-    ],
+    places: &[SCENARIO, CHRONICLE],
     flags: &[
         Flag::Switch {
             name: "explain",
             help: EXPLAIN_DECISIONS,
+        },
+        Flag::Switch {
+            name: "json",
+            help: JSON,
+        },
+        Flag::Switch {
+            name: "verdicts",
+            help: VERDICTS,
         },
         Flag::Option {
             name: "of",
@@ -232,7 +277,74 @@ const EXPLORE: Subcommand<'static> = Subcommand {
     }],
 };
 
+const TREE: Subcommand<'static> = Subcommand {
+    name: "tree",
+    about: "Draws what a lieutenant was told, by a message table or in a campaign",
+    places: &[Place {
+        name: "FILE",
+        help: "A message table, or a campaign as TOML, which is played without a schedule",
+    }],
+    flags: &[
+        Flag::Switch {
+            name: "ascii",
+            help: "Draws lines by characters of ASCII in place of box-drawing ones",
+        },
+        Flag::Switch {
+            name: "dot",
+            help: "Draws a graph, for the program dot of Graphviz",
+        },
+        Flag::Switch {
+            name: "svg",
+            help: "Draws a picture in SVG",
+        },
+        Flag::Switch {
+            name: "fold",
+            help: "Leaves out what is below a label where all tell the same",
+        },
+        Flag::Option {
+            name: "of",
+            value: "G",
+            help: "The lieutenant",
+        },
+        Flag::Option {
+            name: "traitors",
+            value: "G,H",
+            help: "Marks the lies of these generals",
+        },
+        Flag::Option {
+            name: "depth",
+            value: "D",
+            help: "How many levels below the commander's are drawn; without it all",
+        },
+    ],
+};
+
+const DRAW: Subcommand<'static> = Subcommand {
+    name: "draw",
+    about: "Draws a campaign as a space-time diagram in SVG",
+    places: &[SCENARIO],
+    flags: &[
+        Flag::Option {
+            name: "schedule",
+            value: "FILE",
+            help: "The order of the turns; without it each round is punctual",
+        },
+        Flag::Option {
+            name: "chronicle",
+            value: "FILE",
+            help: "Draws what this chronicle tells",
+        },
+    ],
+};
+
+const SCHEDULE: Subcommand<'static> = Subcommand {
+    name: "schedule",
+    about: "Prints the schedule by which a campaign has a chronicle",
+    places: &[SCENARIO, CHRONICLE],
+    flags: &[],
+};
+
 /// All subcommands, as help lists them.
 pub(crate) const SUBCOMMANDS: &[Subcommand<'static>] = &[
-    CHECK, ASM, DIS, BOOK, TABLE, MUSTER, PLAY, AUDIT, EXPLORE,
+    CHECK, ASM, DIS, BOOK, TABLE, MUSTER, PLAY, AUDIT, EXPLORE, TREE, DRAW, SCHEDULE,
 ];

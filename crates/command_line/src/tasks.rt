@@ -1,4 +1,14 @@
-/// What the words ask for: a subcommand with the names of its files, and what its flags say.
+/// What the words ask for: a task, and how its answer is printed.
+#[derive(Debug, Drop, PartialEq, Eq)]
+pub struct Request {
+    pub task: Task,
+    /// As JSON Lines, an object for each line.
+    pub json: bool,
+    /// By one line alone, behind the file's name.
+    pub verdicts: bool,
+}
+
+/// A subcommand with the names of its files, and what its flags say.
 #[derive(Debug, Drop, PartialEq, Eq)]
 pub enum Task {
     /// Verify a program and run it, in the context that a second file tells where one is named. Where it is asked for,
@@ -17,11 +27,24 @@ pub enum Task {
         target: Option<String>,
         explained: bool,
     },
+    /// The same of a text that has units as bytes, line by line, where names stand for nothing.
+    AssemblePartly {
+        text: String,
+        spelling: Spelling,
+        target: Option<String>,
+        explained: bool,
+    },
     /// Translate a program into assembly, with the unit before each instruction where `units` is set.
     Disassemble {
         program: String,
         notation: Notation,
         units: bool,
+        explained: bool,
+    },
+    /// Translate what of it can be decoded, and the other units as bytes.
+    DisassemblePartly {
+        program: String,
+        notation: Notation,
         explained: bool,
     },
     /// Compute the decisions of a message table.
@@ -61,6 +84,26 @@ pub enum Task {
         scenario: String,
         most: Option<u64>,
     },
+    /// Draw what this general was told by a message table or in a campaign, so many levels below the commander's, 0 to 4, with the lies of
+    /// these marked, and without what is below a label where all tell the same, if it is to be folded.
+    Tree {
+        file: String,
+        general: u8,
+        traitors: Vec<u8>,
+        drawing: Drawing,
+        depth: u8,
+        folded: bool,
+    },
+    /// Draw a campaign that takes this course.
+    Draw {
+        scenario: String,
+        course: Course,
+    },
+    /// Print the schedule by which a campaign has a chronicle.
+    Retrace {
+        scenario: String,
+        chronicle: String,
+    },
 }
 
 /// How a program is written.
@@ -89,6 +132,28 @@ pub struct Filling {
     pub order: u32,
     /// The general whose lines are left to be edited.
     pub liar: Option<u8>,
+}
+
+/// How a tree is drawn.
+#[derive(Clone, Copy, Debug, PartialEq, Eq)]
+pub enum Drawing {
+    /// As lines of text, by box-drawing characters.
+    Boxes,
+    /// As lines of text, by characters of ASCII.
+    Ascii,
+    /// As a graph, for Graphviz.
+    Graph,
+    /// In SVG.
+    Svg,
+}
+
+/// Which course a campaign takes.
+#[derive(Debug, Drop, PartialEq, Eq)]
+pub enum Course {
+    /// That of the schedule of this file or, where none is named, of the empty one.
+    Scheduled(Option<String>),
+    /// That which the chronicle of this file tells.
+    Recorded(String),
 }
 
 /// How a campaign that is played is told.
@@ -120,13 +185,18 @@ impl Task {
         match self {
             Task::Check { program: file, .. }
             | Task::Assemble { text: file, .. }
+            | Task::AssemblePartly { text: file, .. }
             | Task::Disassemble { program: file, .. }
+            | Task::DisassemblePartly { program: file, .. }
             | Task::Book(file)
             | Task::ExplainDecisions { table: file, .. }
             | Task::Play { scenario: file, .. }
             | Task::Muster { scenario: file, .. }
             | Task::Audit { scenario: file, .. }
-            | Task::Explore { scenario: file, .. } => Some(file.as_str()),
+            | Task::Explore { scenario: file, .. }
+            | Task::Tree { file, .. }
+            | Task::Draw { scenario: file, .. }
+            | Task::Retrace { scenario: file, .. } => Some(file.as_str()),
             Task::Form { .. } => None,
         }
     }
@@ -138,7 +208,17 @@ impl Task {
         match self {
             Task::Check { context, .. } => context.as_deref(),
             Task::Play { schedule, .. } => schedule.as_deref(),
-            Task::Audit { chronicle, .. } => Some(chronicle.as_str()),
+            Task::Audit { chronicle, .. } | Task::Retrace { chronicle, .. } => {
+                Some(chronicle.as_str())
+            }
+            Task::Draw {
+                course: Course::Scheduled(schedule),
+                ..
+            } => schedule.as_deref(),
+            Task::Draw {
+                course: Course::Recorded(chronicle),
+                ..
+            } => Some(chronicle.as_str()),
             _ => None,
         }
     }
@@ -149,6 +229,7 @@ impl Task {
     {
         match self {
             Task::Assemble { target, .. } => target.as_deref(),
+            Task::AssemblePartly { target, .. } => target.as_deref(),
             _ => None,
         }
     }

@@ -5,11 +5,11 @@ use Rattle.diagram.specs.declared.stroke.Stroke.{Stroke}
 use Rattle.diagram.specs.Words.{shown_words}
 
 abbrev pub column : ℕ → ℕ
-column g = 120 + 200 * g
+column g = 120 + 208 * g
 
 -- the board's column, beside those of so many generals
 abbrev pub board : ℕ → ℕ
-board n = 120 + 200 * n
+board n = 120 + 208 * n
 
 -- how much room what is said of accesses takes beside the board: 7 for each byte
 abbrev pub room : Access → ℕ
@@ -19,9 +19,9 @@ abbrev pub widest : List Access → ℕ
 widest [] = 0
 widest (a ∷ accesses) = max (room a) (widest accesses)
 
--- how wide the picture is
+-- how wide the picture is: at least so much that the words above and below its columns are not cut
 abbrev pub width : ℕ → List Access → ℕ
-width n accesses = board n + widest accesses
+width n accesses = max 760 (board n + widest accesses)
 
 abbrev pub is_in : ℕ → Access → Bool
 is_in round a = a.round == round

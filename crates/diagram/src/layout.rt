@@ -1,32 +1,35 @@
 //! Where the parts of a picture stand, in units of it: a column for each general, and a band for each round.
 ghost use Rattle.std.specs.Prelude.{◌≡◌, ◌<◌, ◌+◌, ◌*◌, ◌^◌, count_by, IfOk};
-ghost use Rattle.diagram.specs.Layout.{access_top, board, column, fan_top, height, is_earlier, is_in, most, reach, rows_top, room, top_of, widest};
+ghost use Rattle.diagram.specs.Layout.{access_top, board, column, fan_top, height, is_earlier, is_in, most, reach, rows_top, room, top_of, widest, width};
 
 use crate::stroke::Stroke;
 use crate::words::put_shown;
 use board::Access;
 use std::alloc::{AllocError, Global};
 
-/// Where the column of a general is.
+/// How wide a picture is at least, so that the words above and below its columns are not cut.
+const LEAST: u128 = 760;
+
+/// Where the column of a general is: as far from the next as the longest row of a list is.
 pub(crate) fn column(general: u32) -> u128
     ensures { result ≡ column general }
 {
-    120 + 200 * u128::from(general)
+    120 + 208 * u128::from(general)
 }
 
 /// Where the column of the board is, beside those of so many generals.
 pub(crate) fn board(generals: u8) -> u128
     ensures { result ≡ board generals }
 {
-    120 + 200 * u128::from(generals)
+    120 + 208 * u128::from(generals)
 }
 
 /// How wide the picture is: with room beside the board for what is said of accesses.
 pub(crate) fn width(alloc: Global, generals: u8, accesses: &[Access]) -> Result<u128, AllocError>
-    ensures value { IfOk result (λ width. width ≡ board generals + widest accesses.now) }
-    ensures small { IfOk result (λ width. width < 2 ^ 101) }
+    ensures value { IfOk result (λ wide. wide ≡ width generals accesses.now) }
+    ensures small { IfOk result (λ wide. wide < 2 ^ 101) }
 {
-    Ok(board(generals) + widest(alloc, accesses)?)
+    Ok(LEAST.max(board(generals) + widest(alloc, accesses)?))
 }
 
 /// How much room what is said of accesses takes beside the board.

@@ -6,13 +6,13 @@ use Rattle.elf.specs.declared.symbol.Symbol.{Symbol}
 use Rattle.elf.specs.declared.fault.Damage.{Damage}
 use Rattle.elf.specs.declared.fault.Damage.TheVariants as damages
 use Rattle.elf.specs.First.{first_some, or_else}
-use Rattle.elf.specs.Section.{section_at, section_bytes, is_relocations}
+use Rattle.elf.specs.Section.{section_at, section_bytes, has_no_bytes, is_relocations}
 use Rattle.elf.specs.Symbol.{symbol_at, is_function}
 use Rattle.elf.specs.Relocation.{relocation_size, relocation_at}
 
--- a section without bytes in the file (SHT_NULL, SHT_NOBITS), or one whose bytes are there
+-- a section without bytes in the file, or one whose bytes are there
 abbrev pub is_section_whole : List ℕ → Section → Bool
-is_section_whole object section = (section.kind == 0) || (section.kind == 8) || nat_le (section.start + section.size) (length object)
+is_section_whole object section = has_no_bytes section || nat_le (section.start + section.size) (length object)
 
 abbrev pub section_damage : List ℕ → List ℕ → ℕ → Option Damage
 section_damage object table index = if is_section_whole object (section_at index table) then None else Some (damages.Section index)

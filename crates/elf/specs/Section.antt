@@ -1,6 +1,6 @@
 -- The header and the sections of an object, as far as they are looked at (System V ABI, "ELF Header" and "Sections":
 -- Elf64_Ehdr, Elf64_Shdr).
-use Rattle.std.specs.Prelude.{ℕ, ◌+◌, ◌*◌, ◌/◌, ◌%◌, List, length, Bool, ◌==◌, ◌&&◌, ◌||◌, nat_le}
+use Rattle.std.specs.Prelude.{ℕ, ◌+◌, ◌*◌, ◌/◌, ◌%◌, List, [], length, Bool, ◌==◌, ◌&&◌, ◌||◌, nat_le, if◌then◌else◌}
 use Rattle.elf.specs.declared.section.Section.{Section}
 use Rattle.elf.specs.Number.{number_at, window}
 
@@ -34,9 +34,13 @@ section_at index table = record {
   info = number_at 4 (64 * index + 44) table;
 }
 
+-- SHT_NULL or SHT_NOBITS: it has no bytes in the file
+abbrev pub has_no_bytes : Section → Bool
+has_no_bytes section = (section.kind == 0) || (section.kind == 8)
+
 -- its part of the file; none where that is not all there
-abbrev pub section_bytes : List ℕ → Section → List ℕ
-section_bytes object section = window section.start section.size object
+unfoldable pub section_bytes : List ℕ → Section → List ℕ
+section_bytes object section = if has_no_bytes section then [] else window section.start section.size object
 
 -- SHT_PROGBITS with SHF_EXECINSTR
 abbrev pub is_code : Section → Bool

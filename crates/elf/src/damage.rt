@@ -12,9 +12,7 @@ fn has_section(object: &[u8], section: Section) -> bool
     ensures { result ≡ is_section_whole object.now section }
 {
     let length = object.len() as u64;
-    section.kind == 0
-        || section.kind == 8
-        || (section.size <= length && section.start <= length - section.size)
+    section.has_no_bytes() || (section.size <= length && section.start <= length - section.size)
 }
 
 /// What is damaged of a section.

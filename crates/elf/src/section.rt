@@ -61,7 +61,7 @@ pub struct Section {
 
 impl Section {
     ghost use Rattle.std.specs.Prelude.{◌≡◌, ◌<◌, ◌^◌};
-    ghost use Rattle.elf.specs.Section.{section_at, section_bytes, is_code, is_relocations};
+    ghost use Rattle.elf.specs.Section.{section_at, section_bytes, has_no_bytes, is_code, is_relocations};
 
     /// The header of this number; zeros past the table.
     pub fn read(table: &[u8], index: usize) -> Section
@@ -79,10 +79,21 @@ impl Section {
         }
     }
 
+    /// Whether it has no bytes in the file (SHT_NULL, SHT_NOBITS).
+    pub fn has_no_bytes(self) -> bool
+        ensures { result ≡ has_no_bytes self }
+    {
+        self.kind == 0 || self.kind == 8
+    }
+
     /// Its part of the file; none where that is not all there.
+    #[tactic(auto, unfolding(crate::specs::Section::section_bytes))]
     pub fn bytes(self, object: &[u8]) -> &[u8]
         ensures { result.now ≡ section_bytes object.now self }
     {
+        if self.has_no_bytes() {
+            return &[];
+        }
         window(object, self.start, self.size)
     }
 

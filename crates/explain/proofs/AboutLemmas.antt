@@ -1,24 +1,23 @@
 -- What is said of a refusal, from its parts.
-use Rattle.std.proofs.Common.{◌≡◌, ◌∙◌, ℕ, suc, ◌+◌, List, ◌++◌, Bool, false, Option, Some, Result, Ok, Err, ap, append_assoc, arith, length, subst, sym}
+use Rattle.std.proofs.Common.{◌≡◌, ◌∙◌, ℕ, suc, ◌+◌, List, ◌++◌, Bool, true, false, Option, Some, Result, Ok, Err, ap, append_assoc, arith, length, subst, sym}
 use Rattle.std.specs.Prelude.{OnOk, if◌then◌else◌}
 use Rattle.insn.specs.declared.insn.Insn.{Insn}
 use Rattle.insn.specs.Program.{slots_of, instruction_at}
-use Rattle.absmem.specs.Known.{Known}
 use Rattle.verify.specs.declared.error.VerifyError.{VerifyError}
 use Rattle.verify.specs.declared.error.VerifyError.TheVariants.{At}
 use Rattle.verify.specs.declared.reason.Reason.{Reason}
 use Rattle.verify.specs.declared.state.AbsState.{AbsState}
-use Rattle.causes.specs.declared.cells.Content.{Content}
 use Rattle.causes.specs.declared.mark.Mark.{Mark}
 use Rattle.causes.specs.declared.subject.Subject.{Subject}
-use Rattle.causes.specs.Contents.{held_at, same_content}
 use Rattle.causes.specs.Marks.{KnownByUnit, known_by, marks}
 use Rattle.explain.specs.declared.sentence.Sentence.{Sentence}
 use Rattle.explain.specs.declared.wanted.Choice.{Choice}
+use Rattle.explain.specs.Sources.{Holding, same_holding}
 use Rattle.explain.specs.Cells.{ended_text, runs_text}
-use Rattle.explain.specs.Notes.{subject_of, notes_below}
+use Rattle.explain.specs.Notes.{subject_of, notes_on, number_notes}
+use Rattle.explain.specs.Origins.{other_number}
 use Rattle.explain.specs.Helps.{wanted, help_on}
-use Rattle.explain.specs.Units.{Places}
+use Rattle.explain.specs.Units.{Writing}
 use Rattle.explain.specs.Explained.{sentence_of, about_text, told_text, refused_at, refused_text}
 
 -- what follows where a call returns
@@ -28,38 +27,54 @@ on_ok (Err e) P Q f h = tt
 
 -- ---- cells of which the next holds something else
 
-pub runs_apart : (out middle last : List ℕ) (known : Known) (first : ℕ) (held next : Content) (place more less : ℕ) → more ≡ suc less → next ≡ held_at known place → same_content held next ≡ false →
-    middle ≡ out ++ ended_text first place held → last ≡ middle ++ runs_text known place next (place + 1) less → last ≡ out ++ runs_text known first held place more
-runs_apart out middle last known first held next place more less e here apart before rest =
+pub runs_apart : (out middle last : List ℕ) (holds : ℕ → Holding) (first : ℕ) (held next : Holding) (place more less : ℕ) → more ≡ suc less → next ≡ holds place → same_holding held next ≡ false →
+    middle ≡ out ++ ended_text first place held → last ≡ middle ++ runs_text holds place next (place + 1) less → last ≡ out ++ runs_text holds first held place more
+runs_apart out middle last holds first held next place more less e here apart before rest =
     let one : place + 1 ≡ suc place = omega arith in
     let ended : List ℕ = ended_text first place held in
-    let others : List ℕ = runs_text known place (held_at known place) (suc place) less in
-    let other : same_content held (held_at known place) ≡ false = ap (same_content held) (sym here) ∙ apart in
+    let others : List ℕ = runs_text holds place (holds place) (suc place) less in
+    let other : same_holding held (holds place) ≡ false = ap (same_holding held) (sym here) ∙ apart in
     let parts : last ≡ out ++ (ended ++ others) =
-    rest ∙ (ap (λ (l : List ℕ). l ++ runs_text known place next (place + 1) less) before
-    ∙ (append_assoc out ended (runs_text known place next (place + 1) less) ∙ λ k. out ++ (ended ++ runs_text known place (here k) (one k) less))) in
-    subst (λ (n : ℕ). last ≡ out ++ runs_text known first held place n) (sym e)
-    (parts ∙ ap (λ (t : Bool). out ++ (if t then runs_text known first held (suc place) less else (ended ++ others))) (sym other))
+    rest ∙ (ap (λ (l : List ℕ). l ++ runs_text holds place next (place + 1) less) before
+    ∙ (append_assoc out ended (runs_text holds place next (place + 1) less) ∙ λ k. out ++ (ended ++ runs_text holds place (here k) (one k) less))) in
+    subst (λ (n : ℕ). last ≡ out ++ runs_text holds first held place n) (sym e)
+    (parts ∙ ap (λ (t : Bool). out ++ (if t then runs_text holds first held (suc place) less else (ended ++ others))) (sym other))
+
+pub runs_alike : (out last : List ℕ) (holds : ℕ → Holding) (first : ℕ) (held next : Holding) (place more less : ℕ) → more ≡ suc less → next ≡ holds place → same_holding held next ≡ true →
+    last ≡ out ++ runs_text holds first held (place + 1) less → last ≡ out ++ runs_text holds first held place more
+runs_alike out last holds first held next place more less e here alike rest =
+    let one : place + 1 ≡ suc place = omega arith in
+    let ended : List ℕ = ended_text first place held in
+    let others : List ℕ = runs_text holds place (holds place) (suc place) less in
+    let same : same_holding held (holds place) ≡ true = ap (same_holding held) (sym here) ∙ alike in
+    subst (λ (n : ℕ). last ≡ out ++ runs_text holds first held place n) (sym e)
+    (rest ∙ (ap (λ (n : ℕ). out ++ runs_text holds first held n less) one
+    ∙ ap (λ (t : Bool). out ++ (if t then runs_text holds first held (suc place) less else (ended ++ others))) (sym same)))
 
 -- ---- notes and a help
 
-pub about_so : (places : Places) (out middle last : List ℕ) (survey : KnownByUnit) (program : List Insn) (unit : ℕ) (i : Insn) (s : Sentence) (asked : Subject) (items shown again : List Mark) (choice : Option (ℕ × Choice)) →
-    Some asked ≡ subject_of s → items ≡ marks program survey asked unit → shown ≡ items → again ≡ items → middle ≡ out ++ notes_below places program survey asked shown unit →
-    choice ≡ wanted program again unit i s → last ≡ middle ++ help_on program unit choice → last ≡ out ++ about_text places survey program unit i s (subject_of s)
-about_so places out middle last survey program unit i s asked items shown again choice found all one two notes chosen help =
-    let first : shown ≡ marks program survey asked unit = one ∙ all in
-    let best : choice ≡ wanted program (marks program survey asked unit) unit i s = chosen ∙ ap (λ (m : List Mark). wanted program m unit i s) (two ∙ all) in
-    subst (λ (o : Option Subject). last ≡ out ++ about_text places survey program unit i s o) found
-    (help ∙ (ap (λ (l : List ℕ). l ++ help_on program unit choice) notes
-    ∙ (append_assoc out (notes_below places program survey asked shown unit) (help_on program unit choice)
-    ∙ λ k. out ++ (notes_below places program survey asked (first k) unit ++ help_on program unit (best k)))))
+pub about_so : (written : Writing) (out one two last : List ℕ) (survey : KnownByUnit) (program : List Insn) (unit : ℕ) (i : Insn) (s : Sentence) (asked : Subject) (items shown again : List Mark)
+    (known : Option AbsState) (number : Option ℕ) (choice : Option (ℕ × Choice)) → Some asked ≡ subject_of s → items ≡ marks program survey asked unit → shown ≡ items → again ≡ items →
+    one ≡ out ++ notes_on written program survey asked shown unit → known ≡ known_by (survey unit) → number ≡ other_number i known s → two ≡ one ++ number_notes written program survey unit number →
+    choice ≡ wanted program again unit i s → last ≡ two ++ help_on program unit choice → last ≡ out ++ about_text written survey program unit i s (subject_of s)
+about_so written out one two last survey program unit i s asked items shown again known number choice found all same other notes here moving more chosen help =
+    let first : shown ≡ marks program survey asked unit = same ∙ all in
+    let best : choice ≡ wanted program (marks program survey asked unit) unit i s = chosen ∙ ap (λ (m : List Mark). wanted program m unit i s) (other ∙ all) in
+    let by : number ≡ other_number i (known_by (survey unit)) s = moving ∙ ap (λ (k : Option AbsState). other_number i k s) here in
+    let own : List ℕ = notes_on written program survey asked shown unit in
+    let its : List ℕ = number_notes written program survey unit number in
+    let parts : last ≡ out ++ ((own ++ its) ++ help_on program unit choice) =
+    help ∙ (ap (λ (l : List ℕ). l ++ help_on program unit choice) (more ∙ (ap (λ (l : List ℕ). l ++ its) notes ∙ append_assoc out own its))
+    ∙ append_assoc out (own ++ its) (help_on program unit choice)) in
+    subst (λ (o : Option Subject). last ≡ out ++ about_text written survey program unit i s o) found
+    (parts ∙ λ k. out ++ ((notes_on written program survey asked (first k) unit ++ number_notes written program survey unit (by k)) ++ help_on program unit (best k)))
 
 -- ---- a refusal
 
-pub refused_so : (places : Places) (out last : List ℕ) (survey : KnownByUnit) (program : List Insn) (fault : Option VerifyError) (r : Reason) (unit units : ℕ) (i : Insn) (known : Option AbsState) (s : Option Sentence) →
+pub refused_so : (written : Writing) (out last : List ℕ) (survey : KnownByUnit) (program : List Insn) (fault : Option VerifyError) (r : Reason) (unit units : ℕ) (i : Insn) (known : Option AbsState) (s : Option Sentence) →
     fault ≡ Some (At r unit) → Some i ≡ instruction_at program unit → units ≡ length (slots_of program) → known ≡ known_by (survey unit) → s ≡ sentence_of units r unit i known →
-    last ≡ out ++ told_text places survey program unit i s → last ≡ out ++ refused_text places survey program fault
-refused_so places out last survey program fault r unit units i known s there at all here so told =
+    last ≡ out ++ told_text written survey program unit i s → last ≡ out ++ refused_text written survey program fault
+refused_so written out last survey program fault r unit units i known s there at all here so told =
     let same : s ≡ sentence_of (length (slots_of program)) r unit i (known_by (survey unit)) = so ∙ λ k. sentence_of (all k) r unit i (here k) in
-    subst (λ (o : Option VerifyError). last ≡ out ++ refused_text places survey program o) (sym there)
-    (subst (λ (o : Option Insn). last ≡ out ++ refused_at places survey program r unit o) at (told ∙ λ k. out ++ told_text places survey program unit i (same k)))
+    subst (λ (o : Option VerifyError). last ≡ out ++ refused_text written survey program o) (sym there)
+    (subst (λ (o : Option Insn). last ≡ out ++ refused_at written survey program r unit o) at (told ∙ λ k. out ++ told_text written survey program unit i (same k)))

@@ -1,5 +1,5 @@
 -- With each help that is said the verifier comes past the refused instruction.
-use Rattle.std.proofs.Common.{◌≡◌, ◌∙◌, ℕ, zero, suc, ◌+◌, ◌<◌, List, Bool, true, false, Option, Some, None, length, refl, sym, subst}
+use Rattle.std.proofs.Common.{◌≡◌, ◌∙◌, ℕ, ◌+◌, ◌<◌, List, [], ◌∷◌, Bool, true, false, Option, Some, None, length, refl, sym, subst}
 use Rattle.std.specs.Prelude.{◌&&◌, nat_lt, nat_le, if◌then◌else◌}
 use Rattle.std.proofs.lemmas.Bool.{ltb-true}
 use Rattle.insn.specs.declared.insn.Insn.{Insn}
@@ -11,10 +11,8 @@ use Rattle.verify.specs.Judgement.{judged}
 use Rattle.causes.specs.declared.mends.Edit.{Edit}
 use Rattle.causes.specs.declared.mends.Trial.{Trial}
 use Rattle.causes.specs.declared.mends.Trial.TheVariants.{Refused, Passes, Accepted}
-use Rattle.causes.specs.Mends.{mended, comes, tried_with, tried}
-use Rattle.explain.specs.declared.wanted.Choice.{Choice}
-use Rattle.explain.specs.declared.wanted.Choice.TheVariants.{Mask, One, Either}
-use Rattle.explain.specs.Helps.{unit_behind, Help, better, mask, best_mask, best}
+use Rattle.causes.specs.Mends.{grown, mended, comes, tried_with, tried}
+use Rattle.explain.specs.Helps.{Help, better, best}
 use Rattle.explain.specs.Laws.{Mends, HelpsMend}
 
 -- ---- a trial
@@ -49,10 +47,10 @@ come_so program unit good = by_test (nat_lt 0 (length (slots_of program)) && nat
     by_test true k = refl
     by_test false k = absurd k
 
-of_trial : (program : List Insn) (place unit : ℕ) (edit : Edit) (trial : Trial) → trial ≡ tried edit place program (unit_behind edit unit) → IsGood trial → Mends program place unit edit trial
+of_trial : (program : List Insn) (place unit : ℕ) (edit : Edit) (trial : Trial) → trial ≡ tried edit place program (unit + grown edit) → IsGood trial → Mends program place unit edit trial
 of_trial program place unit edit trial e good =
     let whole : List Insn = mended edit place 0 program in
-    let behind : ℕ = unit_behind edit unit in
+    let behind : ℕ = (unit + grown edit) in
     let so : trial ≡ comes behind (judged whole) = e ∙ come_so whole behind (subst IsGood e good) in
     record {
       past = λ r at h. come_past behind r at (subst (λ (o : Option VerifyError). IsGood (comes behind o)) h (subst IsGood so good));
@@ -66,7 +64,7 @@ abbrev Helps : List Insn → ℕ → ℕ → Option Help → Type 0
 Helps program place unit None = Unit {0}
 Helps program place unit (Some help) = Mends program place unit help.0 help.1
 
-better_helps : (program : List Insn) (place unit : ℕ) (edit : Edit) (trial : Trial) (rest : Option Help) → trial ≡ tried edit place program (unit_behind edit unit) → Helps program place unit rest →
+better_helps : (program : List Insn) (place unit : ℕ) (edit : Edit) (trial : Trial) (rest : Option Help) → trial ≡ tried edit place program (unit + grown edit) → Helps program place unit rest →
     Helps program place unit (better edit trial rest)
 better_helps program place unit edit Accepted rest e h = of_trial program place unit edit Accepted e tt
 better_helps program place unit edit Refused rest e h = h
@@ -75,16 +73,10 @@ better_helps program place unit edit Passes (Some (other, Accepted)) e h = h
 better_helps program place unit edit Passes (Some (other, Passes)) e h = of_trial program place unit edit Passes e tt
 better_helps program place unit edit Passes (Some (other, Refused)) e h = of_trial program place unit edit Passes e tt
 
-masks_help : (program : List Insn) (place unit r bits : ℕ) → Helps program place unit (best_mask program place unit r bits)
-masks_help program place unit r zero = tt
-masks_help program place unit r (suc bits) =
-    better_helps program place unit (mask r (suc bits)) (tried (mask r (suc bits)) place program (unit + 1)) (best_mask program place unit r bits) refl (masks_help program place unit r bits)
-
-best_helps : (program : List Insn) (place unit : ℕ) (choice : Choice) → Helps program place unit (best program place unit choice)
-best_helps program place unit (Mask r) = masks_help program place unit r 6
-best_helps program place unit (One edit) = better_helps program place unit edit (tried edit place program (unit_behind edit unit)) None refl tt
-best_helps program place unit (Either edit r) =
-    better_helps program place unit edit (tried edit place program (unit_behind edit unit)) (best_mask program place unit r 6) refl (masks_help program place unit r 6)
+best_helps : (program : List Insn) (place unit : ℕ) (edits : List Edit) → Helps program place unit (best program place unit edits)
+best_helps program place unit [] = tt
+best_helps program place unit (edit ∷ edits) =
+    better_helps program place unit edit (tried edit place program (unit + grown edit)) (best program place unit edits) refl (best_helps program place unit edits)
 
 pub helps_mend : HelpsMend
-helps_mend program place unit choice edit trial e = subst (λ (o : Option Help). Helps program place unit o) e (best_helps program place unit choice)
+helps_mend program place unit edits edit trial e = subst (λ (o : Option Help). Helps program place unit o) e (best_helps program place unit edits)

@@ -11,3 +11,4 @@ pub mod HelpLaws
 pub mod NoteLemmas
 pub mod AboutLemmas
 pub mod CopyLemmas
+pub mod SayingLemmas

@@ -9,10 +9,10 @@ use Rattle.verify.specs.declared.error.VerifyError.{VerifyError}
 use Rattle.verify.specs.declared.state.AbsState.{AbsState}
 use Rattle.verify.specs.KnownAtUnits.{known_before, IsSurvey}
 use Rattle.causes.specs.Marks.{KnownByUnit}
-use Rattle.explain.specs.Units.{Places}
+use Rattle.explain.specs.Units.{Writing}
 use Rattle.explain.specs.Explained.{known_lines, refused_text, lines_by, known_in, explained_at}
 
-module _ (places : Places) (program : List Insn) (states : List (Option AbsState)) (fault : Option VerifyError) (survey : IsSurvey program states fault) where
+module _ (written : Writing) (program : List Insn) (states : List (Option AbsState)) (fault : Option VerifyError) (survey : IsSurvey program states fault) where
   at_unit : (unit : ℕ) → slice_get states unit ≡ known_in program unit
   at_unit unit = by_test (nat_lt unit (length (slots_of program))) refl
     where
@@ -25,15 +25,15 @@ module _ (places : Places) (program : List Insn) (states : List (Option AbsState
   same_known = λ i unit. at_unit unit i
 
   -- the lines of the survey are those of the program
-  pub survey_explained : lines_by places (slice_get states) program fault ≡ explained_at places program
-  survey_explained = ap₂ (λ (known : KnownByUnit) (why : Option VerifyError). lines_by places known program why) same_known survey.fault_is
+  pub survey_explained : lines_by written (slice_get states) program fault ≡ explained_at written program
+  survey_explained = ap₂ (λ (known : KnownByUnit) (why : Option VerifyError). lines_by written known program why) same_known survey.fault_is
 
 -- a text that grows by the lines of the survey, from nothing
-pub told_whole : (places : Places) (program insns : List Insn) (states shown : List (Option AbsState)) (fault : Option VerifyError) (start middle last : List ℕ) → IsSurvey program states fault
-    → insns ≡ program → shown ≡ states → start ≡ [] → middle ≡ start ++ known_lines places (slice_get shown) fault 0 insns → last ≡ middle ++ refused_text places (slice_get shown) program fault
-    → last ≡ explained_at places program
-told_whole places program insns states shown fault start middle last survey own same empty first second =
+pub told_whole : (written : Writing) (program : List Insn) (states shown : List (Option AbsState)) (fault : Option VerifyError) (start middle last : List ℕ) → IsSurvey program states fault
+    → shown ≡ states → start ≡ [] → middle ≡ start ++ known_lines written program (slice_get shown) fault 0 program → last ≡ middle ++ refused_text written (slice_get shown) program fault
+    → last ≡ explained_at written program
+told_whole written program states shown fault start middle last survey same empty first second =
     second
-    ∙ (ap (λ (text : List ℕ). text ++ refused_text places (slice_get shown) program fault)
-    (first ∙ ap₂ (λ (before : List ℕ) (is : List Insn). before ++ known_lines places (slice_get shown) fault 0 is) empty own)
-    ∙ (ap (λ (s : List (Option AbsState)). lines_by places (slice_get s) program fault) same ∙ survey_explained places program states fault survey))
+    ∙ (ap (λ (text : List ℕ). text ++ refused_text written (slice_get shown) program fault)
+    (first ∙ ap (λ (before : List ℕ). before ++ known_lines written program (slice_get shown) fault 0 program) empty)
+    ∙ (ap (λ (s : List (Option AbsState)). lines_by written (slice_get s) program fault) same ∙ survey_explained written program states fault survey))

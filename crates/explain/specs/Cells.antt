@@ -1,4 +1,4 @@
--- What is known of cells of the stack, as text: [FIRST..LAST] and what they hold, for each cells in a row that hold the same (own).
+-- What is known of cells of the stack, as text: [FIRST..LAST], what they hold and from which units, for each cells in a row that hold the same from the same units (own).
 use Rattle.std.specs.Prelude.{ℕ, ℤ, zero, suc, pos, ◌-ℤ◌, Bool, true, false, if◌then◌else◌, List, [], ◌++◌, Option, Some, None, codes}
 use Rattle.std.specs.Fmt.{signed_decimal}
 use Rattle.std.specs.Ordering.{int_eq}
@@ -12,15 +12,13 @@ use Rattle.absval.specs.declared.value.AbsVal.{AbsVal}
 use Rattle.absval.specs.declared.value.AbsVal.TheVariants.{Pointer}
 use Rattle.absval.specs.declared.windows.Window.{Window}
 use Rattle.absval.specs.Windows.{window_known}
-use Rattle.absmem.specs.Known.{Known}
-use Rattle.verify.specs.declared.state.AbsState.{AbsState}
 use Rattle.verify.specs.Registers.{known_at}
 use Rattle.causes.specs.declared.cells.Content.{Content}
 use Rattle.causes.specs.declared.cells.Content.TheVariants.{Unset, Byte, Piece}
-use Rattle.causes.specs.Contents.{held_at, same_content}
 use Rattle.explain.specs.declared.reach.Reach.{Reach}
 use Rattle.explain.specs.Values.{region_text}
 use Rattle.explain.specs.Shortfalls.{reach_of}
+use Rattle.explain.specs.Sources.{Holding, same_holding, from_text}
 
 abbrev pub content_text : Content → List ℕ
 content_text Unset = codes "perhaps unset"
@@ -28,35 +26,41 @@ content_text Byte = codes "bytes"
 content_text (Piece region offset) = codes "pointer: " ++ region_text region ++ codes " " ++ signed_decimal offset
 
 -- cells by their offsets from the end of the stack, the first and the last of them
+unfoldable pub last_text : ℤ → ℤ → List ℕ
+last_text first last = if int_eq first last then codes "]" else codes ".." ++ signed_decimal last ++ codes "]"
+
 unfoldable pub cells_text : ℤ → ℤ → List ℕ
-cells_text first last =
-    if int_eq first last then codes "[" ++ signed_decimal first ++ codes "]" else codes "[" ++ signed_decimal first ++ codes ".." ++ signed_decimal last ++ codes "]"
+cells_text first last = codes "[" ++ signed_decimal first ++ last_text first last
 
 -- the cells from one place up to another
 abbrev pub run_text : ℕ → ℕ → Content → List ℕ
 run_text first end held = cells_text (pos first -ℤ pos 512) (pos end -ℤ pos 513) ++ codes " " ++ content_text held
 
-abbrev pub ended_text : ℕ → ℕ → Content → List ℕ
-ended_text first end held = run_text first end held ++ codes ", "
+-- and from which units
+abbrev pub sourced_text : ℕ → ℕ → Holding → List ℕ
+sourced_text first end held = run_text first end held.0 ++ from_text held.1
+
+abbrev pub ended_text : ℕ → ℕ → Holding → List ℕ
+ended_text first end held = sourced_text first end held ++ codes ", "
 
 -- those from a place up to one, all of which hold the same, and so many more from there on
-abbrev pub runs_text : Known → ℕ → Content → ℕ → ℕ → List ℕ
-runs_text known first held place zero = run_text first place held
-runs_text known first held place (suc n) =
-    if same_content held (held_at known place) then runs_text known first held (suc place) n
-    else ended_text first place held ++ runs_text known place (held_at known place) (suc place) n
+abbrev pub runs_text : (ℕ → Holding) → ℕ → Holding → ℕ → ℕ → List ℕ
+runs_text holds first held place zero = sourced_text first place held
+runs_text holds first held place (suc n) =
+    if same_holding held (holds place) then runs_text holds first held (suc place) n
+    else ended_text first place held ++ runs_text holds place (holds place) (suc place) n
 
-abbrev pub of_cells : Known → ℕ → ℕ → List ℕ
-of_cells known place zero = []
-of_cells known place (suc n) = codes " ; " ++ runs_text known place (held_at known place) (suc place) n
+abbrev pub of_cells : (ℕ → Holding) → ℕ → ℕ → List ℕ
+of_cells holds place zero = []
+of_cells holds place (suc n) = codes " ; " ++ runs_text holds place (holds place) (suc place) n
 
-abbrev pub of_window : Known → Option Window → List ℕ
-of_window known None = []
-of_window known (Some w) = of_cells known w.place w.size
+abbrev pub of_window : (ℕ → Holding) → Option Window → List ℕ
+of_window holds None = []
+of_window holds (Some w) = of_cells holds w.place w.size
 
-abbrev pub of_reach : Known → Reach → AbsVal → List ℕ
-of_reach known reach (Pointer Stack o) = of_window known (window_known Stack o.0 o.1 reach.distance reach.size)
-of_reach known reach value = []
+abbrev pub of_reach : (ℕ → Holding) → Reach → AbsVal → List ℕ
+of_reach holds reach (Pointer Stack o) = of_window holds (window_known Stack o.0 o.1 reach.distance reach.size)
+of_reach holds reach value = []
 
 -- ---- the cells that an instruction reads
 
@@ -70,9 +74,10 @@ reads_cells (LoadSigned part dst base offset) = true
 reads_cells (Call number) = is_row (helper_of number)
 reads_cells i = false
 
-abbrev pub reached_cells : Option Reach → AbsState → List ℕ
-reached_cells None a = []
-reached_cells (Some reach) a = of_reach a.stack reach (known_at a.registers reach.base)
+abbrev pub reached_cells : (ℕ → Holding) → Option Reach → List AbsVal → List ℕ
+reached_cells holds None registers = []
+reached_cells holds (Some reach) registers = of_reach holds reach (known_at registers reach.base)
 
-abbrev pub cells_read : Insn → AbsState → List ℕ
-cells_read i a = if reads_cells i then reached_cells (reach_of i a.registers) a else []
+-- with what each cell holds there
+abbrev pub cells_read : (ℕ → Holding) → Insn → List AbsVal → List ℕ
+cells_read holds i registers = if reads_cells i then reached_cells holds (reach_of i registers) registers else []

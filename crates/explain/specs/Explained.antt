@@ -5,7 +5,6 @@ use Rattle.insn.specs.declared.insn.Insn.TheVariants.{Jump, LongJump, Branch}
 use Rattle.insn.specs.Insn.{units_of}
 use Rattle.insn.specs.Program.{slots_of, instruction_at}
 use Rattle.absval.specs.declared.value.AbsVal.{AbsVal}
-use Rattle.asm.specs.Printing.{insn_text}
 use Rattle.verify.specs.declared.error.VerifyError.{VerifyError}
 use Rattle.verify.specs.declared.error.VerifyError.TheVariants.{At}
 use Rattle.verify.specs.declared.reason.Reason.{Reason}
@@ -20,9 +19,11 @@ use Rattle.explain.specs.declared.sentence.Structure.TheVariants as structure
 use Rattle.explain.specs.Sentences.{named_text, sentence_text}
 use Rattle.explain.specs.Shortfalls.{shortfall}
 use Rattle.explain.specs.Reads.{read_by}
+use Rattle.explain.specs.Sources.{holding}
 use Rattle.explain.specs.Cells.{cells_read}
-use Rattle.explain.specs.Units.{Places, places_in, unit_text}
-use Rattle.explain.specs.Notes.{subject_of, notes_below}
+use Rattle.explain.specs.Units.{Writing, in_lists, insn_at}
+use Rattle.explain.specs.Origins.{other_number}
+use Rattle.explain.specs.Notes.{subject_of, notes_on, number_notes}
 use Rattle.explain.specs.Helps.{wanted, help_on}
 use Rattle.causes.specs.declared.subject.Subject.{Subject}
 use Rattle.causes.specs.Left.{left, result_of}
@@ -39,16 +40,17 @@ abbrev pub reads_text : List AbsVal → List (Option ℕ) → List ℕ
 reads_text registers (first ∷ second ∷ third ∷ []) = read_text registers first ++ read_text registers second ++ read_text registers third
 reads_text registers _ = []
 
-abbrev pub known_text : Insn → Option AbsState → List ℕ
-known_text i None = codes " ; no way leads here"
-known_text i (Some a) = reads_text a.registers (read_by i) ++ cells_read i a
+-- in a program of which this is known by unit
+abbrev pub known_text : List Insn → KnownByUnit → ℕ → Insn → Option AbsState → List ℕ
+known_text program survey unit i None = codes " ; no way leads here"
+known_text program survey unit i (Some a) = reads_text a.registers (read_by i) ++ cells_read (holding program survey unit a.stack) i a.registers
 
--- `UNIT INSTRUCTION`, or `UNIT (PLACE) INSTRUCTION`, each line behind the end of the one before
-abbrev pub place_text : Places → ℕ → Insn → List ℕ
-place_text places unit i = codes "\n" ++ unit_text places unit ++ codes " " ++ insn_text i
+-- each line behind the end of the one before
+abbrev pub place_text : Writing → ℕ → Insn → List ℕ
+place_text written unit i = codes "\n" ++ insn_at written unit i
 
-abbrev pub unit_line : Places → ℕ → Insn → Option AbsState → List ℕ
-unit_line places unit i known = place_text places unit i ++ known_text i known
+abbrev pub unit_line : Writing → List Insn → KnownByUnit → ℕ → Insn → Option AbsState → List ℕ
+unit_line written program survey unit i known = place_text written unit i ++ known_text program survey unit i known
 
 -- what the register that takes the result is known to be behind the instruction
 abbrev pub result_text : Option ℕ → AbsState → List ℕ
@@ -67,18 +69,19 @@ is_at _ unit = false
 abbrev pub behind_text : Option VerifyError → ℕ → Insn → Option AbsState → List ℕ
 behind_text fault unit i known = if is_at fault unit then [] else given_text i known
 
-abbrev pub whole_line : Places → Option VerifyError → ℕ → Insn → Option AbsState → List ℕ
-whole_line places fault unit i known = unit_line places unit i known ++ behind_text fault unit i known
+abbrev pub whole_line : Writing → List Insn → KnownByUnit → Option VerifyError → ℕ → Insn → Option AbsState → List ℕ
+whole_line written program survey fault unit i known = unit_line written program survey unit i known ++ behind_text fault unit i known
 
 -- of an instruction to which the verifier comes
-abbrev pub line_if : Places → Option VerifyError → ℕ → Insn → Option (Option AbsState) → List ℕ
-line_if places fault unit i None = []
-line_if places fault unit i (Some known) = whole_line places fault unit i known
+abbrev pub line_if : Writing → List Insn → KnownByUnit → Option VerifyError → ℕ → Insn → Option (Option AbsState) → List ℕ
+line_if written program survey fault unit i None = []
+line_if written program survey fault unit i (Some known) = whole_line written program survey fault unit i known
 
 -- the lines of the instructions from a unit on
-abbrev pub known_lines : Places → KnownByUnit → Option VerifyError → ℕ → List Insn → List ℕ
-known_lines places survey fault unit [] = []
-known_lines places survey fault unit (i ∷ is) = line_if places fault unit i (survey unit) ++ known_lines places survey fault (unit + units_of i) is
+abbrev pub known_lines : Writing → List Insn → KnownByUnit → Option VerifyError → ℕ → List Insn → List ℕ
+known_lines written program survey fault unit [] = []
+known_lines written program survey fault unit (i ∷ is) =
+    line_if written program survey fault unit i (survey unit) ++ known_lines written program survey fault (unit + units_of i) is
 
 -- ---- why it is refused
 
@@ -97,30 +100,32 @@ sentence_of units reason.LastNotExit unit i known = Some (sentence.Structure str
 sentence_of units r unit i known = option_and_then (λ a. shortfall r i a) known
 
 -- `UNIT INSTRUCTION: SENTENCE`
-abbrev pub sentence_line : Places → ℕ → Insn → Sentence → List ℕ
-sentence_line places unit i s = place_text places unit i ++ codes ": " ++ sentence_text s
+abbrev pub sentence_line : Writing → ℕ → Insn → Sentence → List ℕ
+sentence_line written unit i s = place_text written unit i ++ codes ": " ++ sentence_text s
 
--- where what it is about comes from, and an edit that mends it
-abbrev pub about_text : Places → KnownByUnit → List Insn → ℕ → Insn → Sentence → Option Subject → List ℕ
-about_text places survey program unit i s None = []
-about_text places survey program unit i s (Some asked) =
-    notes_below places program survey asked (marks program survey asked unit) unit ++ help_on program unit (wanted program (marks program survey asked unit) unit i s)
+-- where what it is about comes from, and an edit that mends it; of a sum in the number's register also where the number does
+abbrev pub about_text : Writing → KnownByUnit → List Insn → ℕ → Insn → Sentence → Option Subject → List ℕ
+about_text written survey program unit i s None = []
+about_text written survey program unit i s (Some asked) =
+    notes_on written program survey asked (marks program survey asked unit) unit
+    ++ number_notes written program survey unit (other_number i (known_by (survey unit)) s)
+    ++ help_on program unit (wanted program (marks program survey asked unit) unit i s)
 
-abbrev pub told_text : Places → KnownByUnit → List Insn → ℕ → Insn → Option Sentence → List ℕ
-told_text places survey program unit i None = []
-told_text places survey program unit i (Some s) = sentence_line places unit i s ++ about_text places survey program unit i s (subject_of s)
+abbrev pub told_text : Writing → KnownByUnit → List Insn → ℕ → Insn → Option Sentence → List ℕ
+told_text written survey program unit i None = []
+told_text written survey program unit i (Some s) = sentence_line written unit i s ++ about_text written survey program unit i s (subject_of s)
 
-abbrev pub refused_at : Places → KnownByUnit → List Insn → Reason → ℕ → Option Insn → List ℕ
-refused_at places survey program r unit None = []
-refused_at places survey program r unit (Some i) = told_text places survey program unit i (sentence_of (length (slots_of program)) r unit i (known_by (survey unit)))
+abbrev pub refused_at : Writing → KnownByUnit → List Insn → Reason → ℕ → Option Insn → List ℕ
+refused_at written survey program r unit None = []
+refused_at written survey program r unit (Some i) = told_text written survey program unit i (sentence_of (length (slots_of program)) r unit i (known_by (survey unit)))
 
-abbrev pub refused_text : Places → KnownByUnit → List Insn → Option VerifyError → List ℕ
-refused_text places survey program (Some (At r unit)) = refused_at places survey program r unit (instruction_at program unit)
-refused_text places survey program _ = []
+abbrev pub refused_text : Writing → KnownByUnit → List Insn → Option VerifyError → List ℕ
+refused_text written survey program (Some (At r unit)) = refused_at written survey program r unit (instruction_at program unit)
+refused_text written survey program _ = []
 
 -- the lines of the units, and those of the refusal
-abbrev pub lines_by : Places → KnownByUnit → List Insn → Option VerifyError → List ℕ
-lines_by places survey program fault = known_lines places survey fault 0 program ++ refused_text places survey program fault
+abbrev pub lines_by : Writing → KnownByUnit → List Insn → Option VerifyError → List ℕ
+lines_by written survey program fault = known_lines written program survey fault 0 program ++ refused_text written survey program fault
 
 -- ---- of a program
 
@@ -128,9 +133,9 @@ lines_by places survey program fault = known_lines places survey fault 0 program
 abbrev pub known_in : List Insn → KnownByUnit
 known_in program unit = if nat_lt unit (length (slots_of program)) then known_before program unit else None
 
--- with the places of its units
-abbrev pub explained_at : Places → List Insn → List ℕ
-explained_at places program = lines_by places (known_in program) program (judged program)
+-- with the written of its units
+abbrev pub explained_at : Writing → List Insn → List ℕ
+explained_at written program = lines_by written (known_in program) program (judged program)
 
 abbrev pub explained : List Insn → List ℕ
-explained program = explained_at (places_in []) program
+explained program = explained_at (in_lists [] []) program

@@ -1,5 +1,5 @@
 -- Edits that mend a refusal, each said only where the verifier comes past the refused instruction in the program with the edit (own).
-use Rattle.std.specs.Prelude.{ℕ, zero, suc, pos, ◌+◌, ◌-◌, ◌^◌, ◌==◌, Bool, true, false, if◌then◌else◌, List, [], ◌++◌, Option, Some, None, option_and_then, codes, decimal, slice_get}
+use Rattle.std.specs.Prelude.{ℕ, ℤ, zero, suc, pos, ◌+◌, ◌==◌, Bool, true, false, if◌then◌else◌, List, [], ◌∷◌, ◌++◌, Option, Some, None, option_and_then, codes, decimal, map, slice_get}
 use Rattle.word.specs.declared.Width.TheVariants.{W64}
 use Rattle.word.specs.declared.Operation.TheVariants.{Add, And, Move}
 use Rattle.insn.specs.declared.insn.Insn.{Insn}
@@ -10,12 +10,12 @@ use Rattle.asm.specs.Printing.{insn_text}
 use Rattle.absval.specs.declared.value.AbsVal.{AbsVal}
 use Rattle.absval.specs.declared.value.AbsVal.TheVariants.{Number}
 use Rattle.causes.specs.declared.mark.Mark.{Mark}
-use Rattle.causes.specs.declared.mark.Mark.TheVariants.{Open, Sets}
+use Rattle.causes.specs.declared.mark.Mark.TheVariants.{Open}
 use Rattle.causes.specs.declared.mends.Edit.{Edit}
-use Rattle.causes.specs.declared.mends.Edit.TheVariants.{Before, Instead}
+use Rattle.causes.specs.declared.mends.Edit.TheVariants.{Before, Instead, Moved}
 use Rattle.causes.specs.declared.mends.Trial.{Trial}
 use Rattle.causes.specs.declared.mends.Trial.TheVariants.{Refused, Passes, Accepted}
-use Rattle.causes.specs.Mends.{put_by, tried}
+use Rattle.causes.specs.Mends.{grown, wide, tried}
 use Rattle.explain.specs.declared.sentence.Sentence.{Sentence}
 use Rattle.explain.specs.declared.sentence.Sentence.TheVariants as sentence
 use Rattle.explain.specs.declared.sentence.Misuse.{Misuse}
@@ -24,8 +24,9 @@ use Rattle.explain.specs.declared.sentence.Access.{Access}
 use Rattle.explain.specs.declared.sentence.Access.TheVariants as access
 use Rattle.explain.specs.declared.sentence.Misfit.{Misfit}
 use Rattle.explain.specs.declared.sentence.Misfit.TheVariants as misfit
+use Rattle.explain.specs.Origins.{last_set}
 use Rattle.explain.specs.declared.wanted.Choice.{Choice}
-use Rattle.explain.specs.declared.wanted.Choice.TheVariants.{Mask, One, Either}
+use Rattle.explain.specs.declared.wanted.Choice.TheVariants.{Mask, One, Either, Exchanged}
 
 -- ---- what is to be tried for a sentence, and before which unit
 
@@ -39,7 +40,7 @@ moving_mask unit i = None
 
 -- a pointer is moved in its own register
 abbrev pub exchanged : ℕ → Insn → Option (ℕ × Choice)
-exchanged unit (Arithmetic W64 Add dst (Register src)) = Some (unit, One (Instead Add src (Register dst)))
+exchanged unit (Arithmetic W64 Add dst (Register src)) = Some (unit, Exchanged dst src)
 exchanged unit i = None
 
 -- the register to which an instruction copies this one
@@ -84,15 +85,6 @@ abbrev pub for_misfit : ℕ → Misfit → Option (ℕ × Choice)
 for_misfit unit (misfit.Above called r value most) = for_argument unit r value
 for_misfit unit m = None
 
-abbrev pub is_set : Option Mark → Bool
-is_set (Some Sets) = true
-is_set _ = false
-
--- the last of the units below one that set it
-abbrev pub last_set : List Mark → ℕ → Option ℕ
-last_set marks zero = None
-last_set marks (suc n) = if is_set (slice_get marks n) then Some n else last_set marks n
-
 abbrev pub moved_at : List Insn → ℕ → Option (ℕ × Choice)
 moved_at program unit = option_and_then (moving_mask unit) (instruction_at program unit)
 
@@ -109,13 +101,22 @@ wanted program marks unit i (sentence.Call m) = for_misfit unit m
 
 -- ---- trials
 
--- the unit of the refused instruction in the program with the edit
-abbrev pub unit_behind : Edit → ℕ → ℕ
-unit_behind (Before operation dst operand) unit = unit + 1
-unit_behind (Instead operation dst operand) unit = unit
+-- the masks, the widest first
+abbrev pub masks : List ℕ
+masks = 63 ∷ 31 ∷ 15 ∷ 7 ∷ 3 ∷ 1 ∷ []
 
-abbrev pub mask : ℕ → ℕ → Edit
-mask r bits = Before And r (Immediate (pos (2 ^ bits - 1)))
+abbrev pub masks_of : ℕ → List Edit
+masks_of r = map (λ m. Before And r (Immediate (pos m))) masks
+
+abbrev pub moves_of : ℕ → ℕ → List Edit
+moves_of number pointer = map (λ m. Moved (Some (pos m)) number pointer) masks
+
+-- what is tried, in this order
+abbrev pub edits_of : Choice → List Edit
+edits_of (Mask r) = masks_of r
+edits_of (One edit) = edit ∷ []
+edits_of (Either edit r) = edit ∷ masks_of r
+edits_of (Exchanged number pointer) = Instead Add pointer (Register number) ∷ Moved None number pointer ∷ moves_of number pointer
 
 abbrev pub Help : Type 0
 Help = Edit × Trial
@@ -130,21 +131,27 @@ better edit Accepted rest = Some (edit, Accepted)
 better edit Passes rest = accepted_or edit rest
 better edit Refused rest = rest
 
--- of the masks of up to so many bits, the widest first
-abbrev pub best_mask : List Insn → ℕ → ℕ → ℕ → ℕ → Option Help
-best_mask program place unit r zero = None
-best_mask program place unit r (suc bits) = better (mask r (suc bits)) (tried (mask r (suc bits)) place program (unit + 1)) (best_mask program place unit r bits)
-
-abbrev pub best : List Insn → ℕ → ℕ → Choice → Option Help
-best program place unit (Mask r) = best_mask program place unit r 6
-best program place unit (One edit) = better edit (tried edit place program (unit_behind edit unit)) None
-best program place unit (Either edit r) = better edit (tried edit place program (unit_behind edit unit)) (best_mask program place unit r 6)
+-- whether the verifier comes past the refused instruction, which stands so many units further then
+abbrev pub best : List Insn → ℕ → ℕ → List Edit → Option Help
+best program place unit [] = None
+best program place unit (edit ∷ edits) = better edit (tried edit place program (unit + grown edit)) (best program place unit edits)
 
 -- ---- text
 
-abbrev pub edit_text : ℕ → Edit → List ℕ
-edit_text place (Before operation dst operand) = codes "` before unit " ++ decimal place
-edit_text place (Instead operation dst operand) = codes "` in place of unit " ++ decimal place
+unfoldable pub quoted : Insn → List ℕ
+quoted i = codes "`" ++ insn_text i ++ codes "`"
+
+abbrev pub mask_text : Option ℤ → ℕ → List ℕ
+mask_text None number = []
+mask_text (Some mask) number = quoted (wide And number (Immediate mask)) ++ codes ", "
+
+unfoldable pub sum_text : ℕ → ℕ → List ℕ
+sum_text number pointer = quoted (wide Add pointer (Register number)) ++ codes " and " ++ quoted (wide Move number (Register pointer))
+
+abbrev pub edit_text : Edit → List ℕ
+edit_text (Before operation dst operand) = quoted (wide operation dst operand) ++ codes " before"
+edit_text (Instead operation dst operand) = quoted (wide operation dst operand) ++ codes " in place of"
+edit_text (Moved mask number pointer) = mask_text mask number ++ sum_text number pointer ++ codes " in place of"
 
 abbrev pub trial_text : Trial → List ℕ
 trial_text Accepted = codes " the program is accepted"
@@ -153,8 +160,8 @@ trial_text Refused = []
 
 abbrev pub told_help : ℕ → Option Help → List ℕ
 told_help place None = []
-told_help place (Some help) = codes "\nhelp: with `" ++ insn_text (put_by help.0) ++ edit_text place help.0 ++ trial_text help.1
+told_help place (Some help) = codes "\nhelp: with " ++ edit_text help.0 ++ codes " unit " ++ decimal place ++ trial_text help.1
 
 abbrev pub help_on : List Insn → ℕ → Option (ℕ × Choice) → List ℕ
 help_on program unit None = []
-help_on program unit (Some want) = told_help want.0 (best program want.0 unit want.1)
+help_on program unit (Some want) = told_help want.0 (best program want.0 unit (edits_of want.1))

@@ -1,5 +1,5 @@
 -- Laws of explanations.
-use Rattle.std.specs.Prelude.{ℕ, ◌≡◌, ◌<◌, List, Some, None, length, IsSome}
+use Rattle.std.specs.Prelude.{ℕ, ◌≡◌, ◌+◌, ◌<◌, List, Some, None, length, IsSome}
 use Rattle.insn.specs.declared.insn.Insn.{Insn}
 use Rattle.insn.specs.Program.{slots_of, instruction_at}
 use Rattle.verify.specs.declared.error.VerifyError.TheVariants.{At}
@@ -10,9 +10,8 @@ use Rattle.causes.specs.Marks.{known_by}
 use Rattle.causes.specs.declared.mends.Edit.{Edit}
 use Rattle.causes.specs.declared.mends.Trial.{Trial}
 use Rattle.causes.specs.declared.mends.Trial.TheVariants.{Accepted}
-use Rattle.causes.specs.Mends.{mended}
-use Rattle.explain.specs.declared.wanted.Choice.{Choice}
-use Rattle.explain.specs.Helps.{unit_behind, best}
+use Rattle.causes.specs.Mends.{grown, mended}
+use Rattle.explain.specs.Helps.{best}
 use Rattle.explain.specs.Explained.{sentence_of}
 
 -- each fault that the verifier's one function finds in a program stands at an instruction, and has a sentence
@@ -23,9 +22,9 @@ RefusalsAreTold =
 
 -- the verifier comes past the refused instruction in the program with an edit, to the end where that is said
 pub record Mends (program : List Insn) (place unit : ℕ) (edit : Edit) (trial : Trial) : Type 0 where
-  pub past : (r : Reason) (at : ℕ) → judged (mended edit place 0 program) ≡ Some (At r at) → unit_behind edit unit < at
+  pub past : (r : Reason) (at : ℕ) → judged (mended edit place 0 program) ≡ Some (At r at) → unit + grown edit < at
   pub accepted : trial ≡ Accepted → judged (mended edit place 0 program) ≡ None
 
 -- so it is with each help
 abbrev pub HelpsMend : Type 0
-HelpsMend = (program : List Insn) (place unit : ℕ) (choice : Choice) (edit : Edit) (trial : Trial) → best program place unit choice ≡ Some (edit, trial) → Mends program place unit edit trial
+HelpsMend = (program : List Insn) (place unit : ℕ) (edits : List Edit) (edit : Edit) (trial : Trial) → best program place unit edits ≡ Some (edit, trial) → Mends program place unit edit trial

@@ -2,9 +2,12 @@ pub mod Values
 pub mod Reads
 pub mod Sentences
 pub mod Shortfalls
-pub mod Cells
 pub mod Rules
 pub mod Units
+pub mod Origins
+pub mod Sources
+pub mod Here
+pub mod Cells
 pub mod Notes
 pub mod Helps
 pub mod Explained

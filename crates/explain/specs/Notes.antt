@@ -1,8 +1,7 @@
--- Where what a refusal is about comes from: the units that set it last on the ways that lead there, and the tests and copies on these ways that tell nothing of it (own).
+-- Where what a refusal is about comes from: the units that set it last on the ways that lead there, and the tests and copies on these ways that tell nothing of it; and of what it was computed (own).
 use Rattle.std.specs.Prelude.{ℕ, zero, suc, List, [], ◌++◌, Option, Some, None, codes, slice_get}
 use Rattle.insn.specs.declared.insn.Insn.{Insn}
 use Rattle.insn.specs.Program.{instruction_at}
-use Rattle.asm.specs.Printing.{insn_text}
 use Rattle.verify.specs.declared.state.AbsState.{AbsState}
 use Rattle.verify.specs.Registers.{known_at}
 use Rattle.causes.specs.declared.mark.Mark.{Mark}
@@ -11,7 +10,7 @@ use Rattle.causes.specs.declared.subject.Subject.{Subject}
 use Rattle.causes.specs.declared.subject.Subject.TheVariants as subject
 use Rattle.causes.specs.Contents.{held_at}
 use Rattle.causes.specs.Left.{left}
-use Rattle.causes.specs.Marks.{KnownByUnit, known_by}
+use Rattle.causes.specs.Marks.{KnownByUnit, known_by, marks}
 use Rattle.explain.specs.declared.sentence.Sentence.{Sentence}
 use Rattle.explain.specs.declared.sentence.Sentence.TheVariants as sentence
 use Rattle.explain.specs.declared.sentence.Misuse.{Misuse}
@@ -22,9 +21,10 @@ use Rattle.explain.specs.declared.sentence.Misfit.{Misfit}
 use Rattle.explain.specs.declared.sentence.Misfit.TheVariants as misfit
 use Rattle.explain.specs.Sentences.{named_text}
 use Rattle.explain.specs.Cells.{run_text}
-use Rattle.explain.specs.Units.{Places, unit_text}
+use Rattle.explain.specs.Units.{Writing, insn_at}
 use Rattle.explain.specs.declared.rules.Passing.{Passing}
 use Rattle.explain.specs.Rules.{rule_text, passed_by, passing_text}
+use Rattle.explain.specs.Origins.{origin_of, from_origin}
 
 -- ---- what a sentence is about
 
@@ -63,35 +63,34 @@ abbrev pub found_text : Subject → AbsState → List ℕ
 found_text (subject.Register r) a = named_text r (known_at a.registers r)
 found_text (subject.Cell place) a = run_text place (suc place) (held_at a.stack place)
 
--- `note: UNIT INSTRUCTION`, or `note: UNIT (PLACE) INSTRUCTION`
-abbrev pub noted_text : Places → ℕ → Insn → List ℕ
-noted_text places unit i = codes "\nnote: " ++ unit_text places unit ++ codes " " ++ insn_text i
+abbrev pub noted_text : Writing → ℕ → Insn → List ℕ
+noted_text written unit i = codes "\nnote: " ++ insn_at written unit i
 
 abbrev pub rule_behind : Subject → Insn → AbsState → List ℕ
 rule_behind (subject.Register r) i a = rule_text i (known_at a.registers r)
 rule_behind (subject.Cell place) i a = []
 
 -- what an instruction that set it left
-abbrev pub set_note : Places → Subject → ℕ → Insn → AbsState → List ℕ
-set_note places asked unit i a = noted_text places unit i ++ codes " -> " ++ found_text asked (left i a) ++ rule_behind asked i (left i a)
+abbrev pub set_note : Writing → Subject → ℕ → Insn → AbsState → List ℕ
+set_note written asked unit i a = noted_text written unit i ++ codes " -> " ++ found_text asked (left i a) ++ rule_behind asked i (left i a)
 
-abbrev pub noted_if : Places → ℕ → Insn → Option Passing → List ℕ
-noted_if places unit i None = []
-noted_if places unit i (Some tells) = noted_text places unit i ++ passing_text tells
+abbrev pub noted_if : Writing → ℕ → Insn → Option Passing → List ℕ
+noted_if written unit i None = []
+noted_if written unit i (Some tells) = noted_text written unit i ++ passing_text tells
 
 -- an instruction on a way there that tells nothing of it
-abbrev pub passing_note : Places → Subject → ℕ → Insn → AbsState → List ℕ
-passing_note places (subject.Register r) unit i a = noted_if places unit i (passed_by r i (known_at a.registers r))
-passing_note places (subject.Cell place) unit i a = []
+abbrev pub passing_note : Writing → Subject → ℕ → Insn → AbsState → List ℕ
+passing_note written (subject.Register r) unit i a = noted_if written unit i (passed_by r i (known_at a.registers r))
+passing_note written (subject.Cell place) unit i a = []
 
-abbrev pub note_by : Places → Subject → ℕ → Insn → AbsState → Option Mark → List ℕ
-note_by places asked unit i a (Some Sets) = set_note places asked unit i a
-note_by places asked unit i a (Some Open) = passing_note places asked unit i a
-note_by places asked unit i a _ = []
+abbrev pub note_by : Writing → Subject → ℕ → Insn → AbsState → Option Mark → List ℕ
+note_by written asked unit i a (Some Sets) = set_note written asked unit i a
+note_by written asked unit i a (Some Open) = passing_note written asked unit i a
+note_by written asked unit i a _ = []
 
-abbrev pub note_text : Places → Subject → ℕ → Option Insn → Option AbsState → Option Mark → List ℕ
-note_text places asked unit (Some i) (Some a) mark = note_by places asked unit i a mark
-note_text places asked unit i known mark = []
+abbrev pub note_text : Writing → Subject → ℕ → Option Insn → Option AbsState → Option Mark → List ℕ
+note_text written asked unit (Some i) (Some a) mark = note_by written asked unit i a mark
+note_text written asked unit i known mark = []
 
 -- where a way leads from the entry on which nothing sets it
 abbrev pub entry_note : Subject → Option AbsState → Option Mark → List ℕ
@@ -99,7 +98,24 @@ entry_note asked (Some a) (Some Open) = codes "\nnote: at the entry " ++ found_t
 entry_note asked known mark = []
 
 -- those of the units below one
-abbrev pub notes_below : Places → List Insn → KnownByUnit → Subject → List Mark → ℕ → List ℕ
-notes_below places program survey asked marked zero = entry_note asked (known_by (survey 0)) (slice_get marked 0)
-notes_below places program survey asked marked (suc n) =
-    notes_below places program survey asked marked n ++ note_text places asked n (instruction_at program n) (known_by (survey n)) (slice_get marked n)
+abbrev pub notes_below : Writing → List Insn → KnownByUnit → Subject → List Mark → ℕ → List ℕ
+notes_below written program survey asked marked zero = entry_note asked (known_by (survey 0)) (slice_get marked 0)
+notes_below written program survey asked marked (suc n) =
+    notes_below written program survey asked marked n ++ note_text written asked n (instruction_at program n) (known_by (survey n)) (slice_get marked n)
+
+-- before them those of what it was computed of, where no rule says why it may be above or below 0, so many times at most
+unfoldable pub origin_notes : ℕ → Writing → List Insn → KnownByUnit → List Mark → ℕ → List ℕ
+origin_notes zero written program survey marked unit = []
+origin_notes (suc n) written program survey marked unit =
+    from_origin (λ r place.
+    origin_notes n written program survey (marks program survey (subject.Register r) place) place
+    ++ notes_below written program survey (subject.Register r) (marks program survey (subject.Register r) place) place)
+    (origin_of program survey marked unit)
+
+abbrev pub notes_on : Writing → List Insn → KnownByUnit → Subject → List Mark → ℕ → List ℕ
+notes_on written program survey asked marked unit = origin_notes 8 written program survey marked unit ++ notes_below written program survey asked marked unit
+
+-- of a number that is not what the sentence is about
+abbrev pub number_notes : Writing → List Insn → KnownByUnit → ℕ → Option ℕ → List ℕ
+number_notes written program survey unit None = []
+number_notes written program survey unit (Some r) = notes_on written program survey (subject.Register r) (marks program survey (subject.Register r) unit) unit

@@ -1,29 +1,47 @@
 -- Which rule of the verifier an instruction meets that leaves a register unknown, or tells nothing of it (own).
-use Rattle.std.specs.Prelude.{ℕ, ◌-◌, ◌==◌, ◌^◌, ◌&&◌, nat_lt, Bool, true, false, if◌then◌else◌, List, [], ◌++◌, Option, Some, None, codes, decimal}
+use Rattle.std.specs.Prelude.{ℕ, ◌-◌, ◌==◌, ◌^◌, ◌&&◌, ◌||◌, nat_lt, Bool, true, false, if◌then◌else◌, List, [], ◌++◌, Option, Some, None, codes, decimal}
 use Rattle.word.specs.declared.Width.{Width}
 use Rattle.word.specs.declared.Width.TheVariants.{W64}
-use Rattle.word.specs.declared.Operation.TheVariants.{ArithmeticShiftRight, Move}
+use Rattle.word.specs.declared.Operation.{Operation}
+use Rattle.word.specs.declared.Operation.TheVariants.{Add, Sub, Mul, ShiftLeft, ArithmeticShiftRight, Move}
 use Rattle.word.specs.declared.Condition.{Condition}
 use Rattle.word.specs.declared.Condition.TheVariants.{SignedAbove, SignedAtLeast, SignedBelow, SignedAtMost}
 use Rattle.word.specs.Arithmetic.{bits_of}
 use Rattle.insn.specs.declared.insn.Insn.{Insn}
 use Rattle.insn.specs.declared.insn.Insn.TheVariants.{Arithmetic, Negate, SignExtend, Load, LoadSigned, Call, Branch}
-use Rattle.insn.specs.declared.insn.Operand.TheVariants.{Register}
+use Rattle.insn.specs.declared.insn.Operand.{Operand}
+use Rattle.insn.specs.declared.insn.Operand.TheVariants.{Register, Immediate}
 use Rattle.explain.specs.declared.rules.Passing.{Passing}
 use Rattle.explain.specs.declared.rules.Passing.TheVariants.{Test, Copied}
+use Rattle.absval.specs.declared.number_set.NumberSet.{NumberSet}
 use Rattle.absval.specs.NumberSets.{greatest}
 use Rattle.absval.specs.declared.value.AbsVal.{AbsVal}
 use Rattle.absval.specs.declared.value.AbsVal.TheVariants.{Unset, Number, Pointer}
 
 -- ---- of an instruction that set a register
 
-abbrev pub number_rule : Insn → List ℕ
-number_rule (Arithmetic w ArithmeticShiftRight dst operand) = codes ": the sign is copied, so of numbers on both sides of 2^63 it is any number"
-number_rule (Negate w dst) = codes ": what was 0 and more becomes 0, and just below 2^64"
-number_rule (SignExtend w part dst src) = codes ": the sign is extended, so it is small, or just below 2^64"
-number_rule (LoadSigned part dst base offset) = codes ": the sign is extended, so it is small, or just below 2^64"
-number_rule (Load size dst base offset) = codes ": a load gives any number of its size"
-number_rule i = []
+-- a result that is too large for its width wraps around
+abbrev pub may_wrap : Operation → Bool
+may_wrap Add = true
+may_wrap Sub = true
+may_wrap Mul = true
+may_wrap ShiftLeft = true
+may_wrap operation = false
+
+-- every number of so many bits
+abbrev pub is_all : ℕ → ℕ × ℕ → Bool
+is_all bits p = p.0 == 0 && p.1 == 2 ^ bits - 1
+
+-- by the numbers that are known behind it
+abbrev pub number_rule : Insn → NumberSet → List ℕ
+number_rule (Arithmetic w ArithmeticShiftRight dst operand) n = codes ": the sign is copied, so of numbers on both sides of 2^63 it is any number"
+number_rule (Arithmetic w operation dst operand) n = if may_wrap operation && is_all (bits_of w) n.range then codes ": what may wrap is any number of its width" else []
+number_rule (Call number) n = codes ": of an answer its range alone is known"
+number_rule (Negate w dst) n = codes ": what was 0 and more becomes 0, and just below 2^64"
+number_rule (SignExtend w part dst src) n = codes ": the sign is extended, so it is small, or just below 2^64"
+number_rule (LoadSigned part dst base offset) n = codes ": the sign is extended, so it is small, or just below 2^64"
+number_rule (Load size dst base offset) n = codes ": a load gives any number of its size"
+number_rule i n = []
 
 abbrev pub unset_rule : Insn → List ℕ
 unset_rule (Call number) = codes ": behind a call r1 to r5 are unset"
@@ -32,7 +50,7 @@ unset_rule i = []
 -- by what is known behind it
 abbrev pub rule_text : Insn → AbsVal → List ℕ
 rule_text i Unset = unset_rule i
-rule_text i (Number n) = number_rule i
+rule_text i (Number n) = number_rule i n
 rule_text i (Pointer region offsets) = []
 
 -- ---- of a test that tells nothing of a register
@@ -53,13 +71,20 @@ abbrev pub is_past : ℕ → AbsVal → Bool
 is_past bits (Number n) = nat_lt (2 ^ bits - 1) (greatest n)
 is_past bits value = false
 
+abbrev pub is_operand : ℕ → Operand → Bool
+is_operand r (Register src) = src == r
+is_operand r (Immediate n) = false
+
 -- a test of the register that tells nothing of it, or a copy of it, of which another test does not
 abbrev pub passed_by : ℕ → Insn → AbsVal → Option Passing
 passed_by r (Branch w condition dst operand distance) value =
-    if (dst == r) && is_past (limit_bits w (is_signed condition)) value then Some (Test (limit_bits w (is_signed condition))) else None
+    if (dst == r || is_operand r operand) && is_past (limit_bits w (is_signed condition)) value then Some (Test (limit_bits w (is_signed condition))) else None
 passed_by r (Arithmetic W64 Move dst (Register src)) value = if src == r then Some (Copied dst) else None
 passed_by r i value = None
 
+unfoldable pub tested_text : List ℕ
+tested_text = codes ": such a test tells only of numbers that are known to be below 2^"
+
 abbrev pub passing_text : Passing → List ℕ
-passing_text (Test bits) = codes ": such a test tells only of numbers that are known to be below 2^" ++ decimal bits
+passing_text (Test bits) = tested_text ++ decimal bits
 passing_text (Copied dst) = codes ": what is tested of r" ++ decimal dst ++ codes " is not known of it"

@@ -48,18 +48,21 @@ named_text r value = codes "r" ++ decimal r ++ codes " " ++ value_text value
 abbrev pub limit_text : ℤ → List ℕ
 limit_text high = if int_le high (pos 65536) then codes "-65536" else codes "65536"
 
+unfoldable pub past_text : Region → Span → List ℕ
+past_text region span = place_text region span ++ codes ", past " ++ limit_text span.high
+
 -- how a register is used
 abbrev pub misuse_text : Misuse → List ℕ
 misuse_text (misuse.Unset r) = codes "r" ++ decimal r ++ codes " is read, and may be unset, or of different kinds on different ways"
 misuse_text misuse.Frame = codes "r10 is written, which marks the end of the stack"
-misuse_text (misuse.Far r region span) = would_text r ++ codes " into " ++ place_text region span ++ codes ", past " ++ limit_text span.high
+misuse_text (misuse.Far r region span) = would_text r ++ codes " into " ++ past_text region span
 misuse_text (misuse.EitherSign r value) = named_text r value ++ codes ": a number that moves a pointer is read as signed, and this one may be above or below 0"
 misuse_text (misuse.Computed r value) = named_text r value ++ codes ": of a pointer only a copy of 64 bits is made, or, in its own register, the 64-bit sum or difference with a number"
 misuse_text (misuse.Compared r value) = named_text r value ++ codes ": a comparison is of numbers only"
 misuse_text (misuse.Stored r value base at) =
     named_text r value ++ codes ", stored at " ++ named_text base at ++ codes ": a pointer is stored as 8 bytes, with one offset, at one address"
 misuse_text (misuse.NoBase r value) = named_text r value ++ codes ": memory is reached by a pointer only"
-misuse_text (misuse.Exit value) = codes "r0 " ++ value_text value ++ codes ": a program ends with a number"
+misuse_text (misuse.Exit value) = named_text 0 value ++ codes ": a program ends with a number"
 
 -- the bytes that a region has
 abbrev pub extent_text : Region → List ℕ
@@ -86,12 +89,25 @@ helper_text helper.Honest = codes "honest"
 helper_text helper.SignOrder = codes "sign_order"
 helper_text helper.PassOn = codes "pass_on"
 
+-- what a helper takes
+unfoldable pub above_text : Helper → ℕ → List ℕ
+above_text called most = helper_text called ++ (codes " takes a number up to " ++ decimal most ++ codes " there")
+
+unfoldable pub pointer_text : Helper → List ℕ
+pointer_text called = helper_text called ++ codes " takes a pointer there"
+
+unfoldable pub no_helper_text : List ℕ
+no_helper_text = codes "no helper has the number "
+
+unfoldable pub together_text : List ℕ
+together_text = codes "r1 and r3 together may be "
+
 -- what a call asks
 abbrev pub misfit_text : Misfit → List ℕ
-misfit_text (misfit.Helper number) = codes "no helper has the number " ++ signed_decimal number ++ codes ": they are 1 to 11"
-misfit_text (misfit.Above called r value most) = named_text r value ++ codes ": " ++ helper_text called ++ codes " takes a number up to " ++ decimal most ++ codes " there"
-misfit_text (misfit.NoPointer called r value) = named_text r value ++ codes ": " ++ helper_text called ++ codes " takes a pointer there"
-misfit_text (misfit.Board sum) = codes "r1 and r3 together may be " ++ decimal sum ++ codes ", and the board has 64 words"
+misfit_text (misfit.Helper number) = no_helper_text ++ signed_decimal number ++ codes ": they are 1 to 11"
+misfit_text (misfit.Above called r value most) = named_text r value ++ codes ": " ++ above_text called most
+misfit_text (misfit.NoPointer called r value) = named_text r value ++ codes ": " ++ pointer_text called
+misfit_text (misfit.Board sum) = together_text ++ decimal sum ++ codes ", and the board has 64 words"
 
 abbrev pub sentence_text : Sentence → List ℕ
 sentence_text (sentence.Structure s) = structure_text s

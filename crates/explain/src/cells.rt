@@ -1,64 +1,58 @@
 //! Cells of the stack that are read, as text.
 ghost use Rattle.std.specs.Prelude.{◌≡◌, ◌≤◌, ◌+◌, ◌-ℤ◌, ◌++◌, pos, IfSome, OnOk, string_bytes};
 ghost use Rattle.semantics.specs.Call.{helper_of};
-ghost use Rattle.explain.specs.Cells.{run_text, ended_text, runs_text, of_cells, of_window, of_reach, is_row, reads_cells, cells_read};
+ghost use Rattle.explain.specs.Here.{Stands, held_here};
+ghost use Rattle.explain.specs.Cells.{content_text, cells_text, last_text, run_text, sourced_text, ended_text, runs_text, of_cells, of_window, of_reach, is_row, reads_cells, cells_read};
 
 use crate::reach::{Reach, reach_of};
+use crate::saying::put_signed_between;
+use crate::sources::{Held, Here, held_here, put_from};
 use crate::values::region_name;
-use absmem::AbsStack;
 use absval::{AbsVal, Window, window_of};
-use causes::{Content, held_at};
+use asm::{put, put_number};
+use causes::Content;
 use helper::Helper;
 use insn::Insn;
 use semantics::Region;
-use std::alloc::AllocError;
-use std::fmt;
+use std::alloc::{AllocError, Global};
 use verify::AbsState;
 
-/// What a cell holds, to be told.
-#[derive(Clone, Copy)]
-struct Held(Content);
-
-impl fmt::Display for Held {
-    ghost use Rattle.std.specs.Prelude.{Some};
-    ghost use Rattle.explain.specs.Cells.{content_text};
-
-    ghost output = { λ held. Some (content_text held.0) };
-
-    fn fmt<W: fmt::Write>(&self, f: &mut fmt::Formatter<W>) -> fmt::Result {
-        match self.0 {
-            Content::Unset => f.write_str("perhaps unset"),
-            Content::Byte => f.write_str("bytes"),
-            Content::Piece(region, offset) => {
-                let region = region_name(region);
-                write!(f, "pointer: {region} {offset}")
-            }
+/// Adds what a cell holds.
+fn put_content(out: &mut String, content: Content) -> Result<(), AllocError>
+    ensures { OnOk result (string_bytes out.new ≡ string_bytes out.old ++ content_text content) }
+{
+    match content {
+        Content::Unset => put(out, "perhaps unset"),
+        Content::Byte => put(out, "bytes"),
+        Content::Piece(region, offset) => {
+            put(out, "pointer: ")?;
+            put(out, region_name(region))?;
+            put(out, " ")?;
+            put_number(out, i64::from(offset))
         }
     }
 }
 
-/// Cells of the stack by their offsets.
-#[derive(Clone, Copy)]
-struct Cells {
-    first: i64,
-    last: i64,
+/// Adds the last of two offsets, if it is another.
+#[tactic(auto, unfolding(crate::specs::Cells::last_text))]
+fn put_last(out: &mut String, first: i64, last: i64) -> Result<(), AllocError>
+    ensures { OnOk result (string_bytes out.new ≡ string_bytes out.old ++ last_text first last) }
+{
+    if first == last {
+        put(out, "]")
+    } else {
+        put_signed_between(out, "..", last, "]")
+    }
 }
 
-impl fmt::Display for Cells {
-    ghost use Rattle.std.specs.Prelude.{Some};
-    ghost use Rattle.explain.specs.Cells.{cells_text};
-
-    ghost output = { λ cells. Some (cells_text cells.first cells.last) };
-
-    #[tactic(auto, unfolding(crate::specs::Cells::cells_text))]
-    fn fmt<W: fmt::Write>(&self, f: &mut fmt::Formatter<W>) -> fmt::Result {
-        let Cells { first, last } = *self;
-        if first == last {
-            write!(f, "[{first}]")
-        } else {
-            write!(f, "[{first}..{last}]")
-        }
-    }
+/// Adds cells of the stack by their offsets.
+#[tactic(auto, unfolding(crate::specs::Cells::cells_text))]
+fn put_offsets(out: &mut String, first: i64, last: i64) -> Result<(), AllocError>
+    ensures { OnOk result (string_bytes out.new ≡ string_bytes out.old ++ cells_text first last) }
+{
+    put(out, "[")?;
+    put_number(out, first)?;
+    put_last(out, first, last)
 }
 
 /// How far a cell lies from the end of the stack.
@@ -88,91 +82,105 @@ pub(crate) fn put_run(
     requires end { end ≤ 65536 }
     ensures { OnOk result (string_bytes out.new ≡ string_bytes out.old ++ run_text first end content) }
 {
-    let cells = Cells {
-        first: offset_of(first),
-        last: offset_before(end),
-    };
-    let held = Held(content);
-    write!(out, "{cells} {held}")
+    put_offsets(out, offset_of(first), offset_before(end))?;
+    put(out, " ")?;
+    put_content(out, content)
+}
+
+/// The same, and from which units.
+fn put_sourced(out: &mut String, first: usize, end: usize, held: &Held) -> Result<(), AllocError>
+    requires first { first ≤ 65536 }
+    requires end { end ≤ 65536 }
+    ensures { OnOk result (string_bytes out.new ≡ string_bytes out.old ++ sourced_text first end (held.now.content, held.now.units.items)) }
+{
+    put_run(out, first, end, held.content)?;
+    put_from(out, held.units.as_slice())
 }
 
 /// The same, with others behind.
-fn put_ended(out: &mut String, first: usize, end: usize, content: Content) -> Result<(), AllocError>
+fn put_ended(out: &mut String, first: usize, end: usize, held: &Held) -> Result<(), AllocError>
     requires first { first ≤ 65536 }
     requires end { end ≤ 65536 }
-    ensures { OnOk result (string_bytes out.new ≡ string_bytes out.old ++ ended_text first end content) }
+    ensures { OnOk result (string_bytes out.new ≡ string_bytes out.old ++ ended_text first end (held.now.content, held.now.units.items)) }
 {
-    put_run(out, first, end, content)?;
-    out.push_str(", ")
+    put_sourced(out, first, end, held)?;
+    put(out, ", ")
 }
 
 /// Adds the cells from a place up to one, all of which hold the same, and so many more from there on.
 fn put_runs(
+    alloc: Global,
     out: &mut String,
-    stack: &AbsStack,
-    run: (usize, Content),
+    here: &Here<'_>,
+    first: usize,
+    held: Held,
     place: usize,
     more: usize,
 ) -> Result<(), AllocError>
-    requires first { run.0 ≤ 512 }
+    requires stands { Stands here.now }
+    requires first { first ≤ 512 }
     requires room { place + more ≤ 512 }
-    ensures { OnOk result (string_bytes out.new ≡ string_bytes out.old ++ runs_text stack.now run.0 run.1 place more) }
+    ensures { OnOk result (string_bytes out.new ≡ string_bytes out.old ++ runs_text (held_here here.now) first (held.content, held.units.items) place more) }
 {
-    let (first, held) = run;
     if more == 0 {
-        return put_run(out, first, place, held);
+        return put_sourced(out, first, place, &held);
     }
-    let next = held_at(stack, place);
-    if held.is_same(next) {
-        return put_runs(out, stack, run, place + 1, more - 1);
+    let next = held_here(alloc, here, place)?;
+    if held.is_same(&next) {
+        return put_runs(alloc, out, here, first, held, place + 1, more - 1);
     }
-    put_ended(out, first, place, held)?;
-    put_runs(out, stack, (place, next), place + 1, more - 1)
+    put_ended(out, first, place, &held)?;
+    put_runs(alloc, out, here, place, next, place + 1, more - 1)
 }
 
 /// Adds so many cells from a place on.
 fn put_cells(
+    alloc: Global,
     out: &mut String,
-    stack: &AbsStack,
+    here: &Here<'_>,
     place: usize,
     size: usize,
 ) -> Result<(), AllocError>
-    requires { place + size ≤ 512 }
-    ensures { OnOk result (string_bytes out.new ≡ string_bytes out.old ++ of_cells stack.now place size) }
+    requires stands { Stands here.now }
+    requires room { place + size ≤ 512 }
+    ensures { OnOk result (string_bytes out.new ≡ string_bytes out.old ++ of_cells (held_here here.now) place size) }
 {
     if size == 0 {
         return Ok(());
     }
-    out.push_str(" ; ")?;
-    put_runs(
-        out,
-        stack,
-        (place, held_at(stack, place)),
-        place + 1,
-        size - 1,
-    )
+    put(out, " ; ")?;
+    let held = held_here(alloc, here, place)?;
+    put_runs(alloc, out, here, place, held, place + 1, size - 1)
 }
 
 /// Adds the cells of a window, where there is one.
-fn put_window(out: &mut String, stack: &AbsStack, window: Option<Window>) -> Result<(), AllocError>
-    requires { IfSome window (λ w. w.place + w.size ≤ 512) }
-    ensures { OnOk result (string_bytes out.new ≡ string_bytes out.old ++ of_window stack.now window) }
+fn put_window(
+    alloc: Global,
+    out: &mut String,
+    here: &Here<'_>,
+    window: Option<Window>,
+) -> Result<(), AllocError>
+    requires stands { Stands here.now }
+    requires room { IfSome window (λ w. w.place + w.size ≤ 512) }
+    ensures { OnOk result (string_bytes out.new ≡ string_bytes out.old ++ of_window (held_here here.now) window) }
 {
     match window {
-        Some(Window { place, size }) => put_cells(out, stack, place, size),
+        Some(Window { place, size }) => put_cells(alloc, out, here, place, size),
         None => Ok(()),
     }
 }
 
 /// Adds the cells that may be touched through a pointer to the stack.
 fn put_reach(
+    alloc: Global,
     out: &mut String,
-    stack: &AbsStack,
+    here: &Here<'_>,
     reach: &Reach,
     value: AbsVal,
 ) -> Result<(), AllocError>
-    requires { reach.now.size ≤ 512 }
-    ensures { OnOk result (string_bytes out.new ≡ string_bytes out.old ++ of_reach stack.now reach.now value) }
+    requires stands { Stands here.now }
+    requires few { reach.now.size ≤ 512 }
+    ensures { OnOk result (string_bytes out.new ≡ string_bytes out.old ++ of_reach (held_here here.now) reach.now value) }
 {
     let AbsVal::Pointer(region, offsets) = value else {
         return Ok(());
@@ -181,7 +189,7 @@ fn put_reach(
         return Ok(());
     };
     let window = window_of(Region::Stack, offsets, reach.distance, reach.size);
-    put_window(out, stack, window)
+    put_window(alloc, out, here, window)
 }
 
 /// Whether the helper of a number reads a row of orders.
@@ -207,17 +215,20 @@ fn reads_cells(insn: &Insn) -> bool
 
 /// Adds the cells of the stack that an instruction reads.
 pub(crate) fn put_cells_read(
+    alloc: Global,
     out: &mut String,
+    here: &Here<'_>,
     insn: &Insn,
     state: &AbsState,
 ) -> Result<(), AllocError>
-    ensures { OnOk result (string_bytes out.new ≡ string_bytes out.old ++ cells_read insn.now state.now) }
+    requires { Stands here.now }
+    ensures { OnOk result (string_bytes out.new ≡ string_bytes out.old ++ cells_read (held_here here.now) insn.now state.now.registers) }
 {
     if !reads_cells(insn) {
         return Ok(());
     }
     match reach_of(insn, state) {
-        Some(reach) => put_reach(out, &state.stack, &reach, state.known(reach.base)),
+        Some(reach) => put_reach(alloc, out, here, &reach, state.known(reach.base)),
         None => Ok(()),
     }
 }

@@ -1,50 +1,36 @@
 //! Edits that mend a refusal, as helps.
-ghost use Rattle.std.specs.Prelude.{◌≡◌, ◌<◌, ◌≤◌, ◌+◌, ◌-◌, ◌^◌, ◌++◌, pos, string_bytes, IfOk, IfSome, OnOk};
-ghost use Rattle.explain.specs.Helps.{unit_behind, mask, accepted_or, better, best_mask, best, edit_text, trial_text, told_help, help_on};
+ghost use Rattle.std.specs.Prelude.{◌≡◌, ◌<◌, ◌≤◌, ◌++◌, string_bytes, IfOk, IfSome, OnOk};
+ghost use Rattle.explain.specs.Helps.{masks_of, edits_of, accepted_or, better, best, quoted, mask_text, sum_text, edit_text, trial_text, told_help, help_on};
 
 use crate::wanted::Choice;
-use asm::put_instruction;
-use causes::{Edit, Trial, tried};
-use insn::{Operand, Program, Reg};
+use asm::{put, put_instruction, put_unsigned};
+use causes::{Edit, Trial, operation_of, tried};
+use insn::{Insn, Operand, Program, Reg};
 use std::alloc::{AllocError, Global};
 use word::Operation;
 
 /// An edit, and how far the verifier comes with it.
 type Help = (Edit, Trial);
 
-/// The unit of the refused instruction in the program with an edit.
-fn unit_behind(edit: &Edit, unit: usize) -> usize
-    requires { unit < 4096 }
-    ensures { result ≡ unit_behind edit.now unit }
+/// A mask of a number before an instruction.
+fn mask(r: Reg, bits: i32) -> Edit
+    ensures { result ≡ Edit.Before Operation.And r (Operand.Immediate bits) }
 {
-    match edit {
-        Edit::Before(..) => unit + 1,
-        Edit::Instead(..) => unit,
-    }
+    Edit::Before(Operation::And, r, Operand::Immediate(bits))
 }
 
-/// The number of so many low bits.
-fn low_bits(bits: usize) -> i32
-    requires { bits ≤ 6 }
-    ensures { result ≡ pos (2 ^ bits - 1) }
+/// The masks of a number, the widest first.
+fn masks_of(r: Reg) -> [Edit; 6]
+    ensures { result ≡ masks_of r }
 {
-    match bits {
-        0 => 0,
-        1 => 1,
-        2 => 3,
-        3 => 7,
-        4 => 15,
-        5 => 31,
-        _ => 63,
-    }
-}
-
-/// A mask of so many bits.
-fn mask(r: Reg, bits: usize) -> Edit
-    requires { bits ≤ 6 }
-    ensures { result ≡ mask r bits }
-{
-    Edit::Before(Operation::And, r, Operand::Immediate(low_bits(bits)))
+    [
+        mask(r, 63),
+        mask(r, 31),
+        mask(r, 15),
+        mask(r, 7),
+        mask(r, 3),
+        mask(r, 1),
+    ]
 }
 
 /// A later edit with which the program is accepted, else this one.
@@ -68,71 +54,37 @@ fn better(edit: Edit, trial: Trial, rest: Option<Help>) -> Option<Help>
     }
 }
 
-/// The best of the masks of up to so many bits.
-fn best_mask(
+/// The best of these edits.
+fn best(
     alloc: Global,
     program: &Program,
     place: usize,
     unit: usize,
-    r: Reg,
-    bits: usize,
+    edits: &[Edit],
 ) -> Result<Option<Help>, AllocError>
     requires place { place < 4096 }
     requires unit { unit < 4096 }
-    requires bits { bits ≤ 6 }
-    ensures { IfOk result (λ help. help ≡ best_mask program.now place unit r bits) }
+    ensures { IfOk result (λ help. help ≡ best program.now place unit edits.now) }
 {
-    if bits == 0 {
+    let [edit, rest @ ..] = edits else {
         return Ok(None);
-    }
-    let edit = mask(r, bits);
-    let trial = tried(alloc, program, &edit, place, unit + 1)?;
+    };
+    let trial = tried(
+        alloc,
+        program,
+        edit,
+        place,
+        unit + usize::from(edit.grown()),
+    )?;
     if let Trial::Accepted = trial {
-        return Ok(Some((edit, Trial::Accepted)));
+        return Ok(Some((*edit, Trial::Accepted)));
     }
-    let rest = best_mask(alloc, program, place, unit, r, bits - 1)?;
-    Ok(better(edit, trial, rest))
-}
-
-/// An edit, where it mends the refusal.
-fn one(
-    alloc: Global,
-    program: &Program,
-    place: usize,
-    unit: usize,
-    edit: Edit,
-) -> Result<Option<Help>, AllocError>
-    requires place { place < 4096 }
-    requires unit { unit < 4096 }
-    ensures { IfOk result (λ help. help ≡ best program.now place unit (Choice.One edit)) }
-{
-    let trial = tried(alloc, program, &edit, place, unit_behind(&edit, unit))?;
-    Ok(better(edit, trial, None))
-}
-
-/// An edit, where it mends the refusal, else the best of the masks.
-fn either(
-    alloc: Global,
-    program: &Program,
-    place: usize,
-    unit: usize,
-    edit: Edit,
-    r: Reg,
-) -> Result<Option<Help>, AllocError>
-    requires place { place < 4096 }
-    requires unit { unit < 4096 }
-    ensures { IfOk result (λ help. help ≡ best program.now place unit (Choice.Either edit r)) }
-{
-    let trial = tried(alloc, program, &edit, place, unit_behind(&edit, unit))?;
-    if let Trial::Accepted = trial {
-        return Ok(Some((edit, Trial::Accepted)));
-    }
-    let rest = best_mask(alloc, program, place, unit, r, 6)?;
-    Ok(better(edit, trial, rest))
+    let rest = best(alloc, program, place, unit, rest)?;
+    Ok(better(*edit, trial, rest))
 }
 
 /// The best edit of those that are wanted.
-fn best(
+fn best_of(
     alloc: Global,
     program: &Program,
     place: usize,
@@ -141,22 +93,117 @@ fn best(
 ) -> Result<Option<Help>, AllocError>
     requires place { place < 4096 }
     requires unit { unit < 4096 }
-    ensures { IfOk result (λ help. help ≡ best program.now place unit wanted) }
+    ensures { IfOk result (λ help. help ≡ best program.now place unit (edits_of wanted)) }
 {
     match wanted {
-        Choice::Mask(r) => best_mask(alloc, program, place, unit, r, 6),
-        Choice::One(edit) => one(alloc, program, place, unit, edit),
-        Choice::Either(edit, r) => either(alloc, program, place, unit, edit, r),
+        Choice::Mask(r) => best(alloc, program, place, unit, &masks_of(r)),
+        Choice::One(edit) => best(alloc, program, place, unit, &[edit]),
+        Choice::Either(edit, r) => best(alloc, program, place, unit, &either(edit, r)),
+        Choice::Exchanged(number, pointer) => {
+            best(alloc, program, place, unit, &exchanged(number, pointer))
+        }
     }
 }
 
-/// Adds where an edit is made.
-fn put_place(out: &mut String, place: usize, edit: &Edit) -> Result<(), AllocError>
-    ensures { OnOk result (string_bytes out.new ≡ string_bytes out.old ++ edit_text place edit.now) }
+/// An edit, else a mask.
+fn either(edit: Edit, r: Reg) -> [Edit; 7]
+    ensures { result ≡ edits_of (Choice.Either edit r) }
+{
+    [
+        edit,
+        mask(r, 63),
+        mask(r, 31),
+        mask(r, 15),
+        mask(r, 7),
+        mask(r, 3),
+        mask(r, 1),
+    ]
+}
+
+/// The sum of a number and a pointer in the pointer's register: alone, with its copy, and of a masked number.
+fn exchanged(number: Reg, pointer: Reg) -> [Edit; 8]
+    ensures { result ≡ edits_of (Choice.Exchanged number pointer) }
+{
+    [
+        Edit::Instead(Operation::Add, pointer, Operand::Register(number)),
+        Edit::Moved(None, number, pointer),
+        Edit::Moved(Some(63), number, pointer),
+        Edit::Moved(Some(31), number, pointer),
+        Edit::Moved(Some(15), number, pointer),
+        Edit::Moved(Some(7), number, pointer),
+        Edit::Moved(Some(3), number, pointer),
+        Edit::Moved(Some(1), number, pointer),
+    ]
+}
+
+/// Adds an instruction between quotes.
+#[tactic(auto, unfolding(crate::specs::Helps::quoted))]
+fn put_quoted(out: &mut String, insn: &Insn) -> Result<(), AllocError>
+    ensures { OnOk result (string_bytes out.new ≡ string_bytes out.old ++ quoted insn.now) }
+{
+    put(out, "`")?;
+    put_instruction(out, insn)?;
+    put(out, "`")
+}
+
+/// Adds a mask of a number, if there is one.
+fn put_mask(out: &mut String, mask: Option<i32>, number: Reg) -> Result<(), AllocError>
+    ensures { OnOk result (string_bytes out.new ≡ string_bytes out.old ++ mask_text mask number) }
+{
+    let Some(mask) = mask else {
+        return Ok(());
+    };
+    put_quoted(
+        out,
+        &operation_of(Operation::And, number, Operand::Immediate(mask)),
+    )?;
+    put(out, ", ")
+}
+
+/// Adds the sum of a number and a pointer in the pointer's register, and its copy.
+#[tactic(auto, unfolding(crate::specs::Helps::sum_text))]
+fn put_sum(out: &mut String, number: Reg, pointer: Reg) -> Result<(), AllocError>
+    ensures { OnOk result (string_bytes out.new ≡ string_bytes out.old ++ sum_text number pointer) }
+{
+    put_quoted(
+        out,
+        &operation_of(Operation::Add, pointer, Operand::Register(number)),
+    )?;
+    put(out, " and ")?;
+    put_quoted(
+        out,
+        &operation_of(Operation::Move, number, Operand::Register(pointer)),
+    )
+}
+
+/// Adds a number's move of a pointer.
+fn put_moved(
+    out: &mut String,
+    mask: Option<i32>,
+    number: Reg,
+    pointer: Reg,
+) -> Result<(), AllocError>
+    ensures { OnOk result (string_bytes out.new ≡ string_bytes out.old ++ edit_text (Edit.Moved mask number pointer)) }
+{
+    put_mask(out, mask, number)?;
+    put_sum(out, number, pointer)?;
+    put(out, " in place of")
+}
+
+/// Adds what is edited.
+fn put_edit(out: &mut String, edit: &Edit) -> Result<(), AllocError>
+    ensures { OnOk result (string_bytes out.new ≡ string_bytes out.old ++ edit_text edit.now) }
 {
     match edit {
-        Edit::Before(..) => write!(out, "` before unit {place}"),
-        Edit::Instead(..) => write!(out, "` in place of unit {place}"),
+        Edit::Before(operation, dst, operand) => {
+            put_quoted(out, &operation_of(*operation, *dst, *operand))?;
+            put(out, " before")
+        }
+        Edit::Instead(operation, dst, operand) => {
+            put_quoted(out, &operation_of(*operation, *dst, *operand))?;
+            put(out, " in place of")
+        }
+        Edit::Moved(mask, number, pointer) => put_moved(out, *mask, *number, *pointer),
     }
 }
 
@@ -178,10 +225,11 @@ fn put_help_text(out: &mut String, place: usize, help: Option<Help>) -> Result<(
     let Some((edit, trial)) = help else {
         return Ok(());
     };
-    out.push_str("\nhelp: with `")?;
-    put_instruction(out, &edit.insn())?;
-    put_place(out, place, &edit)?;
-    out.push_str(trial_text(trial))
+    put(out, "\nhelp: with ")?;
+    put_edit(out, &edit)?;
+    put(out, " unit ")?;
+    put_unsigned(out, place as u64)?;
+    put(out, trial_text(trial))
 }
 
 /// Adds the best edit of those that are wanted, if any is.
@@ -199,6 +247,6 @@ pub(crate) fn put_help(
     let Some((place, wanted)) = wanted else {
         return Ok(());
     };
-    let help = best(alloc, program, place, unit, wanted)?;
+    let help = best_of(alloc, program, place, unit, wanted)?;
     put_help_text(out, place, help)
 }

@@ -3,33 +3,36 @@ ghost use Rattle.std.specs.Prelude.{◌≡◌, ◌≤◌, ◌<◌, ◌++◌, len
 ghost use Rattle.insn.specs.Program.{slots_of};
 ghost use Rattle.explain.specs.Notes.{subject_of};
 ghost use Rattle.explain.specs.Explained.{read_text, reads_text, known_text, place_text, unit_line, result_text, given_text, is_at, behind_text, whole_line, line_if, known_lines, target_of, sentence_of, sentence_line, about_text, told_text, refused_text, explained, explained_at};
-ghost use Rattle.explain.specs.Units.{places_in};
+ghost use Rattle.explain.specs.Here.{IsSurveyed, known_of};
+ghost use Rattle.explain.specs.Units.{written_in};
 
 use crate::cells::put_cells_read;
 use crate::helps::put_help;
-use crate::notes::{put_notes_below, subject_of};
+use crate::notes::{put_notes_on, put_number_notes, subject_of};
+use crate::origins::other_number;
 use crate::reads::{Registers, read_by};
+use crate::saying::{put_named, put_sentence_text};
 use crate::sentence::{Sentence, Structure};
 use crate::shortfall::shortfall;
-use crate::units::put_unit_text;
-use crate::values::Known;
+use crate::sources::{Here, Surveyed};
+use crate::units::{Written, put_insn_at};
 use crate::wanted::wanted;
-use asm::put_instruction;
-use causes::{known_by, left_by, marks, result_of};
+use asm::put;
+use causes::{columns, known_by, left_by, marks, result_of};
 use insn::{Insn, Program, Reg};
 use std::alloc::{AllocError, Global};
 use verify::{AbsState, Reason, VerifyError, known_at_units};
 
 /// Adds a register that is read, and what is known of it.
+#[inline(never)]
 fn put_read(out: &mut String, state: &AbsState, register: Option<Reg>) -> Result<(), AllocError>
     ensures { OnOk result (string_bytes out.new ≡ string_bytes out.old ++ read_text state.now.registers register) }
 {
     let Some(r) = register else {
         return Ok(());
     };
-    let known = Known(state.known(r));
-    let r = r.number();
-    write!(out, " ; r{r} {known}")
+    put(out, " ; ")?;
+    put_named(out, r, state.known(r))
 }
 
 /// Adds the registers that are read.
@@ -43,45 +46,59 @@ fn put_reads(out: &mut String, state: &AbsState, read: Registers) -> Result<(), 
 }
 
 /// Adds what is known where an instruction stands.
-fn put_known(out: &mut String, insn: &Insn, state: Option<&AbsState>) -> Result<(), AllocError>
-    ensures { OnOk result (string_bytes out.new ≡ string_bytes out.old ++ known_text insn.now (option_map (λ a. a.now) state.entry)) }
+fn put_known(
+    alloc: Global,
+    out: &mut String,
+    surveyed: &Surveyed<'_>,
+    unit: usize,
+    insn: &Insn,
+    state: Option<&AbsState>,
+) -> Result<(), AllocError>
+    requires inside { unit < length (slots_of surveyed.now.program.now) }
+    requires surveyed { IsSurveyed surveyed.now }
+    ensures { OnOk result (string_bytes out.new ≡ string_bytes out.old ++ known_text surveyed.now.program.now (known_of surveyed.now) unit insn.now (option_map (λ a. a.now) state.entry)) }
 {
-    match state {
-        None => out.push_str(" ; no way leads here"),
-        Some(state) => {
-            put_reads(out, state, read_by(insn))?;
-            put_cells_read(out, insn, state)
-        }
-    }
+    let Some(state) = state else {
+        return put(out, " ; no way leads here");
+    };
+    put_reads(out, state, read_by(insn))?;
+    let here = Here {
+        surveyed: *surveyed,
+        unit,
+        stack: &state.stack,
+    };
+    put_cells_read(alloc, out, &here, insn, state)
 }
 
 /// Adds a unit and its instruction, behind the end of a line.
 fn put_place(
     out: &mut String,
-    places: &[String],
+    written: &Written<'_>,
     unit: usize,
     insn: &Insn,
 ) -> Result<(), AllocError>
-    ensures { OnOk result (string_bytes out.new ≡ string_bytes out.old ++ place_text (places_in places.now) unit insn.now) }
+    ensures { OnOk result (string_bytes out.new ≡ string_bytes out.old ++ place_text (written_in written.now) unit insn.now) }
 {
-    out.push_str("\n")?;
-    put_unit_text(out, places, unit)?;
-    out.push_str(" ")?;
-    put_instruction(out, insn)
+    put(out, "\n")?;
+    put_insn_at(out, written, unit, insn)
 }
 
 /// Adds the line of a unit.
 fn put_unit(
+    alloc: Global,
     out: &mut String,
-    places: &[String],
+    written: &Written<'_>,
+    surveyed: &Surveyed<'_>,
     unit: usize,
     insn: &Insn,
     state: Option<&AbsState>,
 ) -> Result<(), AllocError>
-    ensures { OnOk result (string_bytes out.new ≡ string_bytes out.old ++ unit_line (places_in places.now) unit insn.now (option_map (λ a. a.now) state.entry)) }
+    requires inside { unit < length (slots_of surveyed.now.program.now) }
+    requires surveyed { IsSurveyed surveyed.now }
+    ensures { OnOk result (string_bytes out.new ≡ string_bytes out.old ++ unit_line (written_in written.now) surveyed.now.program.now (known_of surveyed.now) unit insn.now (option_map (λ a. a.now) state.entry)) }
 {
-    put_place(out, places, unit, insn)?;
-    put_known(out, insn, state)
+    put_place(out, written, unit, insn)?;
+    put_known(alloc, out, surveyed, unit, insn, state)
 }
 
 /// Adds a register that takes a result, and what is known of it behind an instruction.
@@ -91,9 +108,8 @@ fn put_result(out: &mut String, register: Option<Reg>, left: &AbsState) -> Resul
     let Some(r) = register else {
         return Ok(());
     };
-    let known = Known(left.known(r));
-    let r = r.number();
-    write!(out, " -> r{r} {known}")
+    put(out, " -> ")?;
+    put_named(out, r, left.known(r))
 }
 
 /// Adds what is known of the result of an instruction that may run.
@@ -137,50 +153,58 @@ fn put_behind(
 
 /// Adds the line of a unit, with what is known of the result.
 fn put_line(
+    alloc: Global,
     out: &mut String,
-    places: &[String],
+    written: &Written<'_>,
+    surveyed: &Surveyed<'_>,
     fault: &Option<VerifyError>,
     unit: usize,
     insn: &Insn,
     state: &Option<AbsState>,
 ) -> Result<(), AllocError>
-    ensures { OnOk result (string_bytes out.new ≡ string_bytes out.old ++ whole_line (places_in places.now) fault.now unit insn.now state.now) }
+    requires inside { unit < length (slots_of surveyed.now.program.now) }
+    requires surveyed { IsSurveyed surveyed.now }
+    ensures { OnOk result (string_bytes out.new ≡ string_bytes out.old ++ whole_line (written_in written.now) surveyed.now.program.now (known_of surveyed.now) fault.now unit insn.now state.now) }
 {
-    put_unit(out, places, unit, insn, state.as_ref())?;
+    put_unit(alloc, out, written, surveyed, unit, insn, state.as_ref())?;
     put_behind(out, fault, unit, insn, state)
 }
 
 /// Adds the line of a unit, if the pass comes there.
 fn put_reached(
+    alloc: Global,
     out: &mut String,
-    places: &[String],
+    written: &Written<'_>,
+    surveyed: &Surveyed<'_>,
     fault: &Option<VerifyError>,
     unit: usize,
     insn: &Insn,
-    states: &[Option<AbsState>],
 ) -> Result<(), AllocError>
-    ensures { OnOk result (string_bytes out.new ≡ string_bytes out.old ++ line_if (places_in places.now) fault.now unit insn.now (slice_get states.now unit)) }
+    requires { IsSurveyed surveyed.now }
+    ensures { OnOk result (string_bytes out.new ≡ string_bytes out.old ++ line_if (written_in written.now) surveyed.now.program.now (known_of surveyed.now) fault.now unit insn.now (known_of surveyed.now unit)) }
 {
-    match states.get(unit) {
-        Some(state) => put_line(out, places, fault, unit, insn, state),
+    match surveyed.states.get(unit) {
+        Some(state) => put_line(alloc, out, written, surveyed, fault, unit, insn, state),
         None => Ok(()),
     }
 }
 
 /// Adds the lines of the units to which the pass comes.
 fn put_units(
+    alloc: Global,
     out: &mut String,
-    places: &[String],
+    written: &Written<'_>,
+    surveyed: &Surveyed<'_>,
     fault: &Option<VerifyError>,
     insns: &[Insn],
-    states: &[Option<AbsState>],
 ) -> Result<(), AllocError>
-    requires { length (slots_of insns.now) ≤ 4096 }
-    ensures { OnOk result (string_bytes out.new ≡ string_bytes out.old ++ known_lines (places_in places.now) (slice_get states.now) fault.now 0 insns.now) }
+    requires surveyed { IsSurveyed surveyed.now }
+    requires few { length (slots_of insns.now) ≤ 4096 }
+    ensures { OnOk result (string_bytes out.new ≡ string_bytes out.old ++ known_lines (written_in written.now) surveyed.now.program.now (known_of surveyed.now) fault.now 0 insns.now) }
 {
     let mut unit = 0;
     for insn in insns {
-        put_reached(out, places, fault, unit, insn, states)?;
+        put_reached(alloc, out, written, surveyed, fault, unit, insn)?;
         unit += insn.units() as usize;
     }
     Ok(())
@@ -224,22 +248,23 @@ fn sentence_of(
 /// Adds the sentence of an instruction.
 fn put_sentence(
     out: &mut String,
-    places: &[String],
+    written: &Written<'_>,
     unit: usize,
     insn: &Insn,
     sentence: Sentence,
 ) -> Result<(), AllocError>
-    ensures { OnOk result (string_bytes out.new ≡ string_bytes out.old ++ sentence_line (places_in places.now) unit insn.now sentence) }
+    ensures { OnOk result (string_bytes out.new ≡ string_bytes out.old ++ sentence_line (written_in written.now) unit insn.now sentence) }
 {
-    put_place(out, places, unit, insn)?;
-    write!(out, ": {sentence}")
+    put_place(out, written, unit, insn)?;
+    put(out, ": ")?;
+    put_sentence_text(out, sentence)
 }
 
 /// Adds where what a sentence is about comes from, and an edit that mends it.
 fn put_about(
     alloc: Global,
     out: &mut String,
-    places: &[String],
+    written: &Written<'_>,
     program: &Program,
     states: &[Option<AbsState>],
     unit: usize,
@@ -248,21 +273,24 @@ fn put_about(
 ) -> Result<(), AllocError>
     requires inside { unit < length (slots_of program.now) }
     requires few { unit < 4096 }
-    ensures { OnOk result (string_bytes out.new ≡ string_bytes out.old ++ about_text (places_in places.now) (slice_get states.now) program.now unit insn.now sentence.now (subject_of sentence.now)) }
+    ensures { OnOk result (string_bytes out.new ≡ string_bytes out.old ++ about_text (written_in written.now) (slice_get states.now) program.now unit insn.now sentence.now (subject_of sentence.now)) }
 {
     let Some(asked) = subject_of(sentence) else {
         return Ok(());
     };
     let marked = marks(alloc, program, states, &asked, unit)?;
-    put_notes_below(
+    put_notes_on(
+        alloc,
         out,
-        places,
+        written,
         program,
         states,
         &asked,
         marked.as_slice(),
         unit,
     )?;
+    let number = other_number(insn, known_by(states, unit), sentence);
+    put_number_notes(alloc, out, written, program, states, unit, number)?;
     let choice = wanted(program, marked.as_slice(), unit, insn, sentence);
     put_help(alloc, out, program, unit, choice)
 }
@@ -271,7 +299,7 @@ fn put_about(
 fn put_told(
     alloc: Global,
     out: &mut String,
-    places: &[String],
+    written: &Written<'_>,
     program: &Program,
     states: &[Option<AbsState>],
     unit: usize,
@@ -280,25 +308,25 @@ fn put_told(
 ) -> Result<(), AllocError>
     requires inside { unit < length (slots_of program.now) }
     requires few { unit < 4096 }
-    ensures { OnOk result (string_bytes out.new ≡ string_bytes out.old ++ told_text (places_in places.now) (slice_get states.now) program.now unit insn.now sentence.now) }
+    ensures { OnOk result (string_bytes out.new ≡ string_bytes out.old ++ told_text (written_in written.now) (slice_get states.now) program.now unit insn.now sentence.now) }
 {
     let Some(sentence) = sentence else {
         return Ok(());
     };
-    put_sentence(out, places, unit, insn, *sentence)?;
-    put_about(alloc, out, places, program, states, unit, insn, sentence)
+    put_sentence(out, written, unit, insn, *sentence)?;
+    put_about(alloc, out, written, program, states, unit, insn, sentence)
 }
 
 /// Adds why a program is refused, if it is.
 fn put_refused(
     alloc: Global,
     out: &mut String,
-    places: &[String],
+    written: &Written<'_>,
     program: &Program,
     states: &[Option<AbsState>],
     fault: Option<VerifyError>,
 ) -> Result<(), AllocError>
-    ensures { OnOk result (string_bytes out.new ≡ string_bytes out.old ++ refused_text (places_in places.now) (slice_get states.now) program.now fault) }
+    ensures { OnOk result (string_bytes out.new ≡ string_bytes out.old ++ refused_text (written_in written.now) (slice_get states.now) program.now fault) }
 {
     let Some(VerifyError::At(reason, unit)) = fault else {
         return Ok(());
@@ -307,36 +335,57 @@ fn put_refused(
         return Ok(());
     };
     let sentence = sentence_of(program.units(), reason, unit, &insn, known_by(states, unit));
-    put_told(alloc, out, places, program, states, unit, &insn, &sentence)
+    put_told(alloc, out, written, program, states, unit, &insn, &sentence)
+}
+
+/// Adds the lines of a program, of which this is known.
+fn put_lines(
+    alloc: Global,
+    out: &mut String,
+    written: &Written<'_>,
+    program: &Program,
+    states: &[Option<AbsState>],
+    fault: &Option<VerifyError>,
+) -> Result<(), AllocError>
+    requires room { length states.now ≤ length (slots_of program.now) }
+    requires few { length (slots_of program.now) ≤ 4096 }
+    ensures { OnOk result (string_bytes out.new ≡ string_bytes out.old ++ known_lines (written_in written.now) program.now (slice_get states.now) fault.now 0 program.now) }
+{
+    let set = columns(alloc, program, states)?;
+    let columns = set.as_slice();
+    let surveyed = Surveyed {
+        program,
+        states,
+        columns,
+    };
+    let insns = program.instructions();
+    put_units(alloc, out, written, &surveyed, fault, insns)
 }
 
 /// What is known at each unit of a program to which the verifier comes, what each instruction gives, and why the program is
-/// refused, if so, with the places of the units in the text that they were written in: those that are not there, or
-/// empty, are not told. Each line stands behind the end of one.
+/// refused, if so, with the units and instructions as they were written. Each line stands behind the end of one.
 pub fn explanation_at(
     alloc: Global,
     program: &Program,
-    places: &[String],
+    written: &Written<'_>,
 ) -> Result<String, AllocError>
-    ensures { IfOk result (λ text. string_bytes text ≡ explained_at (places_in places.now) program.now) }
+    ensures { IfOk result (λ text. string_bytes text ≡ explained_at (written_in written.now) program.now) }
 {
     let survey = known_at_units(alloc, program)?;
     let mut out = String::with_capacity(alloc, 48 * program.units())?;
     let states = survey.states.as_slice();
-    put_units(
-        &mut out,
-        places,
-        &survey.fault,
-        program.instructions(),
-        states,
-    )?;
-    put_refused(alloc, &mut out, places, program, states, survey.fault)?;
+    put_lines(alloc, &mut out, written, program, states, &survey.fault)?;
+    put_refused(alloc, &mut out, written, program, states, survey.fault)?;
     Ok(out)
 }
 
-/// The same without places.
+/// The same where nothing is known of how they were written.
 pub fn explanation(alloc: Global, program: &Program) -> Result<String, AllocError>
     ensures { IfOk result (λ text. string_bytes text ≡ explained program.now) }
 {
-    explanation_at(alloc, program, &[])
+    let unwritten = Written {
+        places: &[],
+        statements: &[],
+    };
+    explanation_at(alloc, program, &unwritten)
 }

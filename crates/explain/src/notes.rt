@@ -1,16 +1,19 @@
 //! Where what a refusal is about comes from, as notes.
-ghost use Rattle.std.specs.Prelude.{◌≡◌, ◌++◌, option_map, slice_get, string_bytes, OnOk};
-ghost use Rattle.explain.specs.Notes.{of_misuse, of_access, of_misfit, subject_of, found_text, noted_text, rule_behind, set_note, noted_if, passing_note, note_by, note_text, entry_note, notes_below};
-ghost use Rattle.explain.specs.Units.{places_in};
+ghost use Rattle.std.specs.Prelude.{◌≡◌, ◌<◌, ◌≤◌, ◌++◌, length, option_map, slice_get, string_bytes, OnOk};
+ghost use Rattle.explain.specs.Notes.{of_misuse, of_access, of_misfit, subject_of, found_text, noted_text, rule_behind, set_note, noted_if, passing_note, note_by, note_text, entry_note, notes_below, origin_notes, notes_on, number_notes};
+ghost use Rattle.explain.specs.Units.{written_in};
+ghost use Rattle.insn.specs.Program.{slots_of};
 
 use crate::cells::put_run;
-use crate::rules::{Passing, passed_by, rule_text};
-use crate::sentence::{Access, Misfit, Misuse, Named, Sentence};
-use crate::units::put_unit_text;
-use asm::put_instruction;
-use causes::{Mark, Subject, held_at, known_by, left_by, numbered};
-use insn::{Insn, Program};
-use std::alloc::AllocError;
+use crate::origins::origin_of;
+use crate::rules::{Passing, passed_by, put_tells, rule_text};
+use crate::saying::put_named;
+use crate::sentence::{Access, Misfit, Misuse, Sentence};
+use crate::units::{Written, put_insn_at};
+use asm::put;
+use causes::{Mark, Subject, held_at, known_by, left_by, marks, numbered};
+use insn::{Insn, Program, Reg};
+use std::alloc::{AllocError, Global};
 use verify::AbsState;
 
 /// What a misuse is about.
@@ -63,14 +66,12 @@ pub(crate) fn subject_of(sentence: &Sentence) -> Option<Subject>
 }
 
 /// Adds what is known of it.
+#[inline(never)]
 fn put_found(out: &mut String, asked: &Subject, state: &AbsState) -> Result<(), AllocError>
     ensures { OnOk result (string_bytes out.new ≡ string_bytes out.old ++ found_text asked.now state.now) }
 {
     match asked {
-        Subject::Register(r) => {
-            let named = Named(*r, state.known(*r));
-            write!(out, "{named}")
-        }
+        Subject::Register(r) => put_named(out, *r, state.known(*r)),
         Subject::Cell(cell) => {
             let place = usize::from(*cell);
             put_run(out, place, place + 1, held_at(&state.stack, place))
@@ -81,16 +82,14 @@ fn put_found(out: &mut String, asked: &Subject, state: &AbsState) -> Result<(), 
 /// Adds that an instruction is noted.
 fn put_noted(
     out: &mut String,
-    places: &[String],
+    written: &Written<'_>,
     unit: usize,
     insn: &Insn,
 ) -> Result<(), AllocError>
-    ensures { OnOk result (string_bytes out.new ≡ string_bytes out.old ++ noted_text (places_in places.now) unit insn.now) }
+    ensures { OnOk result (string_bytes out.new ≡ string_bytes out.old ++ noted_text (written_in written.now) unit insn.now) }
 {
-    out.push_str("\nnote: ")?;
-    put_unit_text(out, places, unit)?;
-    out.push_str(" ")?;
-    put_instruction(out, insn)
+    put(out, "\nnote: ")?;
+    put_insn_at(out, written, unit, insn)
 }
 
 /// Adds by which rule it is what is known behind an instruction.
@@ -103,7 +102,7 @@ fn put_rule(
     ensures { OnOk result (string_bytes out.new ≡ string_bytes out.old ++ rule_behind asked.now insn.now left.now) }
 {
     match asked {
-        Subject::Register(r) => out.push_str(rule_text(insn, left.known(*r))),
+        Subject::Register(r) => put(out, rule_text(insn, left.known(*r))),
         Subject::Cell(_) => Ok(()),
     }
 }
@@ -111,17 +110,17 @@ fn put_rule(
 /// Adds what an instruction that set it left.
 fn put_set(
     out: &mut String,
-    places: &[String],
+    written: &Written<'_>,
     asked: &Subject,
     unit: usize,
     insn: &Insn,
     state: &AbsState,
 ) -> Result<(), AllocError>
-    ensures { OnOk result (string_bytes out.new ≡ string_bytes out.old ++ set_note (places_in places.now) asked.now unit insn.now state.now) }
+    ensures { OnOk result (string_bytes out.new ≡ string_bytes out.old ++ set_note (written_in written.now) asked.now unit insn.now state.now) }
 {
     let left = left_by(insn, state);
-    put_noted(out, places, unit, insn)?;
-    out.push_str(" -> ")?;
+    put_noted(out, written, unit, insn)?;
+    put(out, " -> ")?;
     put_found(out, asked, &left)?;
     put_rule(out, asked, insn, &left)
 }
@@ -129,35 +128,35 @@ fn put_set(
 /// Adds an instruction that tells nothing of a register, if it is one.
 fn put_if(
     out: &mut String,
-    places: &[String],
+    written: &Written<'_>,
     unit: usize,
     insn: &Insn,
     tells: Option<Passing>,
 ) -> Result<(), AllocError>
-    ensures { OnOk result (string_bytes out.new ≡ string_bytes out.old ++ noted_if (places_in places.now) unit insn.now tells) }
+    ensures { OnOk result (string_bytes out.new ≡ string_bytes out.old ++ noted_if (written_in written.now) unit insn.now tells) }
 {
     let Some(tells) = tells else {
         return Ok(());
     };
-    put_noted(out, places, unit, insn)?;
-    write!(out, "{tells}")
+    put_noted(out, written, unit, insn)?;
+    put_tells(out, tells)
 }
 
 /// Adds an instruction on a way there that tells nothing of it.
 fn put_passing(
     out: &mut String,
-    places: &[String],
+    written: &Written<'_>,
     asked: &Subject,
     unit: usize,
     insn: &Insn,
     state: &AbsState,
 ) -> Result<(), AllocError>
-    ensures { OnOk result (string_bytes out.new ≡ string_bytes out.old ++ passing_note (places_in places.now) asked.now unit insn.now state.now) }
+    ensures { OnOk result (string_bytes out.new ≡ string_bytes out.old ++ passing_note (written_in written.now) asked.now unit insn.now state.now) }
 {
     match asked {
         Subject::Register(r) => put_if(
             out,
-            places,
+            written,
             unit,
             insn,
             passed_by(*r, insn, state.known(*r)),
@@ -169,18 +168,18 @@ fn put_passing(
 /// Adds what is noted of a unit by its mark.
 fn put_note(
     out: &mut String,
-    places: &[String],
+    written: &Written<'_>,
     asked: &Subject,
     unit: usize,
     insn: &Insn,
     state: &AbsState,
     mark: Option<Mark>,
 ) -> Result<(), AllocError>
-    ensures { OnOk result (string_bytes out.new ≡ string_bytes out.old ++ note_by (places_in places.now) asked.now unit insn.now state.now mark) }
+    ensures { OnOk result (string_bytes out.new ≡ string_bytes out.old ++ note_by (written_in written.now) asked.now unit insn.now state.now mark) }
 {
     match mark {
-        Some(Mark::Sets) => put_set(out, places, asked, unit, insn, state),
-        Some(Mark::Open) => put_passing(out, places, asked, unit, insn, state),
+        Some(Mark::Sets) => put_set(out, written, asked, unit, insn, state),
+        Some(Mark::Open) => put_passing(out, written, asked, unit, insn, state),
         Some(Mark::Closed) | None => Ok(()),
     }
 }
@@ -188,14 +187,14 @@ fn put_note(
 /// The same where an instruction starts to which a path leads.
 fn put_note_at(
     out: &mut String,
-    places: &[String],
+    written: &Written<'_>,
     asked: &Subject,
     unit: usize,
     insn: Option<Insn>,
     state: Option<&AbsState>,
     mark: Option<Mark>,
 ) -> Result<(), AllocError>
-    ensures { OnOk result (string_bytes out.new ≡ string_bytes out.old ++ note_text (places_in places.now) asked.now unit insn (option_map (λ a. a.now) state.entry) mark) }
+    ensures { OnOk result (string_bytes out.new ≡ string_bytes out.old ++ note_text (written_in written.now) asked.now unit insn (option_map (λ a. a.now) state.entry) mark) }
 {
     let Some(insn) = insn else {
         return Ok(());
@@ -203,7 +202,7 @@ fn put_note_at(
     let Some(state) = state else {
         return Ok(());
     };
-    put_note(out, places, asked, unit, &insn, state, mark)
+    put_note(out, written, asked, unit, &insn, state, mark)
 }
 
 /// Adds what is known at the entry, where a way leads from there on which nothing sets it.
@@ -221,7 +220,7 @@ fn put_entry(
     let Some(Mark::Open) = mark else {
         return Ok(());
     };
-    out.push_str("\nnote: at the entry ")?;
+    put(out, "\nnote: at the entry ")?;
     put_found(out, asked, state)
 }
 
@@ -233,16 +232,16 @@ fn mark_at(marks: &[Mark], unit: usize) -> Option<Mark>
 }
 
 /// Adds the notes of the units below one.
-pub(crate) fn put_notes_below(
+fn put_notes_below(
     out: &mut String,
-    places: &[String],
+    written: &Written<'_>,
     program: &Program,
     states: &[Option<AbsState>],
     asked: &Subject,
     marks: &[Mark],
     unit: usize,
 ) -> Result<(), AllocError>
-    ensures { OnOk result (string_bytes out.new ≡ string_bytes out.old ++ notes_below (places_in places.now) program.now (slice_get states.now) asked.now marks.now unit) }
+    ensures { OnOk result (string_bytes out.new ≡ string_bytes out.old ++ notes_below (written_in written.now) program.now (slice_get states.now) asked.now marks.now unit) }
 {
     put_entry(out, asked, known_by(states, 0), mark_at(marks, 0))?;
     for place in 0..unit {
@@ -250,7 +249,7 @@ pub(crate) fn put_notes_below(
         let state = known_by(states, place);
         put_note_at(
             out,
-            places,
+            written,
             asked,
             place,
             insn,
@@ -259,4 +258,88 @@ pub(crate) fn put_notes_below(
         )?;
     }
     Ok(())
+}
+
+/// Before them those of what it was computed of, so many times at most.
+fn put_origin_notes(
+    alloc: Global,
+    out: &mut String,
+    written: &Written<'_>,
+    program: &Program,
+    states: &[Option<AbsState>],
+    marked: &[Mark],
+    unit: usize,
+    most: usize,
+) -> Result<(), AllocError>
+    requires { unit < length (slots_of program.now) }
+    ensures { OnOk result (string_bytes out.new ≡ string_bytes out.old ++ origin_notes most (written_in written.now) program.now (slice_get states.now) marked.now unit) }
+{
+    if most == 0 {
+        return Ok(());
+    }
+    let Some(origin) = origin_of(program, states, marked, unit) else {
+        return Ok(());
+    };
+    let asked = Subject::Register(origin.0);
+    let deeper = marks(alloc, program, states, &asked, origin.1)?;
+    let shown = deeper.as_slice();
+    put_origin_notes(
+        alloc,
+        out,
+        written,
+        program,
+        states,
+        shown,
+        origin.1,
+        most - 1,
+    )?;
+    put_notes_below(out, written, program, states, &asked, shown, origin.1)
+}
+
+/// Adds where what is asked about at a unit comes from, with its marks.
+pub(crate) fn put_notes_on(
+    alloc: Global,
+    out: &mut String,
+    written: &Written<'_>,
+    program: &Program,
+    states: &[Option<AbsState>],
+    asked: &Subject,
+    marked: &[Mark],
+    unit: usize,
+) -> Result<(), AllocError>
+    requires { unit < length (slots_of program.now) }
+    ensures { OnOk result (string_bytes out.new ≡ string_bytes out.old ++ notes_on (written_in written.now) program.now (slice_get states.now) asked.now marked.now unit) }
+{
+    put_origin_notes(alloc, out, written, program, states, marked, unit, 8)?;
+    put_notes_below(out, written, program, states, asked, marked, unit)
+}
+
+/// Adds where a number comes from, if there is one.
+pub(crate) fn put_number_notes(
+    alloc: Global,
+    out: &mut String,
+    written: &Written<'_>,
+    program: &Program,
+    states: &[Option<AbsState>],
+    unit: usize,
+    number: Option<Reg>,
+) -> Result<(), AllocError>
+    requires { unit < length (slots_of program.now) }
+    ensures { OnOk result (string_bytes out.new ≡ string_bytes out.old ++ number_notes (written_in written.now) program.now (slice_get states.now) unit number) }
+{
+    let Some(r) = number else {
+        return Ok(());
+    };
+    let asked = Subject::Register(r);
+    let marked = marks(alloc, program, states, &asked, unit)?;
+    put_notes_on(
+        alloc,
+        out,
+        written,
+        program,
+        states,
+        &asked,
+        marked.as_slice(),
+        unit,
+    )
 }

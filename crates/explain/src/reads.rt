@@ -23,7 +23,7 @@ pub(crate) fn of_operand(operand: Operand) -> Option<Reg>
 }
 
 /// What an operation reads of its destination: a move nothing.
-fn of_first(operation: Operation, dst: Reg) -> Option<Reg>
+pub(crate) fn of_first(operation: Operation, dst: Reg) -> Option<Reg>
     ensures { result ≡ of_first operation dst }
 {
     match operation {

@@ -1,21 +1,49 @@
 //! Which rule of the verifier an instruction meets that leaves a register unknown, or tells nothing of it.
-ghost use Rattle.std.specs.Prelude.{◌≡◌, ◌^◌, ◌-◌};
-ghost use Rattle.explain.specs.Rules.{number_rule, unset_rule, rule_text, is_signed, limit_bits, is_past, passed_by};
+ghost use Rattle.std.specs.Prelude.{◌≡◌, ◌^◌, ◌-◌, ◌++◌, string_bytes, OnOk};
+ghost use Rattle.word.specs.Arithmetic.{bits_of};
+ghost use Rattle.explain.specs.Rules.{may_wrap, is_all, number_rule, unset_rule, rule_text, is_signed, limit_bits, is_past, is_operand, passed_by, tested_text, passing_text};
 
-use absval::AbsVal;
+use crate::saying::{put_between, put_counted};
+use absval::{AbsVal, NumberSet};
 use insn::{Insn, Operand, Reg};
-use std::fmt;
+use range::Range;
+use std::alloc::AllocError;
 use word::{Condition, Operation, Width};
 
-/// Of one that left a number.
-fn number_rule(insn: &Insn) -> &'static str
-    ensures { result.now ≡ number_rule insn.now }
+/// Whether a result that is too large for its width wraps around.
+fn may_wrap(operation: Operation) -> bool
+    ensures { result ≡ may_wrap operation }
+{
+    match operation {
+        Operation::Add | Operation::Sub | Operation::Mul | Operation::ShiftLeft => true,
+        _ => false,
+    }
+}
+
+/// Whether the range has every number of the width.
+fn is_all(width: Width, range: Range) -> bool
+    ensures { result ≡ is_all (bits_of width) range }
+{
+    range.lo == 0 && range.hi == limit(width, false)
+}
+
+/// Of one that left these numbers.
+fn number_rule(insn: &Insn, numbers: NumberSet) -> &'static str
+    ensures { result.now ≡ number_rule insn.now numbers }
 {
     match insn {
         Insn::Arithmetic {
             operation: Operation::ArithmeticShiftRight,
             ..
         } => ": the sign is copied, so of numbers on both sides of 2^63 it is any number",
+        Insn::Arithmetic {
+            width,
+            operation,
+            ..
+        } if may_wrap(*operation) && is_all(*width, numbers.range()) => {
+            ": what may wrap is any number of its width"
+        }
+        Insn::Call { .. } => ": of an answer its range alone is known",
         Insn::Negate { .. } => ": what was 0 and more becomes 0, and just below 2^64",
         Insn::SignExtend { .. } | Insn::LoadSigned { .. } => {
             ": the sign is extended, so it is small, or just below 2^64"
@@ -41,7 +69,7 @@ pub(crate) fn rule_text(insn: &Insn, value: AbsVal) -> &'static str
 {
     match value {
         AbsVal::Unset => unset_rule(insn),
-        AbsVal::Number(_) => number_rule(insn),
+        AbsVal::Number(numbers) => number_rule(insn, numbers),
         AbsVal::Pointer(..) => "",
     }
 }
@@ -102,25 +130,36 @@ pub(crate) enum Passing {
     Copied(Reg),
 }
 
-impl fmt::Display for Passing {
-    ghost use Rattle.std.specs.Prelude.{Some};
-    ghost use Rattle.explain.specs.Rules.{passing_text};
+/// What is said of a test.
+#[tactic(auto, unfolding(crate::specs::Rules::tested_text))]
+fn tested() -> &'static str
+    ensures { result.now ≡ tested_text }
+{
+    ": such a test tells only of numbers that are known to be below 2^"
+}
 
-    ghost output = { λ tells. Some (passing_text tells) };
+/// Adds what such an instruction tells nothing of.
+pub(crate) fn put_tells(out: &mut String, tells: Passing) -> Result<(), AllocError>
+    ensures { OnOk result (string_bytes out.new ≡ string_bytes out.old ++ passing_text tells) }
+{
+    match tells {
+        Passing::Test(bits) => put_counted(out, tested(), u64::from(bits)),
+        Passing::Copied(dst) => put_between(
+            out,
+            ": what is tested of r",
+            u64::from(dst.number()),
+            " is not known of it",
+        ),
+    }
+}
 
-    fn fmt<W: fmt::Write>(&self, f: &mut fmt::Formatter<W>) -> fmt::Result {
-        match *self {
-            Passing::Test(bits) => {
-                write!(
-                    f,
-                    ": such a test tells only of numbers that are known to be below 2^{bits}"
-                )
-            }
-            Passing::Copied(dst) => {
-                let dst = dst.number();
-                write!(f, ": what is tested of r{dst} is not known of it")
-            }
-        }
+/// Whether an operand is a register.
+fn is_operand(r: Reg, operand: Operand) -> bool
+    ensures { result ≡ is_operand r operand }
+{
+    match operand {
+        Operand::Register(src) => src.number() == r.number(),
+        Operand::Immediate(_) => false,
     }
 }
 
@@ -133,10 +172,12 @@ pub(crate) fn passed_by(r: Reg, insn: &Insn, value: AbsVal) -> Option<Passing>
             width,
             condition,
             dst,
+            operand,
             ..
         } => {
             let signed = is_signed(*condition);
-            if dst.number() == r.number() && is_past(*width, signed, value) {
+            let tests = dst.number() == r.number() || is_operand(r, *operand);
+            if tests && is_past(*width, signed, value) {
                 return Some(Passing::Test(limit_bits(*width, signed)));
             }
             None

@@ -1,8 +1,29 @@
 //! How a unit is told.
-ghost use Rattle.std.specs.Prelude.{◌≡◌, ◌++◌, option_map, string_bytes, OnOk};
-ghost use Rattle.explain.specs.Units.{in_brackets, places_in, text_or_none, unit_text};
+ghost use Rattle.std.specs.Prelude.{◌≡◌, ◌++◌, slice_get, string_bytes, OnOk};
+ghost use Rattle.explain.specs.Units.{in_brackets, insn_at, statement_text, text_or_none, unit_text, written_in};
 
+use asm::{put, put_instruction, put_unsigned};
+use insn::Insn;
 use std::alloc::AllocError;
+
+/// How the units of a program are written in the text that it was made of; what is not there, or empty, is not known.
+#[derive(Clone, Copy, Debug)]
+pub struct Written<'a> {
+    /// The place of each unit, such as `line 7`.
+    pub places: &'a [String],
+    /// The instruction of each unit, such as `call board_get`.
+    pub statements: &'a [String],
+}
+
+/// The text of a unit, empty where there is none.
+fn text_of(texts: &[String], unit: usize) -> &str
+    ensures { result.now ≡ text_or_none (slice_get texts.now unit) }
+{
+    match texts.get(unit) {
+        Some(text) => text.as_str(),
+        None => "",
+    }
+}
 
 /// Adds a place in brackets, if it is not empty.
 fn put_in_brackets(out: &mut String, place: &str) -> Result<(), AllocError>
@@ -11,20 +32,39 @@ fn put_in_brackets(out: &mut String, place: &str) -> Result<(), AllocError>
     if place.is_empty() {
         return Ok(());
     }
-    write!(out, " ({place})")
+    put(out, " (")?;
+    put(out, place)?;
+    put(out, ")")
 }
 
 /// Adds a unit and, where that is known, its place in the text that it was written in.
-pub(crate) fn put_unit_text(
-    out: &mut String,
-    places: &[String],
-    unit: usize,
-) -> Result<(), AllocError>
-    ensures { OnOk result (string_bytes out.new ≡ string_bytes out.old ++ unit_text (places_in places.now) unit) }
+fn put_unit_text(out: &mut String, written: &Written<'_>, unit: usize) -> Result<(), AllocError>
+    ensures { OnOk result (string_bytes out.new ≡ string_bytes out.old ++ unit_text (written_in written.now) unit) }
 {
-    write!(out, "{unit}")?;
-    match places.get(unit) {
-        Some(place) => put_in_brackets(out, place.as_str()),
-        None => Ok(()),
+    put_unsigned(out, unit as u64)?;
+    put_in_brackets(out, text_of(written.places, unit))
+}
+
+/// Adds an instruction as it is written, else as it is printed.
+fn put_statement(out: &mut String, statement: &str, insn: &Insn) -> Result<(), AllocError>
+    ensures { OnOk result (string_bytes out.new ≡ string_bytes out.old ++ statement_text statement.now insn.now) }
+{
+    if statement.is_empty() {
+        return put_instruction(out, insn);
     }
+    put(out, statement)
+}
+
+/// Adds a unit and its instruction.
+pub(crate) fn put_insn_at(
+    out: &mut String,
+    written: &Written<'_>,
+    unit: usize,
+    insn: &Insn,
+) -> Result<(), AllocError>
+    ensures { OnOk result (string_bytes out.new ≡ string_bytes out.old ++ insn_at (written_in written.now) unit insn.now) }
+{
+    put_unit_text(out, written, unit)?;
+    put(out, " ")?;
+    put_statement(out, text_of(written.statements, unit), insn)
 }

@@ -1,13 +1,14 @@
 //! What is known of a value, as text.
-ghost use Rattle.std.specs.Prelude.{◌≡◌, ◌==◌, ◌||◌};
+ghost use Rattle.std.specs.Prelude.{◌≡◌, ◌==◌, ◌||◌, ◌++◌, string_bytes, OnOk};
 ghost use Rattle.std.specs.Int.{w64, cast_signed};
-ghost use Rattle.explain.specs.Values.{is_any, is_bound, region_text};
+ghost use Rattle.explain.specs.Values.{words_text, span_text, is_any, range_text, is_bound, bits_text, numbers_text, region_text, value_text};
 
 use absval::{AbsVal, NumberSet};
+use asm::{put, put_number, put_unsigned};
 use bits::Bits;
 use range::Range;
 use semantics::Region;
-use std::fmt;
+use std::alloc::AllocError;
 
 /// From one number to another, both among them.
 #[derive(Clone, Copy, Debug, PartialEq, Eq)]
@@ -25,40 +26,28 @@ pub(crate) fn between(low: i64, high: i64) -> Span
     Span { low, high }
 }
 
-impl fmt::Display for Span {
-    ghost use Rattle.std.specs.Prelude.{Some};
-    ghost use Rattle.explain.specs.Values.{span_text};
-
-    ghost output = { λ span. Some (span_text (span.low, span.high)) };
-
-    fn fmt<W: fmt::Write>(&self, f: &mut fmt::Formatter<W>) -> fmt::Result {
-        let Span { low, high } = *self;
-        if low == high {
-            write!(f, "{low}")
-        } else {
-            write!(f, "{low} to {high}")
-        }
+/// Adds one number, or from one to another.
+pub(crate) fn put_span(out: &mut String, span: Span) -> Result<(), AllocError>
+    ensures { OnOk result (string_bytes out.new ≡ string_bytes out.old ++ span_text (span.low, span.high)) }
+{
+    put_number(out, span.low)?;
+    if span.low == span.high {
+        return Ok(());
     }
+    put(out, " to ")?;
+    put_number(out, span.high)
 }
 
-/// A range of words.
-#[derive(Clone, Copy)]
-struct Words(Range);
-
-impl fmt::Display for Words {
-    ghost use Rattle.std.specs.Prelude.{Some};
-    ghost use Rattle.explain.specs.Values.{words_text};
-
-    ghost output = { λ words. Some (words_text words.0) };
-
-    fn fmt<W: fmt::Write>(&self, f: &mut fmt::Formatter<W>) -> fmt::Result {
-        let Range { lo, hi } = self.0;
-        if lo == hi {
-            write!(f, "{lo}")
-        } else {
-            write!(f, "{lo} to {hi}")
-        }
+/// Adds a range of words.
+fn put_words(out: &mut String, range: Range) -> Result<(), AllocError>
+    ensures { OnOk result (string_bytes out.new ≡ string_bytes out.old ++ words_text range) }
+{
+    put_unsigned(out, range.lo)?;
+    if range.lo == range.hi {
+        return Ok(());
     }
+    put(out, " to ")?;
+    put_unsigned(out, range.hi)
 }
 
 /// Whether the range has every word.
@@ -78,28 +67,17 @@ fn signed(range: Range) -> Span
     }
 }
 
-/// A range of numbers, told as negative ones where each is.
-#[derive(Clone, Copy)]
-struct Spread(Range);
-
-impl fmt::Display for Spread {
-    ghost use Rattle.std.specs.Prelude.{Some};
-    ghost use Rattle.explain.specs.Values.{range_text};
-
-    ghost output = { λ spread. Some (range_text spread.0) };
-
-    fn fmt<W: fmt::Write>(&self, f: &mut fmt::Formatter<W>) -> fmt::Result {
-        let range = self.0;
-        if is_any(range) {
-            return f.write_str("any number");
-        }
-        if range.lo >= 0x8000_0000_0000_0000 {
-            let span = signed(range);
-            write!(f, "{span}")
-        } else {
-            let words = Words(range);
-            write!(f, "{words}")
-        }
+/// Adds a range of numbers, told as negative ones where each is.
+fn put_range(out: &mut String, range: Range) -> Result<(), AllocError>
+    ensures { OnOk result (string_bytes out.new ≡ string_bytes out.old ++ range_text range) }
+{
+    if is_any(range) {
+        return put(out, "any number");
+    }
+    if range.lo >= 0x8000_0000_0000_0000 {
+        put_span(out, signed(range))
+    } else {
+        put_words(out, range)
     }
 }
 
@@ -110,26 +88,25 @@ fn is_bound(bits: Bits) -> bool
     bits.value == 0 && bits.mask & bits.mask.wrapping_add(1) == 0
 }
 
-/// Numbers of a range that have some bits.
-#[derive(Clone, Copy)]
-struct Numbers(NumberSet);
+/// Adds the bits that are open, and those that are set.
+fn put_bits(out: &mut String, bits: Bits) -> Result<(), AllocError>
+    ensures { OnOk result (string_bytes out.new ≡ string_bytes out.old ++ bits_text bits) }
+{
+    let Bits { mask, value } = bits;
+    write!(out, ", bits 0x{mask:x} open, 0x{value:x} set")
+}
 
-impl fmt::Display for Numbers {
-    ghost use Rattle.std.specs.Prelude.{Some};
-    ghost use Rattle.explain.specs.Values.{numbers_text};
-
-    ghost output = { λ numbers. Some (numbers_text numbers.0) };
-
-    fn fmt<W: fmt::Write>(&self, f: &mut fmt::Formatter<W>) -> fmt::Result {
-        let range = self.0.range();
-        let bits = self.0.bits();
-        let spread = Spread(range);
-        if range.lo == range.hi || is_bound(bits) {
-            return write!(f, "{spread}");
-        }
-        let Bits { mask, value } = bits;
-        write!(f, "{spread}, bits 0x{mask:x} open, 0x{value:x} set")
+/// Adds numbers of a range that have some bits.
+fn put_numbers(out: &mut String, numbers: NumberSet) -> Result<(), AllocError>
+    ensures { OnOk result (string_bytes out.new ≡ string_bytes out.old ++ numbers_text numbers) }
+{
+    let range = numbers.range();
+    let bits = numbers.bits();
+    put_range(out, range)?;
+    if range.lo == range.hi || is_bound(bits) {
+        return Ok(());
     }
+    put_bits(out, bits)
 }
 
 /// What a region is called.
@@ -142,31 +119,23 @@ pub(crate) fn region_name(region: Region) -> &'static str
     }
 }
 
-/// What is known of a value, to be told: the numbers that it may be, or the region and the offsets.
-#[derive(Clone, Copy, Debug, PartialEq, Eq)]
-pub struct Known(pub AbsVal);
-
-impl fmt::Display for Known {
-    ghost use Rattle.std.specs.Prelude.{Some};
-    ghost use Rattle.explain.specs.Values.{value_text};
-
-    ghost output = { λ known. Some (value_text known.0) };
-
-    fn fmt<W: fmt::Write>(&self, f: &mut fmt::Formatter<W>) -> fmt::Result {
-        match self.0 {
-            AbsVal::Unset => f.write_str("perhaps unset"),
-            AbsVal::Number(numbers) => {
-                let numbers = Numbers(numbers);
-                write!(f, "{numbers}")
-            }
-            AbsVal::Pointer(region, offsets) => {
-                let region = region_name(region);
-                let span = Span {
+/// Adds what is known of a value: the numbers that it may be, or the region and the offsets.
+pub(crate) fn put_known(out: &mut String, value: AbsVal) -> Result<(), AllocError>
+    ensures { OnOk result (string_bytes out.new ≡ string_bytes out.old ++ value_text value) }
+{
+    match value {
+        AbsVal::Unset => put(out, "perhaps unset"),
+        AbsVal::Number(numbers) => put_numbers(out, numbers),
+        AbsVal::Pointer(region, offsets) => {
+            put(out, region_name(region))?;
+            put(out, " ")?;
+            put_span(
+                out,
+                Span {
                     low: i64::from(offsets.low),
                     high: i64::from(offsets.high),
-                };
-                write!(f, "{region} {span}")
-            }
+                },
+            )
         }
     }
 }

@@ -1,7 +1,8 @@
 //! Which edits are to be tried for a sentence.
 ghost use Rattle.std.specs.Prelude.{◌≡◌, ◌<◌, ◌≤◌, IfSome, slice_get};
-ghost use Rattle.explain.specs.Helps.{moving_mask, exchanged, copy_of, is_open, copy_at, last_copy, by_copy, for_misuse, for_argument, for_misfit, is_set, last_set, moved_at, for_access, wanted};
+ghost use Rattle.explain.specs.Helps.{moving_mask, exchanged, copy_of, is_open, copy_at, last_copy, by_copy, for_misuse, for_argument, for_misfit, moved_at, for_access, wanted};
 
+use crate::origins::last_set;
 use crate::sentence::{Access, Misfit, Misuse, Sentence};
 use absval::AbsVal;
 use causes::{Edit, Mark, numbered};
@@ -17,6 +18,8 @@ pub(crate) enum Choice {
     One(Edit),
     /// This one, else a mask of the register.
     Either(Edit, Reg),
+    /// The sum of the number of one register and the pointer of another, in the pointer's register.
+    Exchanged(Reg, Reg),
 }
 
 /// The number that moves a pointer.
@@ -47,8 +50,7 @@ fn exchanged(unit: usize, insn: &Insn) -> Option<(usize, Choice)>
     else {
         return None;
     };
-    let sum = Edit::Instead(Operation::Add, *src, Operand::Register(*dst));
-    Some((unit, Choice::One(sum)))
+    Some((unit, Choice::Exchanged(*dst, *src)))
 }
 
 /// The register to which an instruction copies this one.
@@ -168,30 +170,6 @@ fn for_misfit(unit: usize, misfit: Misfit) -> Option<(usize, Choice)>
         Misfit::Above(_, r, value, _) => for_argument(unit, r, value),
         _ => None,
     }
-}
-
-/// Whether the instruction of a unit sets it.
-fn is_set(marks: &[Mark], unit: usize) -> bool
-    ensures { result ≡ is_set (slice_get marks.now unit) }
-{
-    match marks.get(unit) {
-        Some(Mark::Sets) => true,
-        _ => false,
-    }
-}
-
-/// The last of the units below one that set it.
-fn last_set(marks: &[Mark], unit: usize) -> Option<usize>
-    ensures set { result ≡ last_set marks.now unit }
-    ensures below { IfSome result (λ n. n < unit) }
-{
-    if unit == 0 {
-        return None;
-    }
-    if is_set(marks, unit - 1) {
-        return Some(unit - 1);
-    }
-    last_set(marks, unit - 1)
 }
 
 /// The number that moves a pointer at a unit.

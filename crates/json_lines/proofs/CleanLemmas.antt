@@ -6,7 +6,7 @@ use Rattle.std.specs.Cmp.Lexicographic.{slice_cmp}
 use Rattle.std.specs.Ordering.{match_ordering, nat_cmp}
 use Rattle.serde_json.specs.Data.{Data, null, boolean, number, unsigned, string, array, Items, no_items, item, Members, no_members, member, put}
 use Rattle.serde_json.specs.Written.{has_float, items_have_float, members_have_float}
-use Rattle.text.specs.Parts.{before, pieces}
+use Rattle.text.specs.Parts.{before, lines_of, pieces}
 use Rattle.text.specs.Stop.{dot, feed, space}
 use Rattle.json_lines.specs.declared.held.Held.{Held}
 use Rattle.json_lines.specs.declared.shape.Within.{Within}
@@ -14,7 +14,7 @@ use Rattle.json_lines.specs.declared.shape.Within.TheVariants.{Nothing, Round, L
 use Rattle.json_lines.specs.Labels.{label_of, number_at, numbers, placed, with_label, with_number}
 use Rattle.json_lines.specs.Lines.{with_file}
 use Rattle.json_lines.specs.Objects.{called, first_by, first_shaped, line_object, or, shaped, told_by, unshaped, with_mark, with_name}
-use Rattle.json_lines.specs.Refusals.{behind_stop, class_of, fault_object, refusal_object, refused_object, sentence_of, with_sentence, with_text}
+use Rattle.json_lines.specs.Refusals.{behind_stop, class_of, fault_object, refusal_object, refused_object, reported, sentence_of, with_sentence, with_text}
 use Rattle.json_lines.specs.Shapes.{Row, shapes}
 use Rattle.json_lines.specs.Told.{Word, all, joined, number_of, place_of, places, small, told, yes_no_of}
 
@@ -173,22 +173,23 @@ sentence_clean : (o : Option (List ℕ)) (ms : Members) → NoFloat ms → NoFlo
 sentence_clean None ms b = b
 sentence_clean (Some s) ms b = text_clean (codes "sentence") s ms b
 
-refused_clean : (told next : List ℕ) → NoFloat (refused_object told next)
-refused_clean told next =
+refused_clean : (told : List ℕ) (lines : List (List ℕ)) → NoFloat (refused_object told lines)
+refused_clean told lines =
     let code = before space told in
     let coded = with_text (codes "code") code (called (codes "refused")) in
     let placed_at = with_text (codes "place") (behind_stop space told) coded in
     let classed = put (codes "class") (string (class_of code)) placed_at in
     let first : NoFloat coded = text_clean (codes "code") code (called (codes "refused")) refl in
     let second : NoFloat placed_at = text_clean (codes "place") (behind_stop space told) coded first in
-    sentence_clean (sentence_of next) classed (put_clean (codes "class") (string (class_of code)) placed_at refl second)
+    sentence_clean (sentence_of code lines) classed (put_clean (codes "class") (string (class_of code)) placed_at refl second)
 
-fault_clean : (told : List ℕ) → NoFloat (fault_object told)
-fault_clean told =
+fault_clean : (told : List ℕ) (lines : List (List ℕ)) → NoFloat (fault_object told lines)
+fault_clean told lines =
     let what = with_text (codes "fault") (before space told) (called (codes "fault")) in
-    let file = with_text (codes "file") (behind_stop space told) what in
+    let place = with_text (codes "place") (behind_stop space told) what in
     let first : NoFloat what = text_clean (codes "fault") (before space told) (called (codes "fault")) refl in
-    put_clean (codes "class") (string (codes "unreadable")) file refl (text_clean (codes "file") (behind_stop space told) what first)
+    let classed = put (codes "class") (string (codes "unreadable")) place in
+    sentence_clean (reported lines) classed (put_clean (codes "class") (string (codes "unreadable")) place refl (text_clean (codes "place") (behind_stop space told) what first))
 
 unshaped_clean : (line : List ℕ) → NoFloat (unshaped line)
 unshaped_clean line = put_clean (codes "text") (string (utf8_lossy line)) (called (codes "text")) refl refl
@@ -198,8 +199,10 @@ unfolding refusal_object
 refusal_clean text =
     let line = before feed text in
     let word = before space line in
-    either NoFloat (bytes_eq word (codes "refused")) (refused_object (behind_stop space line) (before feed (behind_stop feed text))) (if bytes_eq word (codes "fault") then fault_object (behind_stop space line) else unshaped line) (refused_clean (behind_stop space line) (before feed (behind_stop feed text)))
-    (either NoFloat (bytes_eq word (codes "fault")) (fault_object (behind_stop space line)) (unshaped line) (fault_clean (behind_stop space line)) (unshaped_clean line))
+    let lines = lines_of (behind_stop feed text) in
+    let told = behind_stop space line in
+    either NoFloat (bytes_eq word (codes "refused")) (refused_object told lines) (if bytes_eq word (codes "fault") then fault_object told lines else unshaped line) (refused_clean told lines)
+    (either NoFloat (bytes_eq word (codes "fault")) (fault_object told lines) (unshaped line) (fault_clean told lines) (unshaped_clean line))
 
 -- nor does the name of a file
 pub file_clean : (file : List ℕ) (ms : Members) → members_have_float ms ≡ false → members_have_float (with_file file ms) ≡ false

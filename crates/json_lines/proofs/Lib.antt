@@ -2,3 +2,4 @@ mod CleanLemmas
 mod ItemLemmas
 mod LabelLemmas
 mod ToldLemmas
+mod WhyLemmas

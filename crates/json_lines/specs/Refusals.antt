@@ -1,9 +1,10 @@
 -- What is said where a task is not done, as an object (own).
-use Rattle.std.specs.Prelude.{ℕ, ◌==◌, ◌||◌, Bool, if◌then◌else◌, List, drop, take, slice_index, Option, None, Some, bytes_eq, codes}
+use Rattle.std.specs.Prelude.{ℕ, ◌==◌, ◌||◌, not, Bool, if◌then◌else◌, List, drop, find, reverse, take, slice_get, slice_index, Option, None, Some, option_map, bytes_eq, codes}
+use Rattle.std.specs.Option.{option_or}
 use Rattle.std.specs.Str.Lossy.{utf8_lossy}
 use Rattle.serde_json.specs.Data.{string, Members, put}
 use Rattle.text.specs.declared.stop.Stop.{Stop}
-use Rattle.text.specs.Parts.{before, from}
+use Rattle.text.specs.Parts.{before, from, lines_of}
 use Rattle.text.specs.Stop.{feed, space}
 use Rattle.json_lines.specs.Objects.{called, unshaped}
 
@@ -19,8 +20,26 @@ abbrev pub class_of : List ℕ → List ℕ
 class_of code = if is_unsafe code then codes "unsafe" else codes "malformed"
 
 -- the sentence of a report, behind the mark of its line
-abbrev pub sentence_of : List ℕ → Option (List ℕ)
-sentence_of line = if bytes_eq (take 7 line) (codes "error: ") then Some (drop 7 line) else None
+abbrev pub is_reported : List ℕ → Bool
+is_reported line = bytes_eq (take 7 line) (codes "error: ")
+
+abbrev pub reported : List (List ℕ) → Option (List ℕ)
+reported lines = option_map (drop 7) (find is_reported lines)
+
+-- the line of an explanation that says why: the last that is no note and no help
+abbrev pub is_why : List ℕ → Bool
+is_why line = not (bytes_eq (take 6 line) (codes "note: ") || bytes_eq (take 6 line) (codes "help: "))
+
+abbrev pub why : List (List ℕ) → Option (List ℕ)
+why lines = find is_why (reverse lines)
+
+-- what is said without a report: of the verifier's codes by their explanation, of an object's by the next line
+abbrev pub said : List ℕ → List (List ℕ) → Option (List ℕ)
+said code lines = if slice_index code 0 == 86 then why lines else if slice_index code 0 == 79 then slice_get lines 0 else None
+
+-- why a file is refused by this code, as the lines behind its own say
+abbrev pub sentence_of : List ℕ → List (List ℕ) → Option (List ℕ)
+sentence_of code lines = option_or (reported lines) (said code lines)
 
 abbrev pub with_text : List ℕ → List ℕ → Members → Members
 with_text name t ms = put name (string (utf8_lossy t)) ms
@@ -29,25 +48,27 @@ abbrev pub with_sentence : Option (List ℕ) → Members → Members
 with_sentence None ms = ms
 with_sentence (Some s) ms = with_text (codes "sentence") s ms
 
--- of a refusal: its code, its place, and the line behind its own
-abbrev pub refused_object : List ℕ → List ℕ → Members
-refused_object told next =
+-- of a refusal: its code, its place, and why, by the lines behind its own
+abbrev pub refused_object : List ℕ → List (List ℕ) → Members
+refused_object told lines =
     let code = before space told in
-    with_sentence (sentence_of next)
+    with_sentence (sentence_of code lines)
     (put (codes "class") (string (class_of code))
     (with_text (codes "place") (behind_stop space told) (with_text (codes "code") code (called (codes "refused")))))
 
--- of a fault of a file: which fault, and the file
-abbrev pub fault_object : List ℕ → Members
-fault_object told =
-    put (codes "class") (string (codes "unreadable"))
-    (with_text (codes "file") (behind_stop space told) (with_text (codes "fault") (before space told) (called (codes "fault"))))
+-- of a fault of a file: which fault, the file as the place, and the report behind
+abbrev pub fault_object : List ℕ → List (List ℕ) → Members
+fault_object told lines =
+    with_sentence (reported lines)
+    (put (codes "class") (string (codes "unreadable"))
+    (with_text (codes "place") (behind_stop space told) (with_text (codes "fault") (before space told) (called (codes "fault")))))
 
 -- by the first word of the first line
 unfoldable pub refusal_object : List ℕ → Members
 refusal_object text =
     let line = before feed text in
     let word = before space line in
-    if bytes_eq word (codes "refused") then refused_object (behind_stop space line) (before feed (behind_stop feed text))
-    else if bytes_eq word (codes "fault") then fault_object (behind_stop space line)
+    let lines = lines_of (behind_stop feed text) in
+    if bytes_eq word (codes "refused") then refused_object (behind_stop space line) lines
+    else if bytes_eq word (codes "fault") then fault_object (behind_stop space line) lines
     else unshaped line

@@ -1,9 +1,9 @@
 //! A refusal, or a fault of a file, as an object.
-ghost use Rattle.std.specs.Prelude.{◌≡◌, IfOk, OnOk, option_map};
+ghost use Rattle.std.specs.Prelude.{◌≡◌, IfNone, IfOk, IfSome, OnOk, drop, false, option_map, slice_get, true};
 ghost use Rattle.serde_json.specs.View.{members_view};
-ghost use Rattle.text.specs.Parts.{before};
+ghost use Rattle.text.specs.Parts.{before, lines_of};
 ghost use Rattle.json_lines.specs.Lines.{object_line};
-ghost use Rattle.json_lines.specs.Refusals.{behind_stop, class_of, fault_object, is_unsafe, refusal_object, refused_object, sentence_of, with_sentence, with_text};
+ghost use Rattle.json_lines.specs.Refusals.{behind_stop, class_of, fault_object, is_reported, is_unsafe, is_why, refusal_object, refused_object, reported, said, sentence_of, why, with_sentence, with_text};
 
 use crate::lines::push_object;
 use crate::objects::{called, unshaped};
@@ -11,7 +11,7 @@ use crate::stops::{FEED, SPACE};
 use crate::told::spelled;
 use serde_json::{Map, Value, put};
 use std::alloc::{AllocError, Global};
-use text::{Stop, cut};
+use text::{Stop, cut, line};
 
 /// What stands before the first stop, and what behind it.
 fn parted(stop: Stop, bytes: &[u8]) -> (&[u8], &[u8])
@@ -46,23 +46,89 @@ fn class_of(code: &[u8]) -> &'static str
     }
 }
 
-/// The sentence of a report, if the line has one.
-fn sentence_of(line: &[u8]) -> Option<&[u8]>
-    ensures { option_map (λ s. s.now) result ≡ sentence_of line.now }
+/// The sentence behind the mark of a report, if the line has it.
+fn behind_mark(line: &[u8]) -> Option<&[u8]>
+    ensures some { IfSome result (λ s. (is_reported line.now ≡ true) × (s.now ≡ drop 7 line.now)) }
+    ensures none { IfNone result (is_reported line.now ≡ false) }
 {
     line.strip_prefix(b"error: ")
 }
 
-/// Puts the sentence of a report, if there is one.
+/// The sentence of a report, if one of the lines has it.
+fn reported(lines: &[u8]) -> Option<&[u8]>
+    ensures { option_map (λ s. s.now) result ≡ reported (lines_of lines.now) }
+{
+    let mut rest = lines;
+    while let Some((first, behind)) = line(rest) {
+        if let Some(sentence) = behind_mark(first) {
+            return Some(sentence);
+        }
+        rest = behind;
+    }
+    None
+}
+
+/// Whether the line of an explanation is no note and no help.
+fn is_why(line: &[u8]) -> bool
+    ensures { result ≡ is_why line.now }
+{
+    line.strip_prefix(b"note: ").is_none() && line.strip_prefix(b"help: ").is_none()
+}
+
+/// The line of an explanation that says why.
+fn why(lines: &[u8]) -> Option<&[u8]>
+    ensures { option_map (λ l. l.now) result ≡ why (lines_of lines.now) }
+{
+    let mut last = None;
+    let mut rest = lines;
+    while let Some((first, behind)) = line(rest) {
+        if is_why(first) {
+            last = Some(first);
+        }
+        rest = behind;
+    }
+    last
+}
+
+/// The first of the lines.
+fn first_of(lines: &[u8]) -> Option<&[u8]>
+    ensures { option_map (λ l. l.now) result ≡ slice_get (lines_of lines.now) 0 }
+{
+    let (first, _) = line(lines)?;
+    Some(first)
+}
+
+/// What the lines say of a refusal by this code without a report.
+fn said<'a>(code: &[u8], lines: &'a [u8]) -> Option<&'a [u8]>
+    ensures { option_map (λ l. l.now) result ≡ said code.now (lines_of lines.now) }
+{
+    match code {
+        [first, ..] if *first == b'V' => why(lines),
+        [first, ..] if *first == b'O' => first_of(lines),
+        _ => None,
+    }
+}
+
+/// Why a file is refused by this code, if the lines say it.
+fn sentence_of<'a>(code: &[u8], lines: &'a [u8]) -> Option<&'a [u8]>
+    ensures { option_map (λ s. s.now) result ≡ sentence_of code.now (lines_of lines.now) }
+{
+    match reported(lines) {
+        Some(sentence) => Some(sentence),
+        None => said(code, lines),
+    }
+}
+
+/// Puts a sentence, if there is one.
 fn put_sentence(
     alloc: Global,
     object: &mut Map<String, Value>,
-    line: &[u8],
+    sentence: Option<&[u8]>,
 ) -> Result<(), AllocError>
-    ensures { OnOk result (members_view object.new.entries ≡ with_sentence (sentence_of line.now) (members_view object.old.entries)) }
+    ensures { OnOk result (members_view object.new.entries ≡ with_sentence (option_map (λ s. s.now) sentence.entry) (members_view object.old.entries)) }
 {
-    match sentence_of(line) {
-        Some(sentence) => put(object, alloc, "sentence", spelled(alloc, sentence)?),
+    match sentence {
+        Some(sentence) => put_text(alloc, object, "sentence", sentence),
         None => Ok(()),
     }
 }
@@ -79,9 +145,9 @@ fn put_text(
     put(object, alloc, name, spelled(alloc, text)?)
 }
 
-/// The object of a refusal: its code and place, and the line behind its own.
-fn refused(alloc: Global, told: &[u8], next: &[u8]) -> Result<Map<String, Value>, AllocError>
-    ensures { IfOk result (λ object. members_view object.entries ≡ refused_object told.now next.now) }
+/// The object of a refusal: its code and place, and why, by the lines behind its own.
+fn refused(alloc: Global, told: &[u8], lines: &[u8]) -> Result<Map<String, Value>, AllocError>
+    ensures { IfOk result (λ object. members_view object.entries ≡ refused_object told.now (lines_of lines.now)) }
 {
     let (code, place) = parted(SPACE, told);
     let mut object = called(alloc, "refused")?;
@@ -93,24 +159,25 @@ fn refused(alloc: Global, told: &[u8], next: &[u8]) -> Result<Map<String, Value>
         "class",
         Value::try_from_str(alloc, class_of(code))?,
     )?;
-    put_sentence(alloc, &mut object, next)?;
+    put_sentence(alloc, &mut object, sentence_of(code, lines))?;
     Ok(object)
 }
 
-/// The object of a fault of a file.
-fn fault(alloc: Global, told: &[u8]) -> Result<Map<String, Value>, AllocError>
-    ensures { IfOk result (λ object. members_view object.entries ≡ fault_object told.now) }
+/// The object of a fault of a file, with the report behind it.
+fn fault(alloc: Global, told: &[u8], lines: &[u8]) -> Result<Map<String, Value>, AllocError>
+    ensures { IfOk result (λ object. members_view object.entries ≡ fault_object told.now (lines_of lines.now)) }
 {
     let (fault, file) = parted(SPACE, told);
     let mut object = called(alloc, "fault")?;
     put_text(alloc, &mut object, "fault", fault)?;
-    put_text(alloc, &mut object, "file", file)?;
+    put_text(alloc, &mut object, "place", file)?;
     put(
         &mut object,
         alloc,
         "class",
         Value::try_from_str(alloc, "unreadable")?,
     )?;
+    put_sentence(alloc, &mut object, reported(lines))?;
     Ok(object)
 }
 
@@ -122,17 +189,17 @@ pub(crate) fn refusal_object(alloc: Global, text: &[u8]) -> Result<Map<String, V
     let (line, others) = parted(FEED, text);
     let (word, told) = parted(SPACE, line);
     if word == b"refused".as_slice() {
-        let (next, _) = parted(FEED, others);
-        refused(alloc, told, next)
+        refused(alloc, told, others)
     } else if word == b"fault".as_slice() {
-        fault(alloc, told)
+        fault(alloc, told, others)
     } else {
         unshaped(alloc, line)
     }
 }
 
 /// What is said where a task is not done, as a line of JSON: of a refusal its code, its place, whether the file is malformed or
-/// its program unsafe, and the sentence of its report, if there is one; of a fault of a file what it is, and the file.
+/// its program unsafe, and why; of a fault of a file what it is, as its place the file, and why. The sentence that says why is
+/// there where the lines behind the first have it.
 ///
 /// # Errors
 ///

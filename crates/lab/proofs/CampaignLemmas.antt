@@ -6,6 +6,7 @@ use Rattle.board.specs.Board.{IsLegal}
 use Rattle.round.specs.Scenario.{Scenario, IsScenario}
 use Rattle.world.specs.declared.schedule.Repeat.{Repeat}
 use Rattle.world.specs.Chronicle.{Chronicle, chronicle_of}
+use Rattle.world.specs.declared.verdict.Verdict.{Verdict}
 use Rattle.world.specs.Promises.{AgreeUnderBound, IsVerdictOn, IsWellUnderBound}
 use Rattle.retold.specs.Retold.{Explains, IsWhole}
 use Rattle.retold.proofs.Rounds.{played_whole, replayed_whole}
@@ -20,8 +21,9 @@ use Rattle.world.specs.World.{oral_kind}
 use Rattle.world.specs.Schedules.{lines_by}
 use Rattle.signed.specs.Kind.{signed_kind}
 use Rattle.signed.specs.Promises.{AgreeUnderSignedBound, AreSafeThroughout, AreWhole, IsSignedVerdictOn}
+use Rattle.trace.specs.SignedAudit.{IsSoundSignedText, signed_chronicle_told}
 use Rattle.trace.specs.SignedText.{signed_text}
-use Rattle.lab.specs.Campaigns.{IsAccount, IsFollowed, IsMustered, IsOralAudited, IsOralPlayed, IsSignedPlayed, asked, played, signed_played}
+use Rattle.lab.specs.Campaigns.{IsAccount, IsFollowed, IsMustered, IsOralAudited, IsOralPlayed, IsSignedAudited, IsSignedPlayed, asked, played, signed_behind, signed_played}
 
 -- the account of the chronicle that is played, and what is behind it
 pub is_played : (s : Scenario) (schedule : List (List Repeat)) (account : Account) (explained : Option Lieutenants) (chronicle : Chronicle) (front text : List ℕ) → chronicle ≡ played s schedule
@@ -77,17 +79,17 @@ pub alone : (c : Chronicle) (front : List ℕ) → IsFollowed None c front front
 alone c front = ([], sym (append-nil front), refl)
 
 -- an empty line and an explanation
-pub followed : (who : Lieutenants) (c : Chronicle) (front lines text : List ℕ) → Explains c (asked who) lines → text ≡ (front ++ 10 ∷ []) ++ lines → IsFollowed (Some who) c front text
-followed who c front lines text explains is = (10 ∷ lines, is ∙ append_assoc front (10 ∷ []) lines, (lines, refl, explains))
+pub followed : (who : Lieutenants) (c : Chronicle) (front lines text : List ℕ) → Explains c (asked who) lines → text ≡ front ++ 10 ∷ lines → IsFollowed (Some who) c front text
+followed who c front lines text explains is = (10 ∷ lines, is, (lines, refl, explains))
 
 -- the same of a signed campaign
-pub is_signed_played : (s : Scenario) (schedule : List (List Repeat)) (chronicle : Chronicle) (text : List ℕ) → chronicle ≡ signed_played s schedule
+pub is_signed_played : (s : Scenario) (schedule : List (List Repeat)) (explained : Option Lieutenants) (chronicle : Chronicle) (front text : List ℕ) → chronicle ≡ signed_played s schedule
     → IsComplete signed_kind s (listed s (lines_by schedule))
     → AreSafeThroughout s (listed s (lines_by schedule)) → AreWhole s chronicle.accesses chronicle.letters
     → AgreeUnderSignedBound s chronicle.decisions → IsSignedVerdictOn s chronicle.decisions chronicle.verdict → IsWellUnderBound chronicle.verdict
-    → text ≡ signed_text chronicle → IsSignedPlayed s schedule text
-is_signed_played s schedule chronicle text listed complete safe whole agree verdict well told = record {
-  told = told ∙ ap signed_text listed;
+    → front ≡ signed_text chronicle → text ≡ front ++ signed_behind explained → IsSignedPlayed s schedule explained text
+is_signed_played s schedule explained chronicle front text listed complete safe whole agree verdict well told behind = record {
+  told = behind ∙ ap (λ (f : List ℕ). f ++ signed_behind explained) (told ∙ ap signed_text listed);
   complete = complete;
   safe = safe;
   whole = subst (λ (c : Chronicle). AreWhole s c.accesses c.letters) listed whole;
@@ -95,3 +97,15 @@ is_signed_played s schedule chronicle text listed complete safe whole agree verd
   verdict = subst (λ (c : Chronicle). IsSignedVerdictOn s c.decisions c.verdict) listed verdict;
   well = subst (λ (c : Chronicle). IsWellUnderBound c.verdict) listed well;
 }
+
+-- the lines of its audit
+pub is_signed_audited : (s : Scenario) (explained : Option Lieutenants) (bytes : List ℕ) (verdict : Verdict) (front text : List ℕ) → IsSoundSignedText s bytes → verdict ≡ (signed_chronicle_told s bytes).verdict
+    → front ≡ sound_lines verdict → text ≡ front ++ signed_behind explained → IsSignedAudited s explained bytes text
+is_signed_audited s explained bytes verdict front text sound is lines behind = record {
+  sound = sound;
+  told = behind ∙ ap (λ (f : List ℕ). f ++ signed_behind explained) (lines ∙ ap sound_lines is);
+}
+
+-- an empty line and lines behind a text
+pub behind_lines : (front lines text : List ℕ) → text ≡ (front ++ 10 ∷ []) ++ lines → text ≡ front ++ 10 ∷ lines
+behind_lines front lines text is = is ∙ append_assoc front (10 ∷ []) lines

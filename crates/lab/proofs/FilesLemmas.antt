@@ -5,19 +5,22 @@ use Rattle.std.specs.Prelude.{Bool, true, false, Option, None, Some, Ok, option_
 use Rattle.insn.specs.declared.insn.Insn.{Insn}
 use Rattle.command_line.specs.Told.{file_of, second_of}
 use Rattle.command_line.specs.declared.tasks.Account.{Account}
+use Rattle.command_line.specs.declared.tasks.Course.TheVariants.{Scheduled, Recorded}
 use Rattle.command_line.specs.declared.tasks.Lieutenants.{Lieutenants}
 use Rattle.command_line.specs.declared.tasks.Task.{Task}
-use Rattle.command_line.specs.declared.tasks.Task.TheVariants.{Check, Assemble, Disassemble, Book, ExplainDecisions, Form, Play, Muster, Audit, Explore}
+use Rattle.command_line.specs.declared.tasks.Task.TheVariants.{Check, Assemble, AssemblePartly, Disassemble, DisassemblePartly, Book, ExplainDecisions, Form, Play, Muster, Audit, Explore, Tree, Draw, Retrace}
 use Rattle.round.specs.Scenario.{Scenario}
 use Rattle.scenario.specs.declared.messages.Campaign.{Campaign}
 use Rattle.world.specs.declared.schedule.Repeat.{Repeat}
 use Rattle.trace.specs.Schedules.{schedule_told}
 use Rattle.lab.specs.Answers.{ComesTo, GoesOn, IsTriedBy, Prints}
-use Rattle.lab.specs.Hints.{explained_in}
+use Rattle.lab.specs.Hints.{explained_in, if_asked}
 use Rattle.lab.specs.Whys.{is_explained}
 use Rattle.lab.specs.Campaigns.{IsAudited, IsMustered, IsPlayed}
+use Rattle.lab.specs.Diagrams.{IsRecordDrawn}
 use Rattle.lab.specs.Faults.{Prevents, Stops}
-use Rattle.lab.specs.Serving.{AreSecond, AreSecondBytes, Files, IsAnswer, IsAuditOf, IsPlayedBy, IsScheduleOf, IsToldLater, IsTrialOf, first_name, second_name}
+use Rattle.lab.specs.Retracing.{IsScheduleFor}
+use Rattle.lab.specs.Serving.{AreSecond, AreSecondBytes, Files, IsAnswer, IsAuditOf, IsDrawnAs, IsDrawnBy, IsPlayedBy, IsRetracedBy, IsScheduleOf, IsToldLater, IsTrialOf, first_name, second_name}
 use Rattle.streams.specs.Reading.{AreBytes}
 use Rattle.lab.specs.declared.failure.Failure.{Failure}
 use Rattle.lab.specs.declared.first_answer.FirstAnswer.{FirstAnswer}
@@ -52,7 +55,9 @@ pub answered_played : (task : Task) (files : Files) (first text : List ℕ) (s :
 answered_played (Check file notation None explained traced) files first text s told why are comes by = absurd comes
 answered_played (Check file notation (Some context) explained traced) files first text s told why are comes by = absurd comes
 answered_played (Assemble file spelling target explained) files first text s told why are comes by = absurd comes
+answered_played (AssemblePartly file spelling target explained) files first text s told why are comes by = absurd comes
 answered_played (Disassemble file notation units explained) files first text s told why are comes by = absurd comes
+answered_played (DisassemblePartly file notation explained) files first text s told why are comes by = absurd comes
 answered_played (Book file) files first text s told why are comes by = absurd comes
 answered_played (ExplainDecisions file traitors) files first text s told why are comes by = absurd comes
 answered_played (Form n m c filling) files first text s told why are comes by = absurd comes
@@ -62,6 +67,10 @@ answered_played (Play scenario listing account explained) files first text s tol
 answered_played (Muster scenario explained) files first text s told why are comes by = absurd comes
 answered_played (Audit scenario chronicle explained) files first text s told why are comes by = absurd comes
 answered_played (Explore scenario most) files first text s told why are comes by = absurd comes
+answered_played (Tree file general marked drawing depth folded) files first text s told why are comes by = absurd comes
+answered_played (Draw scenario (Scheduled listing)) files first text s told why are comes by = absurd comes
+answered_played (Draw scenario (Recorded listing)) files first text s told why are comes by = absurd comes
+answered_played (Retrace scenario chronicle) files first text s told why are comes by = absurd comes
 
 -- an answer of threads
 pub answered_mustered : (task : Task) (files : Files) (first text : List ℕ) (s : Scenario) (why : Option Lieutenants) → AreBytes files.first first
@@ -69,7 +78,9 @@ pub answered_mustered : (task : Task) (files : Files) (first text : List ℕ) (s
 answered_mustered (Check file notation None explained traced) files first text s why are comes mustered = absurd comes
 answered_mustered (Check file notation (Some context) explained traced) files first text s why are comes mustered = absurd comes
 answered_mustered (Assemble file spelling target explained) files first text s why are comes mustered = absurd comes
+answered_mustered (AssemblePartly file spelling target explained) files first text s why are comes mustered = absurd comes
 answered_mustered (Disassemble file notation units explained) files first text s why are comes mustered = absurd comes
+answered_mustered (DisassemblePartly file notation explained) files first text s why are comes mustered = absurd comes
 answered_mustered (Book file) files first text s why are comes mustered = absurd comes
 answered_mustered (ExplainDecisions file traitors) files first text s why are comes mustered = absurd comes
 answered_mustered (Form n m c filling) files first text s why are comes mustered = absurd comes
@@ -78,6 +89,10 @@ answered_mustered (Muster scenario explained) files first text s why are comes m
     let some = some_second files.second in (first, are, (some.0, some.1, (s, comes.0, subst (λ (e : Option Lieutenants). IsMustered s e text) comes.1 mustered)))
 answered_mustered (Audit scenario chronicle explained) files first text s why are comes mustered = absurd comes
 answered_mustered (Explore scenario most) files first text s why are comes mustered = absurd comes
+answered_mustered (Tree file general marked drawing depth folded) files first text s why are comes mustered = absurd comes
+answered_mustered (Draw scenario (Scheduled listing)) files first text s why are comes mustered = absurd comes
+answered_mustered (Draw scenario (Recorded listing)) files first text s why are comes mustered = absurd comes
+answered_mustered (Retrace scenario chronicle) files first text s why are comes mustered = absurd comes
 
 -- an answer on the second file
 pub answered_audited : (task : Task) (files : Files) (first text : List ℕ) (s : Campaign) (why : Option Lieutenants) → AreBytes files.first first
@@ -85,7 +100,9 @@ pub answered_audited : (task : Task) (files : Files) (first text : List ℕ) (s 
 answered_audited (Check file notation None explained traced) files first text s why are comes audit = absurd comes
 answered_audited (Check file notation (Some context) explained traced) files first text s why are comes audit = absurd comes
 answered_audited (Assemble file spelling target explained) files first text s why are comes audit = absurd comes
+answered_audited (AssemblePartly file spelling target explained) files first text s why are comes audit = absurd comes
 answered_audited (Disassemble file notation units explained) files first text s why are comes audit = absurd comes
+answered_audited (DisassemblePartly file notation explained) files first text s why are comes audit = absurd comes
 answered_audited (Book file) files first text s why are comes audit = absurd comes
 answered_audited (ExplainDecisions file traitors) files first text s why are comes audit = absurd comes
 answered_audited (Form n m c filling) files first text s why are comes audit = absurd comes
@@ -96,21 +113,27 @@ answered_audited (Audit scenario chronicle explained) files first text s why are
     let same = subst (λ (own : List ℕ). IsAudited s why own text) second.2 audited in
     (first, are, (second.0, second.1, (s, comes.0, subst (λ (e : Option Lieutenants). IsAudited s e (unwrap_or second.0 []) text) comes.1 same)))
 answered_audited (Explore scenario most) files first text s why are comes audit = absurd comes
+answered_audited (Tree file general marked drawing depth folded) files first text s why are comes audit = absurd comes
+answered_audited (Draw scenario (Scheduled listing)) files first text s why are comes audit = absurd comes
+answered_audited (Draw scenario (Recorded listing)) files first text s why are comes audit = absurd comes
+answered_audited (Retrace scenario chronicle) files first text s why are comes audit = absurd comes
 
 -- an answer in the second file's setting
 pub answered_tried : (task : Task) (files : Files) (first text : List ℕ) (program : List Insn) (steps : Bool) → AreBytes files.first first
     → ComesTo task first (answer.Trial program steps) → IsTrialOf files.second steps (explained_in task) first program text → IsAnswer task files text
 answered_tried (Check file notation None explained traced) files first text program steps are comes tried = absurd comes
-answered_tried (Check file notation (Some context) true traced) files first text program steps are comes (bytes, known, (lines, tried, behind)) =
+answered_tried (Check file notation (Some context) true traced) files first text program steps are comes (bytes, known, tried) =
     let second = second_bytes files.second bytes known in
-    let own : IsTriedBy traced bytes program lines = subst (λ (t : Bool). IsTriedBy t bytes program lines) comes.3 tried in
-    (first, are, (second.0, second.1, (program, comes.0, comes.1, comes.2, (lines, subst (λ (b : List ℕ). IsTriedBy traced b program lines) second.2 own, behind))))
-answered_tried (Check file notation (Some context) false traced) files first text program steps are comes (bytes, known, (lines, tried, behind)) =
+    let own : IsTriedBy traced (if_asked true notation) first bytes program text = subst (λ (t : Bool). IsTriedBy t (if_asked true notation) first bytes program text) comes.3 tried in
+    (first, are, (second.0, second.1, (program, comes.0, comes.1, comes.2, subst (λ (b : List ℕ). IsTriedBy traced (if_asked true notation) first b program text) second.2 own)))
+answered_tried (Check file notation (Some context) false traced) files first text program steps are comes (bytes, known, tried) =
     let second = second_bytes files.second bytes known in
-    let own : IsTriedBy traced bytes program lines = subst (λ (t : Bool). IsTriedBy t bytes program lines) comes.3 tried in
-    (first, are, (second.0, second.1, (program, comes.0, comes.1, comes.2, (lines, subst (λ (b : List ℕ). IsTriedBy traced b program lines) second.2 own, behind))))
+    let own : IsTriedBy traced (if_asked false notation) first bytes program text = subst (λ (t : Bool). IsTriedBy t (if_asked false notation) first bytes program text) comes.3 tried in
+    (first, are, (second.0, second.1, (program, comes.0, comes.1, comes.2, subst (λ (b : List ℕ). IsTriedBy traced (if_asked false notation) first b program text) second.2 own)))
 answered_tried (Assemble file spelling target explained) files first text program steps are comes tried = absurd comes
+answered_tried (AssemblePartly file spelling target explained) files first text program steps are comes tried = absurd comes
 answered_tried (Disassemble file notation units explained) files first text program steps are comes tried = absurd comes
+answered_tried (DisassemblePartly file notation explained) files first text program steps are comes tried = absurd comes
 answered_tried (Book file) files first text program steps are comes tried = absurd comes
 answered_tried (ExplainDecisions file traitors) files first text program steps are comes tried = absurd comes
 answered_tried (Form n m c filling) files first text program steps are comes tried = absurd comes
@@ -118,6 +141,78 @@ answered_tried (Play scenario listing account explained) files first text progra
 answered_tried (Muster scenario explained) files first text program steps are comes tried = absurd comes
 answered_tried (Audit scenario chronicle explained) files first text program steps are comes tried = absurd comes
 answered_tried (Explore scenario most) files first text program steps are comes tried = absurd comes
+answered_tried (Tree file general marked drawing depth folded) files first text program steps are comes tried = absurd comes
+answered_tried (Draw scenario (Scheduled listing)) files first text program steps are comes tried = absurd comes
+answered_tried (Draw scenario (Recorded listing)) files first text program steps are comes tried = absurd comes
+answered_tried (Retrace scenario chronicle) files first text program steps are comes tried = absurd comes
+
+-- a picture by the second file's schedule
+pub answered_drawn : (task : Task) (files : Files) (first text : List ℕ) (s : Scenario) → AreBytes files.first first
+    → ComesTo task first (answer.Draw s) → IsDrawnBy files.second s text → IsAnswer task files text
+answered_drawn (Check file notation None explained traced) files first text s are comes by = absurd comes
+answered_drawn (Check file notation (Some context) explained traced) files first text s are comes by = absurd comes
+answered_drawn (Assemble file spelling target explained) files first text s are comes by = absurd comes
+answered_drawn (AssemblePartly file spelling target explained) files first text s are comes by = absurd comes
+answered_drawn (Disassemble file notation units explained) files first text s are comes by = absurd comes
+answered_drawn (DisassemblePartly file notation explained) files first text s are comes by = absurd comes
+answered_drawn (Book file) files first text s are comes by = absurd comes
+answered_drawn (ExplainDecisions file traitors) files first text s are comes by = absurd comes
+answered_drawn (Form n m c filling) files first text s are comes by = absurd comes
+answered_drawn (Play scenario listing account explained) files first text s are comes by = absurd comes
+answered_drawn (Muster scenario explained) files first text s are comes by = absurd comes
+answered_drawn (Audit scenario chronicle explained) files first text s are comes by = absurd comes
+answered_drawn (Explore scenario most) files first text s are comes by = absurd comes
+answered_drawn (Tree file general marked drawing depth folded) files first text s are comes by = absurd comes
+answered_drawn (Draw scenario (Scheduled listing)) files first text s are comes (schedule, listed, drawn) =
+    (first, are, (listed.0, listed.1, (s, comes, (schedule, listed.2, drawn))))
+answered_drawn (Draw scenario (Recorded listing)) files first text s are comes by = absurd comes
+answered_drawn (Retrace scenario chronicle) files first text s are comes by = absurd comes
+
+-- a picture of the second file's chronicle
+pub answered_recorded : (task : Task) (files : Files) (first text : List ℕ) (s : Scenario) → AreBytes files.first first
+    → ComesTo task first (answer.DrawRecorded s) → IsDrawnAs files.second s text → IsAnswer task files text
+answered_recorded (Check file notation None explained traced) files first text s are comes by = absurd comes
+answered_recorded (Check file notation (Some context) explained traced) files first text s are comes by = absurd comes
+answered_recorded (Assemble file spelling target explained) files first text s are comes by = absurd comes
+answered_recorded (AssemblePartly file spelling target explained) files first text s are comes by = absurd comes
+answered_recorded (Disassemble file notation units explained) files first text s are comes by = absurd comes
+answered_recorded (DisassemblePartly file notation explained) files first text s are comes by = absurd comes
+answered_recorded (Book file) files first text s are comes by = absurd comes
+answered_recorded (ExplainDecisions file traitors) files first text s are comes by = absurd comes
+answered_recorded (Form n m c filling) files first text s are comes by = absurd comes
+answered_recorded (Play scenario listing account explained) files first text s are comes by = absurd comes
+answered_recorded (Muster scenario explained) files first text s are comes by = absurd comes
+answered_recorded (Audit scenario chronicle explained) files first text s are comes by = absurd comes
+answered_recorded (Explore scenario most) files first text s are comes by = absurd comes
+answered_recorded (Tree file general marked drawing depth folded) files first text s are comes by = absurd comes
+answered_recorded (Draw scenario (Scheduled listing)) files first text s are comes by = absurd comes
+answered_recorded (Draw scenario (Recorded listing)) files first text s are comes (bytes, known, drawn) =
+    let second = second_bytes files.second bytes known in
+    (first, are, (second.0, second.1, (s, comes, subst (λ (own : List ℕ). IsRecordDrawn s own text) second.2 drawn)))
+answered_recorded (Retrace scenario chronicle) files first text s are comes by = absurd comes
+
+-- the schedule of the second file's chronicle
+pub answered_retraced : (task : Task) (files : Files) (first text : List ℕ) (s : Scenario) → AreBytes files.first first
+    → ComesTo task first (answer.Retrace s) → IsRetracedBy files.second s text → IsAnswer task files text
+answered_retraced (Check file notation None explained traced) files first text s are comes by = absurd comes
+answered_retraced (Check file notation (Some context) explained traced) files first text s are comes by = absurd comes
+answered_retraced (Assemble file spelling target explained) files first text s are comes by = absurd comes
+answered_retraced (AssemblePartly file spelling target explained) files first text s are comes by = absurd comes
+answered_retraced (Disassemble file notation units explained) files first text s are comes by = absurd comes
+answered_retraced (DisassemblePartly file notation explained) files first text s are comes by = absurd comes
+answered_retraced (Book file) files first text s are comes by = absurd comes
+answered_retraced (ExplainDecisions file traitors) files first text s are comes by = absurd comes
+answered_retraced (Form n m c filling) files first text s are comes by = absurd comes
+answered_retraced (Play scenario listing account explained) files first text s are comes by = absurd comes
+answered_retraced (Muster scenario explained) files first text s are comes by = absurd comes
+answered_retraced (Audit scenario chronicle explained) files first text s are comes by = absurd comes
+answered_retraced (Explore scenario most) files first text s are comes by = absurd comes
+answered_retraced (Tree file general marked drawing depth folded) files first text s are comes by = absurd comes
+answered_retraced (Draw scenario (Scheduled listing)) files first text s are comes by = absurd comes
+answered_retraced (Draw scenario (Recorded listing)) files first text s are comes by = absurd comes
+answered_retraced (Retrace scenario chronicle) files first text s are comes (bytes, known, retraced) =
+    let second = second_bytes files.second bytes known in
+    (first, are, (second.0, second.1, (s, comes, subst (λ (own : List ℕ). IsScheduleFor s own text) second.2 retraced)))
 
 -- why a task has no answer behind a first file with which it goes on
 pub prevented_later : (task : Task) (files : Files) (unread second_unread : Type 0) (first name : List ℕ) (more : FirstAnswer) (explained : Bool) (fault : Failure)

@@ -8,10 +8,11 @@ use Rattle.command_line.specs.declared.tasks.Notation.TheVariants.{Bytecode, Ass
 use Rattle.command_line.specs.declared.tasks.Task.{Task}
 use Rattle.command_line.specs.declared.tasks.Task.TheVariants as task
 use Rattle.command_line.specs.declared.tasks.Account.TheVariants.{Chronicle}
-use Rattle.lab.specs.Campaigns.{is_plain}
+use Rattle.lab.specs.Campaigns.{is_chronicle}
+use Rattle.lab.specs.Picturing.{is_toml}
 use Rattle.lab.specs.Faults.{IsTold, IsUnjudged, Prevents, Stops, StopsFirst, fault_of_bytes}
 use Rattle.lab.specs.Hints.{IsHint, IsHintBy, IsSaid, IsWhy, asked_of, bytecode_in, explained_in, hint_behind, is_reported, seems_behind}
-use Rattle.lab.specs.Refusals.{Refuses, RefusesAsked, RefusesCheck, RefusesCheckIn, RefusesDisassembly, RefusesNotation}
+use Rattle.lab.specs.Refusals.{Refuses, RefusesAsked, RefusesCheck, RefusesCheckIn, RefusesDisassembly, RefusesEither, RefusesNotation, RefusesParts}
 use Rattle.lab.specs.Serving.{Files, IsRefused, first_name}
 use Rattle.lab.specs.Whys.{TellsWhyOf, is_explained}
 use Rattle.lab.specs.Whys.{Nothing}
@@ -22,7 +23,7 @@ use Rattle.lab.specs.declared.failure.Failure.TheVariants.{Read, Text, Refused, 
 use Rattle.lab.specs.declared.hint.Hint.{Hint}
 use Rattle.lab.specs.declared.hint.Hint.TheVariants.{Explained}
 use Rattle.lab.specs.declared.refusal.Refusal.{Refusal}
-use Rattle.lab.specs.declared.refusal.Refusal.TheVariants.{Codec, Object, Verifier, Assembly, Table, Scenario, Setting, Trace, Threads, NotText, Memory}
+use Rattle.lab.specs.declared.refusal.Refusal.TheVariants.{Codec, Object, Verifier, Assembly, Table, Scenario, Setting, Trace, Threads, Stranger, NotText, Memory}
 use Rattle.verify.specs.declared.error.VerifyError.{VerifyError}
 use Rattle.lab.proofs.WhyLemmas.{nothing_said}
 
@@ -50,6 +51,7 @@ stopped_first task known bytes own (Scenario error) file are named refuses is = 
 stopped_first task known bytes own (Setting error) file are named refuses is = ((λ e. cc), refused_first task known bytes (Setting error) _ are refuses (λ e. cc) is)
 stopped_first task known bytes own (Trace error) file are named refuses is = ((λ e. cc), refused_first task known bytes (Trace error) _ are refuses (λ e. cc) is)
 stopped_first task known bytes own (Threads error) file are named refuses is = ((λ e. cc), refused_first task known bytes (Threads error) _ are refuses (λ e. cc) is)
+stopped_first task known bytes own (Stranger general generals) file are named refuses is = ((λ e. cc), refused_first task known bytes (Stranger general generals) _ are refuses (λ e. cc) is)
 stopped_first task known bytes own NotText file are named refuses is = (refused_first task known bytes NotText _ are refuses (λ e. cc) is, named)
 stopped_first task known bytes own Memory file are named refuses is = tt
 
@@ -60,7 +62,9 @@ asks : (task : Task) (notation : Notation) → explained_in task ≡ Some notati
 asks (task.Check file own context true traced) notation is = refl
 asks (task.Check file own context false traced) notation is = absurd cc
 asks (task.Assemble file spelling target explained) notation is = absurd cc
+asks (task.AssemblePartly file spelling target explained) notation is = absurd cc
 asks (task.Disassemble file own units explained) notation is = absurd cc
+asks (task.DisassemblePartly file own explained) notation is = absurd cc
 asks (task.Book file) notation is = absurd cc
 asks (task.ExplainDecisions file traitors) notation is = absurd cc
 asks (task.Form n m c filling) notation is = absurd cc
@@ -68,6 +72,9 @@ asks (task.Play scenario schedule account explained) notation is = absurd cc
 asks (task.Muster scenario explained) notation is = absurd cc
 asks (task.Audit scenario chronicle explained) notation is = absurd cc
 asks (task.Explore scenario most) notation is = absurd cc
+asks (task.Tree file general marked drawing depth folded) notation is = absurd cc
+asks (task.Draw scenario course) notation is = absurd cc
+asks (task.Retrace scenario chronicle) notation is = absurd cc
 
 pub explained_first : (task : Task) (notation : Notation) (known : Option (List ℕ)) (bytes : List ℕ) (refusal : Refusal) (text : String Global) → AreBytes known bytes
     → Refuses task bytes refusal → asked_of refusal task ≡ Some notation → IsWhy notation bytes (string_bytes text)
@@ -85,6 +92,7 @@ explained_first task notation known bytes (Scenario error) text are refuses is w
 explained_first task notation known bytes (Setting error) text are refuses is why = absurd cc
 explained_first task notation known bytes (Trace error) text are refuses is why = absurd cc
 explained_first task notation known bytes (Threads error) text are refuses is why = absurd cc
+explained_first task notation known bytes (Stranger general generals) text are refuses is why = absurd cc
 explained_first task notation known bytes NotText text are refuses is why = absurd cc
 explained_first task notation known bytes Memory text are refuses is why = absurd cc
 
@@ -111,6 +119,7 @@ hint_told task bytes (Scenario error) hint is not told = subst (λ (own : Bool).
 hint_told task bytes (Setting error) hint is not told = subst (λ (own : Bool). IsHintBy own (Setting error) task bytes (bytecode_in task bytes) hint) (sym is) told
 hint_told task bytes (Trace error) hint is not told = subst (λ (own : Bool). IsHintBy own (Trace error) task bytes (bytecode_in task bytes) hint) (sym is) told
 hint_told task bytes (Threads error) hint is not told = subst (λ (own : Bool). IsHintBy own (Threads error) task bytes (bytecode_in task bytes) hint) (sym is) told
+hint_told task bytes (Stranger general generals) hint is not told = subst (λ (own : Bool). IsHintBy own (Stranger general generals) task bytes (bytecode_in task bytes) hint) (sym is) told
 hint_told task bytes NotText hint is not told = subst (λ (own : Bool). IsHintBy own NotText task bytes (bytecode_in task bytes) hint) (sym is) told
 hint_told task bytes Memory hint is not told = subst (λ (own : Bool). IsHintBy own Memory task bytes (bytecode_in task bytes) hint) (sym is) told
 
@@ -160,19 +169,36 @@ no_program Texts bytes fault refuses = refuses
 no_program (Objects entry) bytes fault (inl (other, is, none)) = absurd cc
 no_program (Objects entry) bytes fault (inr (code, is, refuses)) = not_spelt code fault refuses
 
+-- nor a table
+no_tree : (own : Bool) (named bytes : List ℕ) (fault : VerifyError) → RefusesEither own named bytes (Verifier fault) → ⊥
+no_tree true named bytes fault refuses = refuses
+no_tree false named bytes fault refuses = refuses
+
+-- nor code that is cut
+no_parts : (notation : Notation) (bytes : List ℕ) (fault : VerifyError) → RefusesParts notation bytes (Verifier fault) → ⊥
+no_parts Bytecode bytes fault refuses = refuses
+no_parts Texts bytes fault refuses = refuses
+no_parts (Objects entry) bytes fault (inl (other, is, none)) = absurd cc
+no_parts (Objects entry) bytes fault (inr (code, is, refuses)) = refuses
+
 -- so it refuses only the program of a check, which is explained where more is asked for
 pub not_judged : (task : Task) (bytes : List ℕ) (refusal : Refusal) → Refuses task bytes refusal → is_reported task refusal ≡ true → asked_of refusal task ≡ None → IsNotJudged refusal
 not_judged (task.Check file own context true traced) bytes (Verifier fault) refuses is none = absurd cc
 not_judged (task.Check file own context false traced) bytes (Verifier fault) refuses is none = absurd cc
 not_judged (task.Assemble file spelling target explained) bytes (Verifier fault) refuses is none = absurd refuses
+not_judged (task.AssemblePartly file spelling target explained) bytes (Verifier fault) refuses is none = absurd refuses
 not_judged (task.Disassemble file own units explained) bytes (Verifier fault) refuses is none = absurd (no_program own bytes fault refuses)
+not_judged (task.DisassemblePartly file own explained) bytes (Verifier fault) refuses is none = absurd (no_parts own bytes fault refuses)
 not_judged (task.Book file) bytes (Verifier fault) refuses is none = absurd refuses
 not_judged (task.ExplainDecisions file traitors) bytes (Verifier fault) refuses is none = absurd refuses
 not_judged (task.Form n m c filling) bytes (Verifier fault) refuses is none = absurd refuses
-not_judged (task.Play scenario schedule account explained) bytes (Verifier fault) refuses is none = absurd (no_campaign (is_plain account explained) bytes fault refuses)
+not_judged (task.Play scenario schedule account explained) bytes (Verifier fault) refuses is none = absurd (no_campaign (is_chronicle account) bytes fault refuses)
 not_judged (task.Muster scenario explained) bytes (Verifier fault) refuses is none = absurd refuses
-not_judged (task.Audit scenario chronicle explained) bytes (Verifier fault) refuses is none = absurd (no_campaign (is_plain Chronicle explained) bytes fault refuses)
+not_judged (task.Audit scenario chronicle explained) bytes (Verifier fault) refuses is none = absurd (no_campaign true bytes fault refuses)
 not_judged (task.Explore scenario most) bytes (Verifier fault) refuses is none = absurd refuses
+not_judged (task.Tree file general marked drawing depth folded) bytes (Verifier fault) refuses is none = absurd (no_tree (is_toml bytes) marked.items bytes fault refuses)
+not_judged (task.Draw scenario course) bytes (Verifier fault) refuses is none = absurd refuses
+not_judged (task.Retrace scenario chronicle) bytes (Verifier fault) refuses is none = absurd refuses
 not_judged task bytes (Codec error) refuses is none = tt
 not_judged task bytes (Object fault) refuses is none = tt
 not_judged task bytes (Assembly error) refuses is none = tt
@@ -181,6 +207,7 @@ not_judged task bytes (Scenario error) refuses is none = tt
 not_judged task bytes (Setting error) refuses is none = tt
 not_judged task bytes (Trace error) refuses is none = tt
 not_judged task bytes (Threads error) refuses is none = tt
+not_judged task bytes (Stranger general generals) refuses is none = tt
 not_judged task bytes NotText refuses is none = tt
 not_judged task bytes Memory refuses is none = tt
 
@@ -203,6 +230,7 @@ asked_in task notation (Scenario error) is = absurd cc
 asked_in task notation (Setting error) is = absurd cc
 asked_in task notation (Trace error) is = absurd cc
 asked_in task notation (Threads error) is = absurd cc
+asked_in task notation (Stranger general generals) is = absurd cc
 asked_in task notation NotText is = absurd cc
 asked_in task notation Memory is = absurd cc
 
@@ -218,6 +246,7 @@ unspelt code (Scenario error) refuses = absurd refuses
 unspelt code (Setting error) refuses = absurd refuses
 unspelt code (Trace error) refuses = absurd refuses
 unspelt code (Threads error) refuses = absurd refuses
+unspelt code (Stranger general generals) refuses = absurd refuses
 unspelt code NotText refuses = absurd refuses
 
 -- the file has no program
@@ -234,6 +263,7 @@ by_notation Texts bytes (Scenario error) refuses = absurd refuses
 by_notation Texts bytes (Setting error) refuses = absurd refuses
 by_notation Texts bytes (Trace error) refuses = absurd refuses
 by_notation Texts bytes (Threads error) refuses = absurd refuses
+by_notation Texts bytes (Stranger general generals) refuses = absurd refuses
 by_notation (Objects entry) bytes refusal (inl (fault, is, none)) = (inl (fault, is, none), subst (λ (r : Refusal). IsNotJudged r) (sym is) tt)
 by_notation (Objects entry) bytes refusal (inr (code, is, refuses)) = let both = unspelt code refusal refuses in (inr (code, is, both.0), both.1)
 
@@ -242,7 +272,9 @@ checks_in (task.Check file own context true traced) notation bytes refusal is re
     let same : notation ≡ own = cc in subst (λ (n : Notation). RefusesCheckIn n bytes refusal) same refuses
 checks_in (task.Check file own context false traced) notation bytes refusal is refuses = absurd cc
 checks_in (task.Assemble file spelling target explained) notation bytes refusal is refuses = absurd cc
+checks_in (task.AssemblePartly file spelling target explained) notation bytes refusal is refuses = absurd cc
 checks_in (task.Disassemble file own units explained) notation bytes refusal is refuses = absurd cc
+checks_in (task.DisassemblePartly file own explained) notation bytes refusal is refuses = absurd cc
 checks_in (task.Book file) notation bytes refusal is refuses = absurd cc
 checks_in (task.ExplainDecisions file traitors) notation bytes refusal is refuses = absurd cc
 checks_in (task.Form n m c filling) notation bytes refusal is refuses = absurd cc
@@ -250,6 +282,9 @@ checks_in (task.Play scenario schedule account explained) notation bytes refusal
 checks_in (task.Muster scenario explained) notation bytes refusal is refuses = absurd cc
 checks_in (task.Audit scenario chronicle explained) notation bytes refusal is refuses = absurd cc
 checks_in (task.Explore scenario most) notation bytes refusal is refuses = absurd cc
+checks_in (task.Tree file general marked drawing depth folded) notation bytes refusal is refuses = absurd cc
+checks_in (task.Draw scenario course) notation bytes refusal is refuses = absurd cc
+checks_in (task.Retrace scenario chronicle) notation bytes refusal is refuses = absurd cc
 
 -- it cannot be told, since the file has no program
 pub unread_first : (task : Task) (notation : Notation) (known : Option (List ℕ)) (bytes : List ℕ) (first refusal : Refusal) (file : Bor (List ℕ)) (fault : Failure) → AreBytes known bytes

@@ -6,4 +6,8 @@ pub mod FilesLemmas
 pub mod ReadLemmas
 pub mod RefusalLemmas
 pub mod ScheduleLemmas
+pub mod DiagramLemmas
+pub mod PartLemmas
+pub mod PicturingLemmas
 pub mod FirstLemmas
+pub mod StrangerLemmas

@@ -39,6 +39,7 @@ by_text (refusal.Scenario error) file text tells t = (refl, (λ e. cc), (λ e. c
 by_text (refusal.Setting error) file text tells t = (refl, (λ e. cc), (λ e. cc), t)
 by_text (refusal.Trace error) file text tells t = (refl, (λ e. cc), (λ e. cc), t)
 by_text (refusal.Threads error) file text tells t = (refl, (λ e. cc), (λ e. cc), t)
+by_text (refusal.Stranger general generals) file text tells t = (refl, (λ e. cc), (λ e. cc), t)
 by_text refusal.NotText file text tells t = (refl, refl)
 by_text refusal.Memory file text tells t = tt
 
@@ -73,6 +74,7 @@ plain unread known R of (refusal.Scenario error) file refused = ((λ e. cc), (re
 plain unread known R of (refusal.Setting error) file refused = ((λ e. cc), (refused (λ e. cc), refl))
 plain unread known R of (refusal.Trace error) file refused = ((λ e. cc), (refused (λ e. cc), refl))
 plain unread known R of (refusal.Threads error) file refused = ((λ e. cc), (refused (λ e. cc), refl))
+plain unread known R of (refusal.Stranger general generals) file refused = ((λ e. cc), (refused (λ e. cc), refl))
 plain unread known R of refusal.NotText file refused = ((refused (λ e. cc), refl), refl)
 plain unread known R of refusal.Memory file refused = tt
 
@@ -136,4 +138,5 @@ unmustered unread true known s who (refusal.Table error) file fault refused told
 unmustered unread true known s who (refusal.Scenario error) file fault refused told = absurd (refused (λ e. cc)).1
 unmustered unread true known s who (refusal.Setting error) file fault refused told = absurd (refused (λ e. cc)).1
 unmustered unread true known s who (refusal.Trace error) file fault refused told = absurd (refused (λ e. cc)).1
+unmustered unread true known s who (refusal.Stranger general generals) file fault refused told = absurd (refused (λ e. cc)).1
 unmustered unread true known s who refusal.NotText file fault refused told = absurd (refused (λ e. cc)).1

@@ -10,19 +10,25 @@ use Rattle.asm.specs.Printing.{text_of, unit_lines}
 use Rattle.command_line.specs.declared.tasks.Notation.{Notation}
 use Rattle.command_line.specs.declared.tasks.Spelling.TheVariants.{Hex, Raw}
 use Rattle.command_line.specs.declared.tasks.Task.{Task}
-use Rattle.command_line.specs.declared.tasks.Task.TheVariants.{Check, Assemble, Disassemble, Book, ExplainDecisions, Form, Play, Muster, Audit, Explore}
-use Rattle.command_line.specs.declared.tasks.Account.TheVariants.{Chronicle}
-use Rattle.scenario.specs.Told.{Tells}
+use Rattle.command_line.specs.declared.tasks.Task.TheVariants.{Check, Assemble, AssemblePartly, Disassemble, DisassemblePartly, Book, ExplainDecisions, Form, Play, Muster, Audit, Explore, Tree, Draw, Retrace}
+use Rattle.command_line.specs.declared.tasks.Course.TheVariants.{Scheduled, Recorded}
+use Rattle.scenario.specs.Told.{Tells, TellsAny}
 use Rattle.tables.specs.Answers.{DecidesTable, ExplainsTable, IsFilled, IsFormOf}
 use Rattle.verify.specs.Judgement.{judged}
 use Rattle.trial.specs.Setting.{Setting, bench, context_in}
 use Rattle.trial.specs.Told.{IsTried, Tells as TellsSetting}
-use Rattle.trial.specs.Trial.{Ending, trial}
-use Rattle.tracing.specs.Trace.{trace}
+use Rattle.trial.specs.Trial.{Ending, trial_in}
+use Rattle.tracing.specs.Slips.{slips_on}
+use Rattle.tracing.specs.Trace.{trace_on}
 use Rattle.lab.specs.Exploring.{Explores}
 use Rattle.lab.specs.Hints.{HasProgram, IsBehind, if_asked}
-use Rattle.lab.specs.Campaigns.{Audits, Musters, Plays, TellsCampaign, is_plain}
+use Rattle.lab.specs.Campaigns.{Audits, Musters, Plays, TellsCampaign, is_chronicle}
+use Rattle.lab.specs.Diagrams.{Draws}
 use Rattle.lab.specs.Lines.{checked_lines, hex_line}
+use Rattle.lab.specs.Parts.{AssemblesPartly, AssemblesPartlyRaw, DisassemblesPartly}
+use Rattle.lab.specs.Picturing.{Pictures, is_toml}
+use Rattle.lab.specs.Retracing.{Retraces}
+use Rattle.lab.specs.Strangers.{KnowsAll}
 use Rattle.lab.specs.declared.checking.Checked.{Checked}
 use Rattle.lab.specs.declared.first_answer.FirstAnswer.{FirstAnswer}
 use Rattle.lab.specs.declared.first_answer.FirstAnswer.TheVariants as answer
@@ -34,14 +40,14 @@ pub record IsRun (program : List Insn) (checked : Checked) : Type 0 where
   pub instructions : checked.instructions ≡ length program
   pub units : checked.units ≡ length (slots_of program)
   pub ending : Ending
-  pub ended : trial program (context_in bench) (oral bench.shape) ≡ Some ending
+  pub ended : trial_in bench program ≡ Some ending
   pub r0 : checked.r0 ≡ ending.r0
   pub steps : checked.steps ≡ ending.state.steps
 
 -- behind the lines of a run in this setting: nothing, or an empty line and its steps
 abbrev pub steps_behind : Bool → List Insn → Setting → List ℕ
 steps_behind false program s = []
-steps_behind true program s = codes "\n" ++ trace program (context_in s) (oral s.shape)
+steps_behind true program s = codes "\n" ++ trace_on s.board program (context_in s) (oral s.shape)
 
 -- the file has a program in its notation, and these are the lines of its run, and behind them its steps and its explanation, where they
 -- are asked for
@@ -51,18 +57,28 @@ IsChecked notation explained traced bytes text =
     × ((checked : Checked) × IsRun program checked
     × IsBehind (if_asked explained notation) bytes program (checked_lines checked ++ steps_behind traced program bench) text)
 
--- the bytes tell a setting, and these are the lines of the program's trial in it, and behind them its steps, where they are asked for
-abbrev pub IsTriedBy : Bool → List ℕ → List Insn → List ℕ → Type 0
-IsTriedBy traced bytes program text =
-    (s : Setting) × TellsSetting bytes s × ((lines : List ℕ) × IsTried program s lines × (text ≡ lines ++ steps_behind traced program s))
+-- behind the explanation of a program that is run in this setting: a note for each of its calls that puts nothing
+abbrev pub slips_behind : Option Notation → List Insn → Setting → List ℕ
+slips_behind None program s = []
+slips_behind (Some notation) program s = slips_on s.board program (context_in s) (oral s.shape)
 
--- the first file has a program that the verifier accepts, and which is sound, and these are the lines of its trial in the setting that
--- the second file tells, and behind them its steps and its explanation, where they are asked for; a second file that is missing counts
--- as an empty one
+-- the text has the lines of the program's trial in this setting; behind them its steps, where they are asked for; and where it is, the
+-- explanation of the program that a file of these bytes has, and a note for each call that puts nothing
+abbrev pub IsTriedIn : Setting → Bool → Option Notation → List ℕ → List Insn → List ℕ → Type 0
+IsTriedIn s traced asked bytes program text =
+    (lines : List ℕ) × IsTried program s lines
+    × ((told : List ℕ) × IsBehind asked bytes program (lines ++ steps_behind traced program s) told × (text ≡ told ++ slips_behind asked program s))
+
+-- it is of the setting that a second file tells
+abbrev pub IsTriedBy : Bool → Option Notation → List ℕ → List ℕ → List Insn → List ℕ → Type 0
+IsTriedBy traced asked first second program text = (s : Setting) × TellsSetting second s × IsTriedIn s traced asked first program text
+
+-- the first file has a program that the verifier accepts, and which is sound, and this is what is told of its trial in the setting that
+-- the second file tells; a second file that is missing counts as an empty one
 abbrev pub Tries : Notation → Bool → Bool → List ℕ → Option (List ℕ) → List ℕ → Type 0
 Tries notation explained traced first second text =
     (program : List Insn) × HasProgram notation first program × (judged program ≡ None) × IsSound program
-    × ((lines : List ℕ) × IsTriedBy traced (unwrap_or second []) program lines × IsBehind (if_asked explained notation) first program lines text)
+    × IsTriedBy traced (if_asked explained notation) first (unwrap_or second []) program text
 
 -- the text says a program, and these are its bytes
 abbrev pub AssemblesRaw : List ℕ → List ℕ → Type 0
@@ -90,25 +106,35 @@ Prints (Check file notation None explained traced) first second text = IsChecked
 Prints (Check file notation (Some context) explained traced) first second text = Tries notation explained traced first second text
 Prints (Assemble file Hex target explained) first second text = Assembles first text
 Prints (Assemble file Raw target explained) first second text = AssemblesRaw first text
+Prints (AssemblePartly file Hex target explained) first second text = AssemblesPartly first text
+Prints (AssemblePartly file Raw target explained) first second text = AssemblesPartlyRaw first text
 Prints (Disassemble file notation units explained) first second text = Disassembles notation units first text
+Prints (DisassemblePartly file notation explained) first second text = DisassemblesPartly notation first text
 Prints (Book file) first second text = DecidesTable first text
-Prints (ExplainDecisions file traitors) first second text = ExplainsTable first traitors.items text
+Prints (ExplainDecisions file traitors) first second text = KnowsAll false first traitors.items × ExplainsTable first traitors.items text
 Prints (Form n m c None) first second text = IsFormOf (string_bytes n) (string_bytes m) (string_bytes c) text
 Prints (Form n m c (Some filling)) first second text = IsFilled (string_bytes n) (string_bytes m) (string_bytes c) filling.order filling.liar text
 Prints (Play scenario schedule account explained) first second text = Plays account explained first second text
 Prints (Muster scenario explained) first second text = Musters explained first text
 Prints (Audit scenario chronicle explained) first second text = Audits explained first second text
 Prints (Explore scenario most) first second text = Explores most first text
+Prints (Tree file general traitors drawing depth folded) first second text =
+    KnowsAll (is_toml first) first traitors.items × Pictures general traitors.items drawing depth folded first text
+Prints (Draw scenario course) first second text = Draws course first second text
+Prints (Retrace scenario chronicle) first second text = Retraces first second text
 
 -- the task goes on with this behind its first file: a program to try, with its steps or without them, or a campaign
 abbrev pub GoesOn : Task → List ℕ → FirstAnswer → Type 0
 GoesOn (Check file notation (Some context) explained traced) first (answer.Trial program told) =
     HasProgram notation first program × (judged program ≡ None) × IsSound program × (told ≡ traced)
 GoesOn (Play scenario schedule account explained) first (answer.Play c told why) =
-    TellsCampaign (is_plain account explained) first c × (told ≡ account) × (why ≡ explained)
+    TellsCampaign (is_chronicle account) first c × (told ≡ account) × (why ≡ explained)
 GoesOn (Muster scenario explained) first (answer.Muster s why) = Tells first s × (why ≡ explained)
 GoesOn (Audit scenario chronicle explained) first (answer.Audit c why) =
-    TellsCampaign (is_plain Chronicle explained) first c × (why ≡ explained)
+    TellsAny first c × (why ≡ explained)
+GoesOn (Draw scenario (Scheduled file)) first (answer.Draw s) = Tells first s
+GoesOn (Draw scenario (Recorded file)) first (answer.DrawRecorded s) = Tells first s
+GoesOn (Retrace scenario chronicle) first (answer.Retrace s) = Tells first s
 GoesOn _ first _ = ⊥
 
 -- what the task comes to on its first file: a text, whatever the second has, or that with which it goes on

@@ -1,5 +1,5 @@
 -- What is printed of a campaign.
-use Rattle.std.specs.Prelude.{ℕ, suc, ◌≡◌, Bool, true, false, List, [], ◌∷◌, ◌++◌, Option, None, Some, Ok, unwrap_or}
+use Rattle.std.specs.Prelude.{ℕ, suc, ◌≡◌, Bool, true, false, List, [], ◌∷◌, ◌++◌, Option, None, Some, Ok, codes, unwrap_or}
 use Rattle.board.specs.Board.{IsLegal}
 use Rattle.command_line.specs.declared.tasks.Account.{Account}
 use Rattle.command_line.specs.declared.tasks.Account.TheVariants as accounts
@@ -67,11 +67,16 @@ pub record IsOralPlayed (s : Scenario) (schedule : List (List Repeat)) (account 
   pub verdict : IsVerdictOn s (played s schedule).decisions (played s schedule).verdict
   pub well : IsWellUnderBound (played s schedule).verdict
 
--- the text is that of the signed campaign's chronicle, and so of a complete run, in which no activation traps or takes more
+-- behind a signed campaign's text stands, where an explanation is asked for, an empty line, and that there is none
+abbrev pub signed_behind : Option Lieutenants → List ℕ
+signed_behind None = []
+signed_behind (Some who) = codes "\nthe decisions of a signed campaign are not explained\n"
+
+-- the text is that of the signed campaign's chronicle, with that sentence where it is asked for, and so of a complete run, in which no activation traps or takes more
 -- steps than its program has instructions, and whose letters are whole; its decisions agree for at most m traitors among n at
 -- least m + 2 generals, and its verdict means what it says
-pub record IsSignedPlayed (s : Scenario) (schedule : List (List Repeat)) (text : List ℕ) : Type 0 where
-  pub told : text ≡ signed_text (signed_played s schedule)
+pub record IsSignedPlayed (s : Scenario) (schedule : List (List Repeat)) (explained : Option Lieutenants) (text : List ℕ) : Type 0 where
+  pub told : text ≡ signed_text (signed_played s schedule) ++ signed_behind explained
   pub complete : generic.IsComplete signed_kind s (listed s (lines_by schedule))
   pub safe : AreSafeThroughout s (listed s (lines_by schedule))
   pub whole : AreWhole s (signed_played s schedule).accesses (signed_played s schedule).letters
@@ -79,17 +84,17 @@ pub record IsSignedPlayed (s : Scenario) (schedule : List (List Repeat)) (text :
   pub verdict : IsSignedVerdictOn s (signed_played s schedule).decisions (signed_played s schedule).verdict
   pub well : IsWellUnderBound (signed_played s schedule).verdict
 
--- the text is that of the campaign by a schedule; of a signed one it is the chronicle alone
+-- the text is that of the campaign by a schedule
 abbrev pub IsPlayed : Campaign → List (List Repeat) → Account → Option Lieutenants → List ℕ → Type 0
 IsPlayed (Oral s) schedule account explained text = IsOralPlayed s schedule account explained text
-IsPlayed (Signed s) schedule account explained text = IsSignedPlayed s schedule text
+IsPlayed (Signed s) schedule account explained text = IsSignedPlayed s schedule explained text
 
--- no table and no explanation is asked for, which a signed campaign has not
-abbrev pub is_plain : Account → Option Lieutenants → Bool
-is_plain accounts.Chronicle None = true
-is_plain _ _ = false
+-- the chronicle is asked for: a signed campaign has no message table
+abbrev pub is_chronicle : Account → Bool
+is_chronicle accounts.Chronicle = true
+is_chronicle accounts.Table = false
 
--- the bytes tell this campaign, an oral one where more than its chronicle is asked for
+-- the bytes tell this campaign, an oral one where its message table is asked for
 abbrev pub TellsCampaign : Bool → List ℕ → Campaign → Type 0
 TellsCampaign true bytes c = TellsAny bytes c
 TellsCampaign false bytes (Oral s) = oral.Tells bytes s
@@ -103,7 +108,7 @@ IsSchedule (Some bytes) schedule = schedule_told bytes ≡ Ok schedule
 -- the first file's bytes tell a campaign, the second's a schedule, and this is the text of the campaign
 abbrev pub Plays : Account → Option Lieutenants → List ℕ → Option (List ℕ) → List ℕ → Type 0
 Plays account explained first second text =
-    (c : Campaign) × TellsCampaign (is_plain account explained) first c
+    (c : Campaign) × TellsCampaign (is_chronicle account) first c
     × ((schedule : List (List Repeat)) × IsSchedule second schedule × IsPlayed c schedule account explained text)
 
 -- the text is that of the chronicle of a complete run, which is the replay of its own accesses, a legal history of the board, and behind it the
@@ -128,16 +133,16 @@ pub record IsOralAudited (s : Scenario) (explained : Option Lieutenants) (bytes 
   pub told : IsFollowed explained (chronicle_told s bytes) (sound_lines (chronicle_told s bytes).verdict) text
 
 -- those of the signed one
-pub record IsSignedAudited (s : Scenario) (bytes text : List ℕ) : Type 0 where
+pub record IsSignedAudited (s : Scenario) (explained : Option Lieutenants) (bytes text : List ℕ) : Type 0 where
   pub sound : IsSoundSignedText s bytes
-  pub told : text ≡ sound_lines (signed_chronicle_told s bytes).verdict
+  pub told : text ≡ sound_lines (signed_chronicle_told s bytes).verdict ++ signed_behind explained
 
--- the bytes are the text of a chronicle of the campaign, and the lines say so and give the verdict of its replay; of a signed one no more is said
+-- the bytes are the text of a chronicle of the campaign, and the lines say so and give the verdict of its replay, and behind them the explanation
 abbrev pub IsAudited : Campaign → Option Lieutenants → List ℕ → List ℕ → Type 0
 IsAudited (Oral s) explained bytes text = IsOralAudited s explained bytes text
-IsAudited (Signed s) explained bytes text = IsSignedAudited s bytes text
+IsAudited (Signed s) explained bytes text = IsSignedAudited s explained bytes text
 
 -- the first file's bytes tell a campaign, and these are the lines of the audit of the second's; where there is no second file its bytes are none
 abbrev pub Audits : Option Lieutenants → List ℕ → Option (List ℕ) → List ℕ → Type 0
 Audits explained first second text =
-    (c : Campaign) × TellsCampaign (is_plain accounts.Chronicle explained) first c × IsAudited c explained (unwrap_or second []) text
+    (c : Campaign) × TellsAny first c × IsAudited c explained (unwrap_or second []) text

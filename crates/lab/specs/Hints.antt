@@ -6,17 +6,17 @@ use Rattle.std.specs.declared.alloc.Global.{Global}
 use Rattle.insn.specs.declared.insn.Insn.{Insn}
 use Rattle.asm.specs.Program.{lines_of, nothing, program_of, read_on}
 use Rattle.codec.specs.Program.{SpellsProgram}
-use Rattle.asm.specs.Places.{AreWritten}
+use Rattle.asm.specs.Places.{AreWritten, statements_of}
 use Rattle.elf.specs.Entry.{entry_of, function_of}
 use Rattle.debug_lines.specs.Places.{AreEntryPlaces}
 use Rattle.elf.specs.Sentences.{sentence_of}
 use Rattle.explain.specs.Explained.{explained_at}
-use Rattle.explain.specs.Units.{places_in}
+use Rattle.explain.specs.Units.{in_lists}
 use Rattle.command_line.specs.Told.{file_of}
 use Rattle.command_line.specs.declared.tasks.Notation.{Notation}
 use Rattle.command_line.specs.declared.tasks.Notation.TheVariants.{Bytecode, Assembly, Object}
 use Rattle.command_line.specs.declared.tasks.Task.{Task}
-use Rattle.command_line.specs.declared.tasks.Task.TheVariants.{Check, Disassemble}
+use Rattle.command_line.specs.declared.tasks.Task.TheVariants.{Check, Disassemble, DisassemblePartly}
 use Rattle.lab.specs.Seeming.{likeness_of, seems_text}
 use Rattle.lab.specs.Whys.{TellsWhyOf, is_explained}
 use Rattle.lab.specs.Whys as role
@@ -46,10 +46,16 @@ ArePlaces Bytecode bytes places = places ≡ []
 ArePlaces Assembly text places = IsUtf8 text → AreWritten (read_on nothing 1 (lines_of text)) places
 ArePlaces (Object entry) object places = AreEntryPlaces object (function_of object (option_map string_bytes entry)) places
 
--- the text explains a program, with the places of its units
+-- how each is written: of assembly in the words of its line
+abbrev pub AreStatements : Notation → List ℕ → List (List ℕ) → Type 0
+AreStatements Assembly text statements = IsUtf8 text → statements ≡ statements_of text
+AreStatements notation bytes statements = statements ≡ []
+
+-- the text explains a program, with the places of its units and how they are written
 abbrev pub Explains : Notation → List ℕ → List Insn → List ℕ → Type 0
 Explains notation bytes program text =
-    (places : List (String Global)) × ArePlaces notation bytes (map string_bytes places) × (text ≡ explained_at (places_in places) program)
+    (places statements : List (String Global)) × ArePlaces notation bytes (map string_bytes places) × AreStatements notation bytes (map string_bytes statements)
+    × (text ≡ explained_at (in_lists places statements) program)
 
 abbrev pub if_asked : Bool → Notation → Option Notation
 if_asked true notation = Some notation
@@ -79,6 +85,7 @@ IsWhy notation bytes text = (program : List Insn) × HasProgram notation bytes p
 abbrev pub bytecode_in : Task → List ℕ → List ℕ
 bytecode_in (Check file (Object entry) context explained traced) bytes = []
 bytecode_in (Disassemble file (Object entry) units explained) bytes = []
+bytecode_in (DisassemblePartly file (Object entry) explained) bytes = []
 bytecode_in task bytes = bytes
 
 -- behind a refusal: of an object the sentence of its fault, and what bytes seem to be that are refused so

@@ -1,8 +1,9 @@
 -- Why a task does not take a file of some bytes.
-use Rattle.std.specs.Prelude.{ℕ, ◌≡◌, ◌≢◌, ◌⊎◌, Bool, true, false, List, Option, Some, Ok, Err, option_map, string_bytes}
+use Rattle.std.specs.Prelude.{ℕ, ◌≡◌, ◌≢◌, ◌⊎◌, ◌/◌, ◌%◌, Bool, true, false, List, Option, Some, Ok, Err, length, option_map, string_bytes}
 use Rattle.std.specs.Str.{IsUtf8}
 use Rattle.insn.specs.declared.insn.Insn.{Insn}
 use Rattle.codec.specs.Program.{IsFirstFault, SpellsProgram}
+use Rattle.codec.specs.declared.fault.Fault.TheVariants.{Length}
 use Rattle.codec.specs.declared.fault.CodecError.{CodecError}
 use Rattle.codec.specs.declared.fault.CodecError.TheVariants as codec
 use Rattle.elf.specs.Entry.{entry_of}
@@ -33,15 +34,17 @@ use Rattle.trace.specs.declared.fault.TraceError.TheVariants as trace
 use Rattle.verify.specs.declared.error.VerifyError.{VerifyError}
 use Rattle.verify.specs.declared.error.VerifyError.TheVariants as verifier
 use Rattle.verify.specs.Judgement.{judged}
-use Rattle.command_line.specs.declared.tasks.Account.TheVariants as accounts
 use Rattle.command_line.specs.declared.tasks.Notation.{Notation}
 use Rattle.command_line.specs.declared.tasks.Notation.TheVariants as notation
 use Rattle.command_line.specs.declared.tasks.Task.{Task}
-use Rattle.command_line.specs.declared.tasks.Task.TheVariants.{Check, Assemble, Disassemble, Book, ExplainDecisions, Form, Play, Muster, Audit, Explore}
+use Rattle.command_line.specs.declared.tasks.Task.TheVariants.{Check, Assemble, AssemblePartly, Disassemble, DisassemblePartly, Book, ExplainDecisions, Form, Play, Muster, Audit, Explore, Tree, Draw, Retrace}
+use Rattle.partial.specs.Reading.{bytes_said}
 use Rattle.tables.specs.Numbers.{numbers_in}
-use Rattle.lab.specs.Campaigns.{is_plain}
+use Rattle.lab.specs.Campaigns.{is_chronicle}
+use Rattle.lab.specs.Picturing.{is_toml}
+use Rattle.lab.specs.Strangers.{HasGenerals, stranger_among}
 use Rattle.lab.specs.declared.refusal.Refusal.{Refusal}
-use Rattle.lab.specs.declared.refusal.Refusal.TheVariants.{Codec, Object, Verifier, Assembly, Table, Scenario, Setting, Trace, Threads, NotText, Memory}
+use Rattle.lab.specs.declared.refusal.Refusal.TheVariants.{Codec, Object, Verifier, Assembly, Table, Scenario, Setting, Trace, Threads, Stranger, NotText, Memory}
 
 -- the refusal of each error: want of memory is the same everywhere
 abbrev pub codec_refusal : CodecError → Refusal
@@ -130,13 +133,27 @@ RefusesScenario text (Scenario error) = (error ≢ scenario.Memory) × Reads (pa
 RefusesScenario text Memory = Unit {0}
 RefusesScenario text _ = ⊥
 
+-- the text tells no table or, where it is TOML, no oral campaign; or it tells one of so many generals, and this is the first of those who
+-- are named that is none of them
+abbrev pub RefusesEither : Bool → List ℕ → List ℕ → Refusal → Type 0
+RefusesEither toml named text (Stranger general generals) = HasGenerals toml text generals × (stranger_among generals named ≡ Some general)
+RefusesEither false named text refusal = RefusesTable text refusal
+RefusesEither true named text refusal = RefusesScenario text refusal
+
+-- a message table, and those who are named with it
+abbrev pub RefusesNaming : List ℕ → List ℕ → Refusal → Type 0
+RefusesNaming named text refusal = RefusesEither false named text refusal
+
+abbrev pub RefusesTree : List ℕ → List ℕ → Refusal → Type 0
+RefusesTree named text refusal = RefusesEither (is_toml text) named text refusal
+
 -- the text tells no campaign, oral or signed, by this first fault
 abbrev pub RefusesCampaign : List ℕ → Refusal → Type 0
 RefusesCampaign text (Scenario error) = (error ≢ scenario.Memory) × ReadsAny (parse_document text) (Err error)
 RefusesCampaign text Memory = Unit {0}
 RefusesCampaign text _ = ⊥
 
--- the text tells no campaign, or no oral one where more than its chronicle is asked for
+-- the text tells no campaign, or no oral one where its message table is asked for
 abbrev pub RefusesAsked : Bool → List ℕ → Refusal → Type 0
 RefusesAsked true text refusal = RefusesCampaign text refusal
 RefusesAsked false text refusal = RefusesScenario text refusal
@@ -189,15 +206,48 @@ RefusesNotation notation.Bytecode bytes refusal = RefusesDisassembly bytes refus
 RefusesNotation notation.Assembly bytes refusal = RefusesText RefusesAssembly bytes refusal
 RefusesNotation (notation.Object entry) bytes refusal = RefusesObject RefusesDisassembly (option_map string_bytes entry) bytes refusal
 
+-- the text says no bytes, by this first fault
+abbrev pub RefusesLines : List ℕ → Refusal → Type 0
+RefusesLines text (Assembly error) = bytes_said text ≡ Err error
+RefusesLines text Memory = Unit {0}
+RefusesLines text _ = ⊥
+
+-- the bytes are no whole units
+abbrev pub AreCut : List ℕ → CodecError → Type 0
+AreCut bytes error = (length bytes % 8 ≢ 0) × (error ≡ codec.At Length (length bytes / 8))
+
+abbrev pub RefusesUnits : List ℕ → Refusal → Type 0
+RefusesUnits bytes (Codec error) = AreCut bytes error
+RefusesUnits bytes Memory = Unit {0}
+RefusesUnits bytes _ = ⊥
+
+-- the text says no bytes, or none that are whole units
+abbrev pub RefusesSaid : List ℕ → Refusal → Type 0
+RefusesSaid text (Assembly error) = bytes_said text ≡ Err error
+RefusesSaid text (Codec error) = (bytes : List ℕ) × (bytes_said text ≡ Ok bytes) × AreCut bytes error
+RefusesSaid text Memory = Unit {0}
+RefusesSaid text _ = ⊥
+
+-- the file has no whole units in its notation
+abbrev pub RefusesParts : Notation → List ℕ → Refusal → Type 0
+RefusesParts notation.Bytecode bytes refusal = RefusesUnits bytes refusal
+RefusesParts notation.Assembly bytes refusal = RefusesText RefusesSaid bytes refusal
+RefusesParts (notation.Object entry) bytes refusal = RefusesObject RefusesUnits (option_map string_bytes entry) bytes refusal
+
 -- the task does not take an only or first file of these bytes
 abbrev pub Refuses : Task → List ℕ → Refusal → Type 0
 Refuses (Check file notation context explained traced) bytes refusal = RefusesCheckIn notation bytes refusal
 Refuses (Assemble file spelling target explained) bytes refusal = RefusesText RefusesAssembly bytes refusal
+Refuses (AssemblePartly file spelling target explained) bytes refusal = RefusesText RefusesLines bytes refusal
 Refuses (Disassemble file notation units explained) bytes refusal = RefusesNotation notation bytes refusal
+Refuses (DisassemblePartly file notation explained) bytes refusal = RefusesParts notation bytes refusal
 Refuses (Book file) bytes refusal = RefusesText RefusesTable bytes refusal
-Refuses (ExplainDecisions file traitors) bytes refusal = RefusesText RefusesTable bytes refusal
+Refuses (ExplainDecisions file traitors) bytes refusal = RefusesText (RefusesNaming traitors.items) bytes refusal
 Refuses (Form n m c filling) bytes refusal = RefusesForm (string_bytes n) (string_bytes m) (string_bytes c) refusal
-Refuses (Play scenario schedule account explained) bytes refusal = RefusesText (RefusesAsked (is_plain account explained)) bytes refusal
+Refuses (Play scenario schedule account explained) bytes refusal = RefusesText (RefusesAsked (is_chronicle account)) bytes refusal
 Refuses (Muster scenario explained) bytes refusal = RefusesText RefusesScenario bytes refusal
-Refuses (Audit scenario chronicle explained) bytes refusal = RefusesText (RefusesAsked (is_plain accounts.Chronicle explained)) bytes refusal
+Refuses (Audit scenario chronicle explained) bytes refusal = RefusesText RefusesCampaign bytes refusal
 Refuses (Explore scenario most) bytes refusal = RefusesText RefusesScenario bytes refusal
+Refuses (Tree file general traitors drawing depth folded) bytes refusal = RefusesText (RefusesTree traitors.items) bytes refusal
+Refuses (Draw scenario course) bytes refusal = RefusesText RefusesScenario bytes refusal
+Refuses (Retrace scenario chronicle) bytes refusal = RefusesText RefusesScenario bytes refusal

@@ -7,17 +7,21 @@ use Rattle.command_line.specs.declared.tasks.Lieutenants.{Lieutenants}
 use Rattle.command_line.specs.declared.tasks.Notation.{Notation}
 use Rattle.command_line.specs.declared.tasks.Task.{Task}
 use Rattle.insn.specs.declared.insn.Insn.{Insn}
+use Rattle.round.specs.Scenario.{Scenario}
 use Rattle.scenario.specs.declared.messages.Campaign.{Campaign}
+use Rattle.scenario.specs.declared.messages.Campaign.TheVariants.{Oral}
 use Rattle.world.specs.declared.schedule.Repeat.{Repeat}
 use Rattle.lab.specs.declared.refusal.Refusal.{Refusal}
 use Rattle.lab.specs.declared.refusal.Refusal.TheVariants.{NotText, Memory}
 use Rattle.lab.specs.declared.first_answer.FirstAnswer.{FirstAnswer}
 use Rattle.lab.specs.declared.first_answer.FirstAnswer.TheVariants as answer
 use Rattle.lab.specs.Answers.{GoesOn, IsTriedBy, Prints}
-use Rattle.lab.specs.Campaigns.{IsAudited, IsPlayed, IsSchedule}
+use Rattle.lab.specs.Campaigns.{IsAudited, IsPlayed, IsSchedule, played}
+use Rattle.lab.specs.Diagrams.{IsDiagram, IsRecordDrawn}
+use Rattle.lab.specs.Retracing.{IsScheduleFor}
 use Rattle.streams.specs.Names.{shown}
 use Rattle.streams.specs.Reading.{AreBytes}
-use Rattle.lab.specs.Hints.{hint_behind, IsBehind, IsHint}
+use Rattle.lab.specs.Hints.{hint_behind, IsHint}
 use Rattle.lab.specs.declared.hint.Hint.{Hint}
 use Rattle.lab.specs.Telling.{refusal_text}
 use Rattle.lab.specs.Whys.{Role, TellsWhyOf, is_explained, role_behind}
@@ -67,11 +71,21 @@ IsPlayedBy known c account explained text = (schedule : List (List Repeat)) × I
 abbrev pub IsAuditOf : Option (Option (List ℕ)) → Campaign → Option Lieutenants → List ℕ → Type 0
 IsAuditOf known c explained text = (bytes : List ℕ) × AreSecondBytes known bytes × IsAudited c explained bytes text
 
--- the lines are those of the program's trial in the second file's setting, and behind them its steps and its explanation, where they are
--- asked for
+-- the picture is that of the campaign by the second file's schedule
+abbrev pub IsDrawnBy : Option (Option (List ℕ)) → Scenario → List ℕ → Type 0
+IsDrawnBy known s picture = (schedule : List (List Repeat)) × IsScheduleOf known schedule × IsDiagram (played s schedule) picture
+
+-- that of the campaign as the second file tells it
+abbrev pub IsDrawnAs : Option (Option (List ℕ)) → Scenario → List ℕ → Type 0
+IsDrawnAs known s picture = (bytes : List ℕ) × AreSecondBytes known bytes × IsRecordDrawn s bytes picture
+
+-- the lines are those of a schedule by which the campaign has the second file's chronicle
+abbrev pub IsRetracedBy : Option (Option (List ℕ)) → Scenario → List ℕ → Type 0
+IsRetracedBy known s lines = (bytes : List ℕ) × AreSecondBytes known bytes × IsScheduleFor s bytes lines
+
+-- the text is what is told of the program's trial in the second file's setting
 abbrev pub IsTrialOf : Option (Option (List ℕ)) → Bool → Option Notation → List ℕ → List Insn → List ℕ → Type 0
-IsTrialOf known traced asked first program text =
-    (bytes : List ℕ) × AreSecondBytes known bytes × ((lines : List ℕ) × IsTriedBy traced bytes program lines × IsBehind asked first program lines text)
+IsTrialOf known traced asked first program text = (bytes : List ℕ) × AreSecondBytes known bytes × IsTriedBy traced asked first bytes program text
 
 -- the task has an answer on the files, with which it stands so
 abbrev pub HasAnswer : (List ℕ → Type 0) → Task → Files → Type 0
@@ -116,6 +130,9 @@ IsRefusedLater (answer.Trial program told) known refusal = IsSettingRefused know
 IsRefusedLater (answer.Play c account explained) known refusal = IsScheduleRefused known refusal
 IsRefusedLater (answer.Muster s explained) known refusal = IsUnmustered refusal
 IsRefusedLater (answer.Audit c explained) known refusal = IsChronicleRefused c known refusal
+IsRefusedLater (answer.Draw s) known refusal = IsScheduleRefused known refusal
+IsRefusedLater (answer.DrawRecorded s) known refusal = IsChronicleRefused (Oral s) known refusal
+IsRefusedLater (answer.Retrace s) known refusal = IsChronicleRefused (Oral s) known refusal
 IsRefusedLater _ known refusal = ⊥
 
 -- of a second file's bytes, none where there is no such file

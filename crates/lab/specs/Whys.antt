@@ -1,7 +1,7 @@
 -- What is said behind the line of a refusal where an explanation is asked for: the report of crate `why`, by the file's name and bytes.
 use Rattle.std.specs.Prelude.{ℕ, ◌≡◌, Bool, true, false, List, [], ◌++◌, Option, None, Some, IfSome, codes, is_some}
 use Rattle.command_line.specs.declared.tasks.Task.{Task}
-use Rattle.command_line.specs.declared.tasks.Task.TheVariants.{Assemble, Audit, Check, Disassemble, ExplainDecisions, Muster, Play}
+use Rattle.command_line.specs.declared.tasks.Task.TheVariants.{Assemble, AssemblePartly, Audit, Check, Disassemble, DisassemblePartly, ExplainDecisions, Muster, Play}
 use Rattle.asm.specs.declared.fault.AsmError.TheVariants as asm
 use Rattle.book.specs.declared.fault.TableError.TheVariants as book
 use Rattle.codec.specs.declared.fault.CodecError.TheVariants as codec
@@ -11,12 +11,12 @@ use Rattle.why.specs.Assembly.{assembly_told}
 use Rattle.why.specs.Bytecode.{bytecode_told}
 use Rattle.why.specs.Chronicles.{replayed_told, schedule_told}
 use Rattle.why.specs.Errors.{TellsScenario, TellsSetting}
-use Rattle.why.specs.Messages.{table_told}
+use Rattle.why.specs.Messages.{stranger_told, table_told}
 use Rattle.lab.specs.Seeming.{seems_at_first, seems_text}
 use Rattle.lab.specs.declared.first_answer.FirstAnswer.{FirstAnswer}
 use Rattle.lab.specs.declared.first_answer.FirstAnswer.TheVariants as answer
 use Rattle.lab.specs.declared.refusal.Refusal.{Refusal}
-use Rattle.lab.specs.declared.refusal.Refusal.TheVariants.{Codec, Assembly, Table, Scenario, Setting, Trace, Threads}
+use Rattle.lab.specs.declared.refusal.Refusal.TheVariants.{Codec, Assembly, Table, Scenario, Setting, Trace, Threads, Stranger}
 use Rattle.lab.specs.declared.seeming.Likeness.{Likeness}
 use Rattle.lab.specs.declared.whys.Traced.{Traced}
 use Rattle.lab.specs.declared.whys.Traced.TheVariants as traced
@@ -29,7 +29,9 @@ use Rattle.why.specs.Musters.{muster_told}
 abbrev pub is_explained : Task → Bool
 is_explained (Check file notation context explained traced) = explained
 is_explained (Assemble file spelling target explained) = explained
+is_explained (AssemblePartly file spelling target explained) = explained
 is_explained (Disassemble file notation units explained) = explained
+is_explained (DisassemblePartly file notation explained) = explained
 is_explained (ExplainDecisions file traitors) = true
 is_explained (Play scenario schedule account explained) = is_some explained
 is_explained (Muster scenario explained) = is_some explained
@@ -68,12 +70,14 @@ TellsWhy (Table (book.At fault line)) of name bytes told = told ≡ table_told n
 TellsWhy (Scenario error) of name bytes told = TellsScenario name bytes error told
 TellsWhy (Setting error) of name bytes told = TellsSetting name bytes error told
 TellsWhy (Threads error) of name bytes told = told ≡ muster_told error
+TellsWhy (Stranger general generals) of name bytes told = told ≡ stranger_told name bytes generals
 TellsWhy _ of name bytes told = told ≡ []
 
 -- what a second file is, behind a first one with which the task goes on so
 abbrev pub role_behind : FirstAnswer → Role
 role_behind (answer.Play c account explained) = Schedule
 role_behind (answer.Audit c explained) = Chronicle c
+role_behind (answer.Draw s) = Schedule
 role_behind _ = Nothing
 
 -- the same of the file's name as it is given; of one past ASCII with a control character nothing is said

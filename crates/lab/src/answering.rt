@@ -9,11 +9,14 @@ use crate::explaining::with_explanation;
 use crate::exploring::explored as orders_of;
 use crate::first_answer::FirstAnswer;
 use crate::forming::{filled, formed};
-use crate::playing::{asked_campaign, campaign};
+use crate::parts::{assembled_partly, assembled_partly_raw, disassembled_partly};
+use crate::picturing::pictured;
+use crate::playing::{any_campaign, asked_campaign, campaign};
 use crate::refusal::Refusal;
 use crate::steps::with_steps;
 use crate::texts::as_text;
-use command_line::{Account, Notation, Spelling, Task};
+use command_line::{Course, Notation, Spelling, Task};
+use drawing::View;
 use std::alloc::Global;
 use trial::Setting;
 
@@ -26,76 +29,123 @@ pub fn answer(alloc: Global, task: &Task, bytes: &[u8]) -> Result<FirstAnswer, R
     ensures answered { IfOk result (ComesTo task.now bytes.now) }
     ensures refused { IfErr result (Refuses task.now bytes.now) }
 {
-    let text = match task {
+    match task {
         Task::Check {
             notation,
             context: None,
             explained,
             traced,
             ..
-        } => checked_in(alloc, notation, *explained, *traced, bytes)?,
+        } => Ok(FirstAnswer::Text(checked_in(alloc, notation, *explained, *traced, bytes)?)),
         Task::Check {
             notation,
             context: Some(_),
             traced,
             ..
-        } => {
-            let program = accepted_in(alloc, notation, bytes)?;
-            return Ok(FirstAnswer::Trial(program, *traced));
-        }
+        } => Ok(FirstAnswer::Trial(accepted_in(alloc, notation, bytes)?, *traced)),
         Task::Assemble {
             spelling: Spelling::Hex,
             ..
-        } => assembled(alloc, as_text(bytes)?)?,
+        } => Ok(FirstAnswer::Text(assembled(alloc, as_text(bytes)?)?)),
         Task::Assemble {
             spelling: Spelling::Raw,
             ..
-        } => return Ok(FirstAnswer::Bytes(assembled_raw(alloc, as_text(bytes)?)?)),
+        } => Ok(FirstAnswer::Bytes(assembled_raw(alloc, as_text(bytes)?)?)),
+        Task::AssemblePartly {
+            spelling: Spelling::Hex,
+            ..
+        } => Ok(FirstAnswer::Text(assembled_partly(alloc, as_text(bytes)?)?)),
+        Task::AssemblePartly {
+            spelling: Spelling::Raw,
+            ..
+        } => Ok(FirstAnswer::Bytes(assembled_partly_raw(alloc, as_text(bytes)?)?)),
         Task::Disassemble {
             notation,
             units,
             ..
-        } => disassembled(alloc, notation, *units, bytes)?,
-        Task::Book(_) => decided(alloc, as_text(bytes)?)?,
+        } => Ok(FirstAnswer::Text(disassembled(alloc, notation, *units, bytes)?)),
+        Task::DisassemblePartly { notation, .. } => {
+            Ok(FirstAnswer::Text(disassembled_partly(alloc, notation, bytes)?))
+        }
+        Task::Book(_) => Ok(FirstAnswer::Text(decided(alloc, as_text(bytes)?)?)),
         Task::ExplainDecisions { traitors, .. } => {
-            explained(alloc, as_text(bytes)?, traitors.as_slice())?
+            Ok(FirstAnswer::Text(explained(alloc, as_text(bytes)?, traitors.as_slice())?))
         }
         Task::Form {
             generals,
             bound,
             commander,
             filling: None,
-        } => formed(alloc, generals.as_str(), bound.as_str(), commander.as_str())?,
+        } => Ok(FirstAnswer::Text(formed(
+            alloc,
+            generals.as_str(),
+            bound.as_str(),
+            commander.as_str(),
+        )?)),
         Task::Form {
             generals,
             bound,
             commander,
             filling: Some(filling),
-        } => filled(
+        } => Ok(FirstAnswer::Text(filled(
             alloc,
             generals.as_str(),
             bound.as_str(),
             commander.as_str(),
             *filling,
-        )?,
-        Task::Explore { most, .. } => orders_of(alloc, &campaign(alloc, bytes)?, *most)?,
+        )?)),
+        Task::Tree {
+            general,
+            traitors,
+            drawing,
+            depth,
+            folded,
+            ..
+        } => {
+            let view = View {
+                depth: *depth,
+                folds: *folded,
+            };
+            let text = as_text(bytes)?;
+            Ok(FirstAnswer::Text(pictured(
+                alloc,
+                text,
+                *general,
+                traitors.as_slice(),
+                *drawing,
+                view,
+            )?))
+        }
+        Task::Explore { most, .. } => {
+            Ok(FirstAnswer::Text(orders_of(alloc, &campaign(alloc, bytes)?, *most)?))
+        }
         Task::Play {
             account,
             explained,
             ..
-        } => {
-            let campaign = asked_campaign(alloc, bytes, *account, *explained)?;
-            return Ok(FirstAnswer::Play(campaign, *account, *explained));
-        }
-        Task::Muster { explained, .. } => {
-            return Ok(FirstAnswer::Muster(campaign(alloc, bytes)?, *explained));
-        }
-        Task::Audit { explained, .. } => {
-            let campaign = asked_campaign(alloc, bytes, Account::Chronicle, *explained)?;
-            return Ok(FirstAnswer::Audit(campaign, *explained));
-        }
-    };
-    Ok(FirstAnswer::Text(text))
+        } => Ok(FirstAnswer::Play(
+            asked_campaign(alloc, bytes, *account)?,
+            *account,
+            *explained,
+        )),
+        Task::Muster { explained, .. } => Ok(FirstAnswer::Muster(
+            campaign(alloc, bytes)?,
+            *explained,
+        )),
+        Task::Audit { explained, .. } => Ok(FirstAnswer::Audit(
+            any_campaign(alloc, bytes)?,
+            *explained,
+        )),
+        Task::Draw {
+            course: Course::Scheduled(_),
+            ..
+        } => Ok(FirstAnswer::Draw(campaign(alloc, bytes)?)),
+        Task::Draw {
+            course: Course::Recorded(_),
+            ..
+        } => Ok(FirstAnswer::DrawRecorded(campaign(alloc, bytes)?)),
+        Task::Retrace { .. } => Ok(FirstAnswer::Retrace(campaign(alloc, bytes)?)),
+    }
 }
 
 /// What a check prints of a file with a program in this notation, with its steps and its explanation or without them.

@@ -4,7 +4,7 @@ ghost use Rattle.lab.specs.Campaigns.{IsAudited, IsSignedAudited};
 ghost use Rattle.lab.specs.Lines.{sound_lines};
 ghost use Rattle.lab.specs.Refusals.{RefusesChronicle, RefusesText};
 
-use crate::playing::with_decisions;
+use crate::playing::{unexplained, with_decisions};
 use crate::refusal::Refusal;
 use crate::texts::as_text;
 use command_line::Lieutenants;
@@ -15,7 +15,7 @@ use trace::{Latch, check_signed, sound_chronicle, write_verdict};
 use world::Verdict;
 
 /// The audit of the bytes: that they are the text of a chronicle of the campaign, and the verdict on it; behind them how
-/// these decisions of an oral one come about.
+/// these decisions come about, which of a signed one is not told.
 ///
 /// # Errors
 ///
@@ -31,7 +31,7 @@ pub fn audited(
 {
     match campaign {
         Campaign::Oral(scenario) => oral_audited(alloc, scenario, bytes, explained),
-        Campaign::Signed(scenario) => signed_audited(alloc, scenario, bytes),
+        Campaign::Signed(scenario) => signed_audited(alloc, scenario, bytes, explained),
     }
 }
 
@@ -53,12 +53,18 @@ fn oral_audited(
 }
 
 /// The audit of a signed one's.
-fn signed_audited(alloc: Global, scenario: &Scenario, bytes: &[u8]) -> Result<Vec<u8>, Refusal>
-    ensures audited { IfOk result (λ text. IsSignedAudited scenario.now bytes.now text.items) }
+#[tactic(auto, using(crate::proofs::CampaignLemmas::is_signed_audited))]
+fn signed_audited(
+    alloc: Global,
+    scenario: &Scenario,
+    bytes: &[u8],
+    explained: Option<Lieutenants>,
+) -> Result<Vec<u8>, Refusal>
+    ensures audited { IfOk result (λ text. IsSignedAudited scenario.now explained bytes.now text.items) }
     ensures refused { IfErr result (RefusesText (RefusesChronicle (Signed scenario.now)) bytes.now) }
 {
     let verdict = check_signed(alloc, scenario, as_text(bytes)?)?;
-    Ok(sound_text(alloc, verdict)?)
+    Ok(unexplained(sound_text(alloc, verdict)?, explained)?)
 }
 
 /// A line that all is sound, and the verdict's.

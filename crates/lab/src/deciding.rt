@@ -1,8 +1,12 @@
-ghost use Rattle.std.specs.Prelude.{IfOk, IfErr, string_bytes};
+ghost use Rattle.std.specs.Prelude.{◌≡◌, false, IfOk, IfErr, Ok, OnOk, string_bytes};
+ghost use Rattle.book.specs.Grammar.{table_told};
 ghost use Rattle.tables.specs.Answers.{DecidesTable, ExplainsTable};
-ghost use Rattle.lab.specs.Refusals.{RefusesTable};
+ghost use Rattle.lab.specs.Refusals.{RefusesNaming, RefusesTable};
+ghost use Rattle.lab.specs.Strangers.{KnowsAll};
 
 use crate::refusal::Refusal;
+use crate::strangers::know_all;
+use book::{Table, explain, read_table};
 use std::alloc::Global;
 
 /// What the lieutenants of the message table decide.
@@ -21,10 +25,22 @@ pub fn decided(alloc: Global, text: &str) -> Result<String, Refusal>
 ///
 /// # Errors
 ///
-/// What the table refuses, or want of memory.
+/// What the table refuses; the first who is named and is none of its generals; or want of memory.
+#[tactic(auto, using(crate::proofs::StrangerLemmas::of_table, crate::proofs::StrangerLemmas::unread_table, crate::proofs::StrangerLemmas::strange_to_table))]
 pub fn explained(alloc: Global, text: &str, traitors: &[u8]) -> Result<String, Refusal>
+    ensures known { OnOk result (KnowsAll false text.now traitors.now) }
     ensures explained { IfOk result (λ lines. ExplainsTable text.now traitors.now (string_bytes lines)) }
+    ensures refused { IfErr result (RefusesNaming traitors.now text.now) }
+{
+    let table = table_in(alloc, text)?;
+    know_all(table.generals(), traitors)?;
+    Ok(explain(alloc, &table, traitors)?)
+}
+
+/// The message table that the text tells.
+pub(crate) fn table_in(alloc: Global, text: &str) -> Result<Table, Refusal>
+    ensures told { IfOk result (λ table. table_told text.now ≡ Ok table) }
     ensures refused { IfErr result (RefusesTable text.now) }
 {
-    Ok(tables::explained(alloc, text, traitors)?)
+    Ok(read_table(alloc, text)?)
 }

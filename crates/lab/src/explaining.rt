@@ -9,9 +9,9 @@ use crate::hint::Hint;
 use crate::programs::program_in;
 use crate::refusal::Refusal;
 use crate::whys::unjudged;
-use crate::written::written_in;
+use crate::written::{statements_in, written_in};
 use command_line::{Notation, Task};
-use explain::explanation_at;
+use explain::{Written, explanation_at};
 use insn::Program;
 use std::alloc::{AllocError, Global};
 
@@ -39,7 +39,12 @@ fn told(
     ensures { IfOk result (λ text. Explains notation.now bytes.now program.now (string_bytes text)) }
 {
     let places = written_in(alloc, notation, bytes)?;
-    explanation_at(alloc, program, places.as_slice())
+    let statements = statements_in(alloc, notation, bytes)?;
+    let written = Written {
+        places: places.as_slice(),
+        statements: statements.as_slice(),
+    };
+    explanation_at(alloc, program, &written)
 }
 
 /// The lines of an accepted program that a file of these bytes has, and behind them an empty one and its explanation, if it
@@ -82,6 +87,10 @@ fn bytecode_in<'a>(task: &Task, bytes: &'a [u8]) -> &'a [u8]
             ..
         }
         | Task::Disassemble {
+            notation: Notation::Object { .. },
+            ..
+        }
+        | Task::DisassemblePartly {
             notation: Notation::Object { .. },
             ..
         } => &[],

@@ -8,7 +8,7 @@ use streams::FileName;
 
 /// Why a task was not done.
 #[derive(Debug, Drop)]
-pub(crate) enum Failure<'a> {
+pub enum Failure<'a> {
     /// The file of this name could not be read.
     Read(&'a str),
     /// The file of this name is no text in UTF-8.

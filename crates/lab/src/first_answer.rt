@@ -18,4 +18,10 @@ pub enum FirstAnswer {
     Muster(Scenario, Option<Lieutenants>),
     /// A campaign whose chronicle the second file may be, and whose decisions to explain.
     Audit(Campaign, Option<Lieutenants>),
+    /// An oral campaign to draw, by the schedule of the second file.
+    Draw(Scenario),
+    /// An oral campaign to draw as the chronicle that the second file may be tells it.
+    DrawRecorded(Scenario),
+    /// An oral campaign of whose chronicle, which the second file may be, a schedule is to be told.
+    Retrace(Scenario),
 }

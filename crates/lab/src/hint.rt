@@ -3,7 +3,7 @@ use std::fmt;
 
 /// What is said behind the line of a refusal.
 #[derive(Debug, Drop)]
-pub(crate) enum Hint {
+pub enum Hint {
     /// What the bytes seem to be.
     Seems(Likeness),
     /// Why an object has no code for the entry.

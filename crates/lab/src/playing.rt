@@ -1,10 +1,10 @@
-ghost use Rattle.std.specs.Prelude.{◌≡◌, ◌<◌, ℕ, List, length, IfOk, IfErr, Ok, Some};
+ghost use Rattle.std.specs.Prelude.{◌≡◌, ◌<◌, ◌++◌, ◌∷◌, ℕ, List, length, IfOk, IfErr, Ok, Some};
 ghost use Rattle.scenario.specs.Told.{Tells, TellsAny};
 ghost use Rattle.trace.specs.Schedules.{schedule_told};
 ghost use Rattle.trace.specs.SignedText.{signed_text};
 ghost use Rattle.trace.specs.Text.{chronicle_text};
 ghost use Rattle.retold.specs.Retold.{IsWhole};
-ghost use Rattle.lab.specs.Campaigns.{IsAccount, IsFollowed, IsOralPlayed, IsPlayed, IsSignedPlayed, TellsCampaign, asked, is_plain};
+ghost use Rattle.lab.specs.Campaigns.{IsAccount, IsFollowed, IsOralPlayed, IsPlayed, IsSignedPlayed, TellsCampaign, asked, is_chronicle, signed_behind};
 ghost use Rattle.streams.specs.Reading.{IsFront, MayBeginText};
 ghost use Rattle.lab.specs.Refusals.{RefusesAsked, RefusesCampaign, RefusesScenario, RefusesSchedule, RefusesText};
 ghost use Rattle.lab.specs.declared.refusal.Refusal.TheVariants.{NotText, Trace};
@@ -49,8 +49,8 @@ pub fn campaign(alloc: Global, bytes: &[u8]) -> Result<Scenario, Refusal>
     Ok(scenario::read(alloc, as_text(bytes)?)?)
 }
 
-/// The campaign that the bytes tell, of which this account is to be given, and these decisions explained: an oral one where
-/// that is more than its chronicle, since a signed one has no message table.
+/// The campaign that the bytes tell, of which this account is to be given: an oral one where that is its message table, since
+/// a signed one has none.
 ///
 /// # Errors
 ///
@@ -59,16 +59,13 @@ pub(crate) fn asked_campaign(
     alloc: Global,
     bytes: &[u8],
     account: Account,
-    explained: Option<Lieutenants>,
 ) -> Result<Campaign, Refusal>
-    ensures told { IfOk result (TellsCampaign (is_plain account explained) bytes.now) }
-    ensures refused { IfErr result (RefusesText (RefusesAsked (is_plain account explained)) bytes.now) }
+    ensures told { IfOk result (TellsCampaign (is_chronicle account) bytes.now) }
+    ensures refused { IfErr result (RefusesText (RefusesAsked (is_chronicle account)) bytes.now) }
 {
-    match (account, explained) {
-        (Account::Chronicle, None) => any_campaign(alloc, bytes),
-        (Account::Chronicle, Some(_)) | (Account::Table, _) => {
-            Ok(Campaign::Oral(campaign(alloc, bytes)?))
-        }
+    match account {
+        Account::Chronicle => any_campaign(alloc, bytes),
+        Account::Table => Ok(Campaign::Oral(campaign(alloc, bytes)?)),
     }
 }
 
@@ -113,8 +110,8 @@ fn too_long(front: &[u8]) -> Refusal
     Refusal::Trace(TraceError::At(Fault::Line, 1))
 }
 
-/// The text of the campaign by a schedule: this account of it, and behind it how these decisions come about; of a signed
-/// one its chronicle alone. All of it is in memory, some bytes for each word and access that it tells.
+/// The text of the campaign by a schedule: this account of it, of a signed one its chronicle, and behind it how these
+/// decisions come about, which of a signed one is not told. All of it is in memory, some bytes for each word and access that it tells.
 ///
 /// # Errors
 ///
@@ -130,7 +127,7 @@ pub fn played(
 {
     match campaign {
         Campaign::Oral(scenario) => oral_played(alloc, scenario, schedule, account, explained),
-        Campaign::Signed(scenario) => signed_played(alloc, scenario, schedule),
+        Campaign::Signed(scenario) => signed_played(alloc, scenario, schedule, explained),
     }
 }
 
@@ -171,11 +168,13 @@ fn signed_played(
     alloc: Global,
     scenario: Scenario,
     schedule: &Schedule,
+    explained: Option<Lieutenants>,
 ) -> Result<Vec<u8>, AllocError>
-    ensures { IfOk result (λ text. IsSignedPlayed scenario schedule.now text.items) }
+    ensures { IfOk result (λ text. IsSignedPlayed scenario schedule.now explained text.items) }
 {
     let chronicle = play_signed(alloc, scenario, schedule)?;
-    signed_chronicle_text(alloc, &chronicle)
+    let front = signed_chronicle_text(alloc, &chronicle)?;
+    unexplained(front, explained)
 }
 
 /// The text of an oral campaign's chronicle.
@@ -187,6 +186,17 @@ pub(crate) fn chronicle_text(alloc: Global, chronicle: &Chronicle) -> Result<Vec
         Ok(()) => Ok(latch.into_writer()),
         Err(_) => Err(AllocError),
     }
+}
+
+/// The text, and behind it an empty line and these.
+#[tactic(auto, using(crate::proofs::CampaignLemmas::behind_lines))]
+fn with_lines(front: Vec<u8>, lines: &str) -> Result<Vec<u8>, AllocError>
+    ensures { IfOk result (λ text. text.items ≡ front.items ++ 10 ∷ lines.now) }
+{
+    let mut text = front;
+    text.push(b'\n')?;
+    text.extend_from_slice(lines.as_bytes())?;
+    Ok(text)
 }
 
 /// The text, and behind it an empty line and how these decisions of the campaign come about, if it is asked for.
@@ -204,10 +214,29 @@ pub(crate) fn with_decisions(
         return Ok(front);
     };
     let lines = retold::explained(alloc, chronicle, asked(who))?;
+    with_lines(front, lines.as_str())
+}
+
+/// The text of a signed campaign and, if an explanation is asked for, that there is none.
+pub(crate) fn unexplained(
+    front: Vec<u8>,
+    explained: Option<Lieutenants>,
+) -> Result<Vec<u8>, AllocError>
+    ensures { IfOk result (λ text. text.items ≡ front.items ++ signed_behind explained) }
+{
     let mut text = front;
-    text.push(b'\n')?;
-    text.extend_from_slice(lines.as_bytes())?;
+    text.extend_from_slice(signed_behind(explained).as_bytes())?;
     Ok(text)
+}
+
+/// What stands behind a signed campaign's text.
+fn signed_behind(explained: Option<Lieutenants>) -> &'static str
+    ensures { result.now ≡ signed_behind explained }
+{
+    match explained {
+        None => "",
+        Some(_) => "\nthe decisions of a signed campaign are not explained\n",
+    }
 }
 
 /// The general who is asked for; none where all are.

@@ -31,6 +31,8 @@ pub enum Refusal {
     Trace(TraceError),
     /// The threads gave no chronicle.
     Threads(MusterError),
+    /// One who is named is none of so many generals.
+    Stranger { general: u8, generals: u8 },
     /// The bytes are no text in UTF-8.
     NotText,
     /// Want of memory.
@@ -54,6 +56,7 @@ impl fmt::Display for Refusal {
             Refusal::Setting(error) => write!(f, "{error}"),
             Refusal::Trace(error) => write!(f, "{error}"),
             Refusal::Threads(error) => write!(f, "{error}"),
+            Refusal::Stranger { general, .. } => write!(f, "G1 general {general}"),
             Refusal::NotText => f.write_str("not UTF-8"),
             Refusal::Memory => f.write_str("out of memory"),
         }

@@ -9,7 +9,8 @@ ghost use Rattle.streams.specs.Writing.{AppendsFront};
 
 use crate::answering::answer;
 use crate::auditing::audited;
-use crate::explaining::{explained_in, refused, with_explanation};
+use crate::behind::{draw_by, draw_record, retrace_of};
+use crate::explaining::{explained_in, refused};
 use crate::failure::Failure;
 use crate::first_answer::FirstAnswer;
 use crate::mustering::mustered;
@@ -93,8 +94,12 @@ where
     }
 }
 
-/// The task's answer on its files.
-fn answered<'a, T, R>(
+/// The task's answer on its files, which `serve` prints.
+///
+/// # Errors
+///
+/// A file that cannot be read or is refused, or want of memory.
+pub fn answered<'a, T, R>(
     rt: &T,
     alloc: Global,
     task: &'a Task,
@@ -136,6 +141,13 @@ where
         Ok(FirstAnswer::Audit(campaign, explained)) => {
             audit_of(alloc, &campaign, explained, reported, file, second)
         }
+        Ok(FirstAnswer::Draw(scenario)) => draw_by(alloc, scenario, reported, file, second),
+        Ok(FirstAnswer::DrawRecorded(scenario)) => {
+            draw_record(alloc, &scenario, reported, file, second)
+        }
+        Ok(FirstAnswer::Retrace(scenario)) => {
+            retrace_of(alloc, &scenario, reported, file, second)
+        }
         Err(refusal) => Err(refused(alloc, task, refusal, bytes.as_slice())),
     }
 }
@@ -155,7 +167,7 @@ fn mustered_text<'a>(
     }
 }
 
-/// The lines of the program's trial in the setting of the second file, with its steps and its explanation or without them.
+/// What is told of the program's trial in the setting of the second file.
 fn trial_of<'a, R: Source>(
     alloc: Global,
     task: &Task,
@@ -170,17 +182,15 @@ fn trial_of<'a, R: Source>(
         (Stops (IsSomeAnd second R.fails) (IsToldLater (is_explained task.now) file.entry.now (option_map R.bytes second) (Trial program.now traced)) file.entry.now) }
 {
     let bytes = read_second(alloc, file, second)?;
-    match tried_by(alloc, program, traced, bytes.as_slice()) {
-        Ok(lines) => match with_explanation(
-            alloc,
-            lines,
-            explained_in(task),
-            first,
-            program.program(),
-        ) {
-            Ok(text) => Ok(text.into_bytes()),
-            Err(_) => Err(Failure::Memory),
-        },
+    match tried_by(
+        alloc,
+        program,
+        traced,
+        explained_in(task),
+        first,
+        bytes.as_slice(),
+    ) {
+        Ok(text) => Ok(text.into_bytes()),
         Err(refusal) => Err(later(
             alloc,
             is_explained(task),
@@ -214,7 +224,7 @@ fn play_by<'a, R: Source>(
 }
 
 /// The schedule of the second file, the empty one where there is none.
-fn scheduled<'a, R: Source>(
+pub(crate) fn scheduled<'a, R: Source>(
     alloc: Global,
     reported: bool,
     file: &'a str,

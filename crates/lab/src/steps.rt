@@ -1,7 +1,8 @@
-//! What `check --trace` says of a run behind what `check` says of it.
-ghost use Rattle.std.specs.Prelude.{◌≡◌, ◌++◌, IfOk, string_bytes};
-ghost use Rattle.lab.specs.Answers.{steps_behind};
+//! What is told of a run: by `check --trace` its steps, and by `check --explain` in a setting its calls that put nothing.
+ghost use Rattle.std.specs.Prelude.{◌≡◌, ◌++◌, IfOk, option_map, string_bytes};
+ghost use Rattle.lab.specs.Answers.{slips_behind, steps_behind};
 
+use command_line::Notation;
 use mem::Context;
 use std::alloc::{AllocError, Global};
 use trial::Setting;
@@ -27,9 +28,35 @@ pub(crate) fn with_steps(
     }
     let bytes = setting.context(alloc)?;
     let context = Context::new(bytes.as_slice());
-    let steps = tracing::traced(alloc, program, &context, setting.shape())?;
+    let steps = tracing::traced(alloc, program, &context, setting.shape(), setting.board())?;
     let mut text = lines;
     text.push_str("\n")?;
     text.push_str(steps.as_str())?;
+    Ok(text)
+}
+
+/// What is said of an accepted program, and behind it a line for each call of its run in this setting that puts nothing, if an
+/// explanation is asked for.
+///
+/// # Errors
+///
+/// `AllocError` where the memory for the context, the outbox, an access or the lines is refused.
+pub(crate) fn with_slips(
+    alloc: Global,
+    told: String,
+    asked: Option<&Notation>,
+    program: &Verified,
+    setting: &Setting,
+) -> Result<String, AllocError>
+    ensures { IfOk result (λ text. string_bytes text ≡ string_bytes told ++ slips_behind (option_map (λ notation. notation.now) asked.entry) program.now setting.now) }
+{
+    if asked.is_none() {
+        return Ok(told);
+    }
+    let bytes = setting.context(alloc)?;
+    let context = Context::new(bytes.as_slice());
+    let slips = tracing::slips(alloc, program, &context, setting.shape(), setting.board())?;
+    let mut text = told;
+    text.push_str(slips.as_str())?;
     Ok(text)
 }

@@ -1,16 +1,19 @@
-ghost use Rattle.std.specs.Prelude.{IfOk, IfErr, string_bytes};
+ghost use Rattle.std.specs.Prelude.{IfOk, IfErr, option_map, string_bytes};
 ghost use Rattle.lab.specs.Answers.{IsTriedBy};
 ghost use Rattle.lab.specs.Refusals.{RefusesSetting, RefusesText};
 
+use crate::explaining::with_explanation;
 use crate::refusal::Refusal;
-use crate::steps::with_steps;
+use crate::steps::{with_slips, with_steps};
 use crate::texts::as_text;
+use command_line::Notation;
 use std::alloc::Global;
 use trial::{read, tried};
 use verify::Verified;
 
-/// The lines of the program's trial in the setting that the bytes tell, and behind them its steps, if they are asked for. The board that it asks is its own, and begins with
-/// zeros.
+/// The lines of the program's trial in the setting that the second file tells, and behind them its steps, if they are asked
+/// for. If it is asked for, in the notation in which the first file has the program, its explanation stands behind these, and a
+/// note for each call that puts nothing.
 ///
 /// # Errors
 ///
@@ -19,12 +22,16 @@ pub fn tried_by(
     alloc: Global,
     program: &Verified,
     traced: bool,
-    bytes: &[u8],
+    asked: Option<&Notation>,
+    first: &[u8],
+    second: &[u8],
 ) -> Result<String, Refusal>
-    ensures tried { IfOk result (λ text. IsTriedBy traced bytes.now program.now (string_bytes text)) }
-    ensures refused { IfErr result (RefusesText RefusesSetting bytes.now) }
+    ensures tried { IfOk result (λ text. IsTriedBy traced (option_map (λ notation. notation.now) asked.entry) first.now second.now program.now (string_bytes text)) }
+    ensures refused { IfErr result (RefusesText RefusesSetting second.now) }
 {
-    let setting = read(alloc, as_text(bytes)?)?;
+    let setting = read(alloc, as_text(second)?)?;
     let lines = tried(alloc, program, &setting)?;
-    Ok(with_steps(alloc, lines, traced, program, &setting)?)
+    let lines = with_steps(alloc, lines, traced, program, &setting)?;
+    let told = with_explanation(alloc, lines, asked, first, program.program())?;
+    Ok(with_slips(alloc, told, asked, program, &setting)?)
 }

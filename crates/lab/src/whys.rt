@@ -30,18 +30,25 @@ pub(crate) enum Traced<'a> {
 }
 
 /// Whether the task is to explain what it refuses.
-pub(crate) fn is_explained(task: &Task) -> bool
+pub fn is_explained(task: &Task) -> bool
     ensures { result ≡ is_explained task.now }
 {
     match task {
         Task::Check { explained, .. }
         | Task::Assemble { explained, .. }
-        | Task::Disassemble { explained, .. } => *explained,
+        | Task::AssemblePartly { explained, .. }
+        | Task::Disassemble { explained, .. }
+        | Task::DisassemblePartly { explained, .. } => *explained,
         Task::ExplainDecisions { .. } => true,
         Task::Play { explained, .. }
         | Task::Muster { explained, .. }
         | Task::Audit { explained, .. } => explained.is_some(),
-        Task::Book(_) | Task::Form { .. } | Task::Explore { .. } => false,
+        Task::Book(_)
+        | Task::Form { .. }
+        | Task::Explore { .. }
+        | Task::Tree { .. }
+        | Task::Draw { .. }
+        | Task::Retrace { .. } => false,
     }
 }
 
@@ -135,6 +142,7 @@ fn told_by(
         Refusal::Object(_) => Ok(String::new(alloc)),
         Refusal::Verifier(_) => Ok(String::new(alloc)),
         Refusal::Threads(error) => why::of_muster(alloc, *error),
+        Refusal::Stranger { generals, .. } => why::of_stranger(alloc, name, bytes, *generals),
         Refusal::NotText => Ok(String::new(alloc)),
         Refusal::Memory => Ok(String::new(alloc)),
     }

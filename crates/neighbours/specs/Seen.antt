@@ -5,26 +5,29 @@ use Rattle.std.specs.List.{AllZip}
 use Rattle.toml.specs.Data.{Members}
 use Rattle.toml.specs.Parse.{parse_document}
 use Rattle.command_line.specs.declared.tasks.Task.{Task}
-use Rattle.command_line.specs.declared.tasks.Task.TheVariants.{Play, Muster, Audit, Explore}
+use Rattle.command_line.specs.declared.tasks.Task.TheVariants.{Play, Muster, Audit, Explore, Tree, Draw, Retrace}
 use Rattle.references.specs.Names.{File}
 use Rattle.references.specs.Resolved.{Resolves}
 use Rattle.references.specs.Asking.{asked}
 use Rattle.neighbours.specs.Taken.{IsBeside}
 
--- the task's first file is a scenario
+-- the task's first file is a scenario, or may be one
 abbrev pub reads_scenario : Task → Bool
 reads_scenario (Play scenario schedule account explained) = true
 reads_scenario (Muster scenario explained) = true
 reads_scenario (Audit scenario chronicle explained) = true
 reads_scenario (Explore scenario most) = true
+reads_scenario (Tree file general traitors drawing depth folded) = true
+reads_scenario (Draw scenario course) = true
+reads_scenario (Retrace scenario chronicle) = true
 reads_scenario _ = false
 
 -- the text in which the files stand that the document asks for, each in its turn, where that is another text
-abbrev pub SeesIn : Option Members → Option (List ℕ) → Type 0
-SeesIn document text = (files : List File) × AllZip IsBeside (asked document) files × Resolves files document text
+abbrev pub SeesIn : (List ℕ → Option (List ℕ)) → Option Members → Option (List ℕ) → Type 0
+SeesIn known document text = (files : List File) × AllZip (IsBeside known) (asked document) files × Resolves files document text
 
 -- the bytes are no text, and stay; or the new ones are those of such a text
-abbrev pub Sees : List ℕ → List ℕ → Type 0
-Sees bytes new =
+abbrev pub Sees : (List ℕ → Option (List ℕ)) → List ℕ → List ℕ → Type 0
+Sees known bytes new =
     ((IsUtf8 bytes → ⊥) × (new ≡ bytes))
-    ⊎ ((text : Option (List ℕ)) × SeesIn (parse_document bytes) text × (new ≡ unwrap_or text bytes))
+    ⊎ ((text : Option (List ℕ)) × SeesIn known (parse_document bytes) text × (new ≡ unwrap_or text bytes))

@@ -1,6 +1,7 @@
 -- The files that a scenario asks for, as they are taken, and what is told of one that is not (own).
-use Rattle.std.specs.Prelude.{ℕ, ◌≡◌, ◌⊎◌, List, ◌++◌, Option, None, Ok, Err, IfSome, Contains, codes, string_bytes}
+use Rattle.std.specs.Prelude.{ℕ, ◌≡◌, ◌⊎◌, List, ◌++◌, Option, None, Some, Ok, Err, IfSome, IsUtf8, Contains, codes, string_bytes}
 use Rattle.std.specs.Fmt.{decimal}
+use Rattle.std.specs.declared.io.ErrorKind.{ErrorKind}
 use Rattle.hex.specs.Hex.{encode_lower}
 use Rattle.elf.specs.declared.fault.Fault.{Fault}
 use Rattle.elf.specs.Entry.{entry_of}
@@ -25,13 +26,20 @@ abbrev pub function_in : Key → Option (List ℕ) → Option (List ℕ)
 function_in Object function = function
 function_in key function = None
 
--- the file that is asked for so, whatever bytes it has
-pub record IsBeside (a : Asked) (f : File) : Type 0 where
+-- the file that is asked for so, of these bytes
+pub record IsFile (a : Asked) (bytes : List ℕ) (f : File) : Type 0 where
   pub key : f.key ≡ a.key
   pub name : f.name ≡ a.name
   pub function : f.function ≡ function_in a.key a.function
-  pub bytes : List ℕ
   pub text : IsTextOf a.key a.function bytes f.text
+
+-- the bytes of the file of this name, where those are known
+abbrev pub AreBytes : (List ℕ → Option (List ℕ)) → List ℕ → List ℕ → Type 0
+AreBytes known name bytes = IfSome (known name) (λ own. bytes ≡ own)
+
+-- the file that is asked for so, of its own bytes
+abbrev pub IsBeside : (List ℕ → Option (List ℕ)) → Asked → File → Type 0
+IsBeside known a f = (bytes : List ℕ) × AreBytes known a.name bytes × IsFile a bytes f
 
 -- what is told of a file of this name, as it is shown: that it cannot be read, or is no text
 abbrev pub fault_lines : ℕ → Key → List ℕ → List ℕ → List ℕ
@@ -54,19 +62,32 @@ refused_told a fault name = refused_lines a.index a.key fault name
 abbrev pub IsNamed : Asked → (List ℕ → List ℕ) → List ℕ → Type 0
 IsNamed a lines text = IfSome (shown a.name) (λ name. text ≡ lines name)
 
--- no file is read, or one of assembly is no text, or an object has this fault
-abbrev pub IsFaultOf : Asked → List ℕ → Type 0
-IsFaultOf a text =
-    IsNamed a (fault_told a (codes "read")) text
-    ⊎ (((a.key ≡ Assembly) × IsNamed a (fault_told a (codes "text")) text)
-    ⊎ ((bytes : List ℕ) × (fault : Fault) × (a.key ≡ Object) × (entry_of bytes a.function ≡ Err fault) × IsNamed a (refused_told a fault) text))
+-- of bytes that are no text, though assembly is asked for, or an object of this fault
+abbrev pub IsFaultIn : Asked → List ℕ → List ℕ → Type 0
+IsFaultIn a bytes text =
+    ((a.key ≡ Assembly) × (IsUtf8 bytes → ⊥) × IsNamed a (fault_told a (codes "text")) text)
+    ⊎ ((fault : Fault) × (a.key ≡ Object) × (entry_of bytes a.function ≡ Err fault) × IsNamed a (refused_told a fault) text)
+
+-- of a file whose read failed so, or of one that has such bytes
+abbrev pub IsFaultOf : (List ℕ → Option (List ℕ)) → (List ℕ → ErrorKind → Type 0) → Asked → List ℕ → Option ErrorKind → Type 0
+IsFaultOf known fails a text (Some kind) = fails a.name kind × IsNamed a (fault_told a (codes "read")) text
+IsFaultOf known fails a text None = (bytes : List ℕ) × AreBytes known a.name bytes × IsFaultIn a bytes text
 
 -- it is not taken, and this is told of it; or want of memory
-abbrev pub IsUntakenOf : Asked → Untaken → Type 0
-IsUntakenOf a (Told text) = IsFaultOf a (string_bytes text)
-IsUntakenOf a Memory = Unit {0}
+abbrev pub IsUntakenOf : (List ℕ → Option (List ℕ)) → (List ℕ → ErrorKind → Type 0) → Asked → Untaken → Type 0
+IsUntakenOf known fails a (Told lines kind) = IsFaultOf known fails a (string_bytes lines) kind
+IsUntakenOf known fails a Memory = Unit {0}
+
+-- the same of a read that failed so, and of these bytes
+abbrev pub IsUnread : Asked → ErrorKind → Untaken → Type 0
+IsUnread a failed (Told lines kind) = (kind ≡ Some failed) × IsNamed a (fault_told a (codes "read")) (string_bytes lines)
+IsUnread a failed Memory = Unit {0}
+
+abbrev pub IsUntakenIn : Asked → List ℕ → Untaken → Type 0
+IsUntakenIn a bytes (Told lines kind) = (kind ≡ None) × IsFaultIn a bytes (string_bytes lines)
+IsUntakenIn a bytes Memory = Unit {0}
 
 -- the same of one of those that are asked for
-abbrev pub IsUntaken : List Asked → Untaken → Type 0
-IsUntaken asked (Told text) = (a : Asked) × Contains asked a × IsFaultOf a (string_bytes text)
-IsUntaken asked Memory = Unit {0}
+abbrev pub IsUntaken : (List ℕ → Option (List ℕ)) → (List ℕ → ErrorKind → Type 0) → List Asked → Untaken → Type 0
+IsUntaken known fails asked (Told lines kind) = (a : Asked) × Contains asked a × IsFaultOf known fails a (string_bytes lines) kind
+IsUntaken known fails asked Memory = Unit {0}

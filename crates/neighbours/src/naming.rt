@@ -1,10 +1,11 @@
 //! Files that a scenario names.
 ghost use Rattle.std.specs.Prelude.{◌≡◌, Ok, Err, IfErr, IfOk, IfSome, MatchResult, string_bytes};
+ghost use Rattle.std.specs.IoError.{error_kind};
 ghost use Rattle.elf.specs.Entry.{entry_of};
 ghost use Rattle.elf.specs.Symbol.{asked};
 ghost use Rattle.references.specs.declared.key.Key.TheVariants.{Assembly, Object};
 ghost use Rattle.streams.specs.Names.{shown};
-ghost use Rattle.neighbours.specs.Taken.{IsBeside, IsNamed, IsUntakenOf, fault_lines, fault_told, refused_lines, refused_told};
+ghost use Rattle.neighbours.specs.Taken.{IsBeside, IsFile, IsNamed, IsUnread, IsUntakenIn, IsUntakenOf, fault_lines, fault_told, refused_lines, refused_told};
 ghost use Rattle.neighbours.specs.declared.naming.Untaken.TheVariants.{Memory};
 
 use crate::folder::Folder;
@@ -17,8 +18,13 @@ use streams::FileName;
 /// Why a file that a scenario names is not taken.
 #[derive(Debug, Drop)]
 pub enum Untaken {
-    /// What is told of it: the fault, of an object also what that means, and by which key the file is named, each a line.
-    Told(String),
+    /// It is not read, or has a fault.
+    Told {
+        /// What is told of it: the fault, of an object also what that means, and by which key the file is named, each a line.
+        lines: String,
+        /// How its reading failed, where it is not read.
+        kind: Option<ErrorKind>,
+    },
     /// Want of memory.
     Memory,
 }
@@ -37,8 +43,8 @@ pub(crate) fn beside<D: Folder>(
     folder: &D,
     named: &Reference,
 ) -> Result<Beside, Untaken>
-    ensures file { IfOk result (IsBeside named.now) }
-    ensures untaken { IfErr result (IsUntakenOf named.now) }
+    ensures file { IfOk result (IsBeside (D.bytes folder.now) named.now) }
+    ensures untaken { IfErr result (IsUntakenOf (D.bytes folder.now) (D.fails folder.now) named.now) }
 {
     let bytes = match folder.read(alloc, named.name.as_str()) {
         Ok(bytes) => bytes,
@@ -54,27 +60,33 @@ pub(crate) fn beside<D: Folder>(
 /// A file of assembly, whose bytes are its text.
 fn assembly(alloc: Global, named: &Reference, bytes: Vec<u8>) -> Result<Beside, Untaken>
     requires { named.now.key ≡ Assembly }
-    ensures file { IfOk result (IsBeside named.now) }
-    ensures untaken { IfErr result (IsUntakenOf named.now) }
+    ensures file { IfOk result (IsFile named.now bytes.items) }
+    ensures untaken { IfErr result (IsUntakenIn named.now bytes.items) }
 {
     let name = named.name.clone()?;
     match String::from_utf8(bytes) {
         Ok(text) => Ok(Beside::assembly(name, text)),
-        Err(_) => Err(Untaken::Told(told(alloc, "text", named)?)),
+        Err(_) => Err(Untaken::Told {
+            lines: told(alloc, "text", named)?,
+            kind: None,
+        }),
     }
 }
 
 /// The function of an object that is named.
 fn object(alloc: Global, named: &Reference, bytes: &[u8]) -> Result<Beside, Untaken>
     requires { named.now.key ≡ Object }
-    ensures file { IfOk result (IsBeside named.now) }
-    ensures untaken { IfErr result (IsUntakenOf named.now) }
+    ensures file { IfOk result (IsFile named.now bytes.now) }
+    ensures untaken { IfErr result (IsUntakenIn named.now bytes.now) }
 {
     let name = named.name.clone()?;
     let function = named.function.as_deref();
     match code_in(bytes, function) {
         Ok(code) => Ok(Beside::object(alloc, name, function, code)?),
-        Err(fault) => Err(Untaken::Told(refused(alloc, fault, named)?)),
+        Err(fault) => Err(Untaken::Told {
+            lines: refused(alloc, fault, named)?,
+            kind: None,
+        }),
     }
 }
 
@@ -91,11 +103,14 @@ fn code_in<'a>(object: &'a [u8], function: Option<&str>) -> Result<&'a [u8], Fau
 
 /// Why a file is not taken whose reading failed so.
 fn unread(alloc: Global, error: &io::Error, named: &Reference) -> Result<Untaken, AllocError>
-    ensures { IfOk result (IsUntakenOf named.now) }
+    ensures { IfOk result (IsUnread named.now (error_kind error.now)) }
 {
     match error.kind() {
         ErrorKind::OutOfMemory => Ok(Untaken::Memory),
-        _ => Ok(Untaken::Told(told(alloc, "read", named)?)),
+        kind => Ok(Untaken::Told {
+            lines: told(alloc, "read", named)?,
+            kind: Some(kind),
+        }),
     }
 }
 

@@ -12,15 +12,23 @@ use command_line::Task;
 use references::{Beside, Reference, asked, resolved};
 use std::alloc::{AllocError, Global};
 
-/// Whether the task's first file is a scenario.
+/// Whether the task's first file is a scenario, or may be one.
 pub fn reads_scenario(task: &Task) -> bool
     ensures { result ≡ reads_scenario task.now }
 {
     match task {
-        Task::Play { .. } | Task::Muster { .. } | Task::Audit { .. } | Task::Explore { .. } => true,
+        Task::Play { .. }
+        | Task::Muster { .. }
+        | Task::Audit { .. }
+        | Task::Explore { .. }
+        | Task::Tree { .. }
+        | Task::Draw { .. }
+        | Task::Retrace { .. } => true,
         Task::Check { .. }
         | Task::Assemble { .. }
+        | Task::AssemblePartly { .. }
         | Task::Disassemble { .. }
+        | Task::DisassemblePartly { .. }
         | Task::Book(_)
         | Task::ExplainDecisions { .. }
         | Task::Form { .. } => false,
@@ -34,8 +42,8 @@ pub fn reads_scenario(task: &Task) -> bool
 ///
 /// A file that is named is not taken, or want of memory.
 pub fn with_files<D: Folder>(alloc: Global, bytes: Vec<u8>, folder: &D) -> Result<Vec<u8>, Untaken>
-    ensures seen { IfOk result (λ new. Sees bytes.items new.items) }
-    ensures untaken { IfErr result (IsUntaken (asked (parse_document bytes.items))) }
+    ensures seen { IfOk result (λ new. Sees (D.bytes folder.now) bytes.items new.items) }
+    ensures untaken { IfErr result (IsUntaken (D.bytes folder.now) (D.fails folder.now) (asked (parse_document bytes.items))) }
 {
     let Ok(text) = str::from_utf8(bytes.as_slice()) else {
         return Ok(bytes);
@@ -48,8 +56,8 @@ pub fn with_files<D: Folder>(alloc: Global, bytes: Vec<u8>, folder: &D) -> Resul
 
 /// The text in which the files stand that it names, if it names some.
 fn with_named<D: Folder>(alloc: Global, text: &str, folder: &D) -> Result<Option<String>, Untaken>
-    ensures seen { IfOk result (λ new. SeesIn (parse_document text.now) (option_map string_bytes new)) }
-    ensures untaken { IfErr result (IsUntaken (asked (parse_document text.now))) }
+    ensures seen { IfOk result (λ new. SeesIn (D.bytes folder.now) (parse_document text.now) (option_map string_bytes new)) }
+    ensures untaken { IfErr result (IsUntaken (D.bytes folder.now) (D.fails folder.now) (asked (parse_document text.now))) }
 {
     let named = asked(alloc, text)?;
     let files = read_all(alloc, named.as_slice(), folder)?;
@@ -62,8 +70,8 @@ fn read_all<D: Folder>(
     named: &[Reference],
     folder: &D,
 ) -> Result<Vec<Beside>, Untaken>
-    ensures files { IfOk result (λ files. AllZip IsBeside named.now files.items) }
-    ensures untaken { IfErr result (IsUntaken named.now) }
+    ensures files { IfOk result (λ files. AllZip (IsBeside (D.bytes folder.now)) named.now files.items) }
+    ensures untaken { IfErr result (IsUntaken (D.bytes folder.now) (D.fails folder.now) named.now) }
 {
     let mut files = Vec::with_capacity(alloc, named.len())?;
     for file in named {

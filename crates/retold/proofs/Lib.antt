@@ -2,3 +2,4 @@ pub mod Heard
 pub mod Named
 pub mod Rounds
 pub mod Tables
+pub mod Trees

@@ -2,6 +2,7 @@
 use Rattle.std.specs.Prelude.{ℕ, suc, ◌≡◌, List, filter, length, Option, None, Some, Ok}
 use Rattle.label.specs.Labels.{generals}
 use Rattle.book.specs.Decisions.{decisions_of}
+use Rattle.book.specs.Explained.{explained, explained_one}
 use Rattle.book.specs.Grammar.{table_told}
 use Rattle.book.specs.Table.{MessageTable}
 use Rattle.round.specs.Letters.{messages}
@@ -37,7 +38,12 @@ pub record IsRetold (c : Chronicle) (text : List ℕ) : Type 0 where
 abbrev pub traitors_of : Scenario → List ℕ
 traitors_of s = filter (is_traitor s) (generals s.generals)
 
--- the lines are those of `book` on a table's text, where these are named as traitors: of all lieutenants, or of one general
+-- what `book` says of a table where these are named as traitors: of all lieutenants, or of one general
+abbrev pub explained_of : MessageTable → List ℕ → Option ℕ → List ℕ
+explained_of t traitors None = explained t traitors
+explained_of t traitors (Some g) = explained_one t traitors g
+
+-- the lines are those of `book` on a table's text
 abbrev pub ExplainsAsked : List ℕ → List ℕ → Option ℕ → List ℕ → Type 0
 ExplainsAsked text traitors None lines = ExplainsTable text traitors lines
 ExplainsAsked text traitors (Some g) lines = ExplainsOne text traitors g lines

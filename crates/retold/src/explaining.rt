@@ -1,17 +1,16 @@
 //! How the decisions of a campaign come about.
-ghost use Rattle.std.specs.Prelude.{◌≡◌, ◌≢◌, IfOk, IfErr, Err, string_bytes};
-ghost use Rattle.book.specs.Grammar.{table_told};
-ghost use Rattle.book.specs.declared.fault.TableError.TheVariants.{Memory};
-ghost use Rattle.retold.specs.Retold.{Explains, ExplainsAsked, IsWhole, traitors_of};
+ghost use Rattle.std.specs.Prelude.{◌≡◌, IfOk, string_bytes};
+ghost use Rattle.retold.specs.Retold.{Explains, IsWhole, explained_of, traitors_of};
 
-use crate::retelling::table;
-use book::TableError;
+use crate::retelling::hear;
+use book::{explain, explain_one};
 use round::Scenario;
 use std::alloc::{AllocError, Global};
+use tables::TreeTable;
 use world::Chronicle;
 
 /// How the lieutenants of a campaign come to their decisions, or this general alone to his: what `book` says of its message
-/// table, where the scenario's traitors are named.
+/// table, where the scenario's traitors are named. The table is not written: it is told by the lieutenants' trees.
 ///
 /// # Errors
 ///
@@ -24,29 +23,32 @@ pub fn explained(
     requires { IsWhole chronicle.now }
     ensures { IfOk result (λ lines. Explains chronicle.now general (string_bytes lines)) }
 {
-    let text = table(alloc, chronicle)?;
-    let traitors = traitors(alloc, chronicle.scenario())?;
-    match asked(alloc, text.as_str(), traitors.as_slice(), general) {
-        Ok(lines) => Ok(lines),
-        Err(TableError::Memory) => Err(AllocError),
-        // The table is one that `book` reads.
-        Err(TableError::At(_, _)) => unreachable!(),
-    }
+    let scenario = chronicle.scenario();
+    scenario.recall();
+    let told = hear(alloc, scenario, chronicle.letters())?;
+    let traitors = traitors(alloc, scenario)?;
+    let table = TreeTable::of(
+        told.trees(),
+        scenario.generals(),
+        scenario.bound(),
+        scenario.commander(),
+        scenario.rule(),
+    );
+    asked(alloc, &table, traitors.as_slice(), general)
 }
 
-/// The lines of a table's text, of all lieutenants or of this general alone, where these are named as traitors.
+/// What `book` says of a table, of all lieutenants or of this general alone, where these are named as traitors.
 fn asked(
     alloc: Global,
-    text: &str,
+    table: &TreeTable<'_>,
     traitors: &[u8],
     general: Option<u8>,
-) -> Result<String, TableError>
-    ensures explained { IfOk result (λ lines. ExplainsAsked text.now traitors.now general (string_bytes lines)) }
-    ensures refused { IfErr result (λ e. e ≢ Memory → table_told text.now ≡ Err e) }
+) -> Result<String, AllocError>
+    ensures { IfOk result (λ lines. string_bytes lines ≡ explained_of table.now traitors.now general) }
 {
     match general {
-        None => tables::explained(alloc, text, traitors),
-        Some(one) => tables::explained_one(alloc, text, traitors, one),
+        None => explain(alloc, table, traitors),
+        Some(one) => explain_one(alloc, table, traitors, one),
     }
 }
 

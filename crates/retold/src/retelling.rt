@@ -32,7 +32,11 @@ pub fn table(alloc: Global, chronicle: &Chronicle) -> Result<String, AllocError>
 }
 
 /// What the letters of all rounds have told the lieutenants.
-fn hear(alloc: Global, scenario: &Scenario, letters: &[Round]) -> Result<Told, AllocError>
+pub(crate) fn hear(
+    alloc: Global,
+    scenario: &Scenario,
+    letters: &[Round],
+) -> Result<Told, AllocError>
     requires rounds { length letters.now ≡ suc scenario.now.bound }
     requires letters { AreRoundsOf scenario.now letters.now }
     ensures { IfOk result (WasTold scenario.now letters.now) }

@@ -3,6 +3,7 @@ use crate::comparing::{Outcome, compare};
 use crate::item::{Item, Key};
 use crate::likeness::is_like;
 use crate::lines::{accesses, last, number_like};
+use crate::respelling::again;
 use crate::row::Call;
 use crate::shelf::Shelf;
 use crate::shelving::{copied, number};
@@ -32,7 +33,7 @@ pub fn difference<R: Files + AllocGlobal>(
 }
 
 /// The keys that ask of standard output.
-const OF_OUTPUT: [Key; 8] = [
+const OF_OUTPUT: [Key; 9] = [
     Key::Out,
     Key::Like,
     Key::Last,
@@ -40,6 +41,7 @@ const OF_OUTPUT: [Key; 8] = [
     Key::Lacks,
     Key::Times,
     Key::Accesses,
+    Key::Again,
     Key::Keep,
 ];
 
@@ -94,6 +96,11 @@ fn asked<R: Files + AllocGlobal>(
         Key::Accesses => {
             let found = accesses(alloc, told.out.as_slice(), number(item.value.as_str())?)?;
             whole(alloc, "the accesses", &found, item.block.as_slice())
+        }
+        Key::Again => {
+            let found = again(alloc, told.out.as_slice())?;
+            let expected = copied(rt, shelf, item.value.as_str())?;
+            whole(alloc, "the text made again", &found, expected.as_slice())
         }
         _ => Ok(None),
     }

@@ -48,12 +48,14 @@ pub enum Key {
     Times,
     /// The accesses of this round, in their order.
     Accesses,
+    /// The chronicle of which standard output has the JSON Lines: that of another file.
+    Again,
     /// Standard output becomes a file of this name.
     Keep,
 }
 
 /// The keys and their words.
-const KEYS: [(&str, Key); 23] = [
+const KEYS: [(&str, Key); 24] = [
     ("row", Key::Row),
     ("file", Key::File),
     ("hex", Key::Hex),
@@ -76,6 +78,7 @@ const KEYS: [(&str, Key); 23] = [
     ("lacks", Key::Lacks),
     ("times", Key::Times),
     ("accesses", Key::Accesses),
+    ("again", Key::Again),
     ("keep", Key::Keep),
 ];
 

@@ -1,5 +1,5 @@
 //! `rows`, which asks the laboratory what the rows of the tables in data/ ask, by the same calls that the program
-//! makes, and says which rows are answered otherwise. `rows NAME..` takes the tables of these names; docs/ROWS.md says
+//! makes, and says which rows are answered otherwise. `rows NAME..` takes the tables of these names; docs/TESTING.md says
 //! how one is written.
 #![tactic(auto)]
 
@@ -10,6 +10,7 @@ mod likeness;
 mod lines;
 mod reading;
 mod report;
+mod respelling;
 mod row;
 mod shelf;
 mod shelving;

@@ -1,10 +1,13 @@
 //! What a call answers.
 use crate::shelf::{Content, Input, Output, Shelf};
 use anyhow::{Result, bail};
-use command_line::{Task, TaskError, task};
-use lab::{FileName, serve};
+use command_line::{Request, Task, TaskError, each, request};
+use desk::{serve, turned_down};
+use lab::{FileName, is_explained, reason};
 use neighbours::{Untaken, reads_scenario, with_files};
 use std::alloc::{AllocError, Global};
+use std::fmt::Display;
+use std::io::ErrorKind;
 use std::sync::Wait;
 use std::thread::Threads;
 
@@ -17,6 +20,25 @@ pub struct Told {
 }
 
 impl Told {
+    /// Nothing.
+    fn nothing(alloc: Global) -> Told {
+        Told {
+            out: Vec::new(alloc),
+            err: Vec::new(alloc),
+            status: 0,
+        }
+    }
+
+    /// Adds what is told next, and the worse status.
+    fn add(&mut self, next: Told) -> Result<(), AllocError> {
+        self.out.extend_from_slice(next.out.as_slice())?;
+        self.err.extend_from_slice(next.err.as_slice())?;
+        if self.status < next.status {
+            self.status = next.status;
+        }
+        Ok(())
+    }
+
     /// A fault: this is all that is told.
     fn fault(alloc: Global, status: u8, text: String) -> Told {
         Told {
@@ -27,8 +49,8 @@ impl Told {
     }
 }
 
-/// What the program answers to these words with these files, with this standard output. A file that it writes is put with
-/// them.
+/// What the program answers to these words with these files, with this standard output: of several requests one behind the
+/// other, and the worst status. A file that it writes is put with them.
 pub fn answered<R: Threads + Wait + Sync + AllocGlobal>(
     rt: &R,
     words: &[&str],
@@ -36,12 +58,34 @@ pub fn answered<R: Threads + Wait + Sync + AllocGlobal>(
     output: Output,
 ) -> Result<Told> {
     let alloc = rt.alloc();
-    let task = match task(alloc, words) {
-        Ok(task) => task,
-        Err(error) => return refused(alloc, error),
-    };
-    let told = opened(rt, &task, shelf, output)?;
-    written(alloc, &task, shelf, told)
+    let requests = each(alloc, words)?;
+    if let [one] = requests.as_slice() {
+        return match request(alloc, one.as_slice()) {
+            Ok(request) => answered_one(rt, &request, shelf, output),
+            Err(error) => refused(alloc, error),
+        };
+    }
+    let mut all = Told::nothing(alloc);
+    for words in &requests {
+        let request = match request(alloc, words.as_slice()) {
+            Ok(request) => request,
+            Err(error) => return refused(alloc, error),
+        };
+        let kept = Output::Kept(Vec::new(alloc));
+        all.add(answered_one(rt, &request, shelf, kept)?)?;
+    }
+    Ok(all)
+}
+
+/// What the program answers to one request.
+fn answered_one<R: Threads + Wait + Sync + AllocGlobal>(
+    rt: &R,
+    request: &Request,
+    shelf: &mut Shelf,
+    output: Output,
+) -> Result<Told> {
+    let told = opened(rt, request, shelf, output)?;
+    written(rt.alloc(), &request.task, shelf, told)
 }
 
 /// What is told of words that name no task.
@@ -66,31 +110,32 @@ fn refused(alloc: Global, error: TaskError) -> Result<Told> {
 /// Opens the task's files, and does it.
 fn opened<R: Threads + Wait + Sync + AllocGlobal>(
     rt: &R,
-    task: &Task,
+    request: &Request,
     shelf: &Shelf,
     output: Output,
 ) -> Result<Told, AllocError> {
-    let first = match task.file() {
+    let alloc = rt.alloc();
+    let first = match request.task.file() {
         None => Input::Bytes(&[]),
         Some(name) => match shelf.find(name) {
             Some(content) => content.input(),
-            None => return unopened(rt.alloc(), name),
+            None => return Ok(unopened(alloc, request, name, output)),
         },
     };
-    let second = match task.second() {
+    let second = match request.task.second() {
         None => None,
         Some(name) => match shelf.find(name) {
             Some(content) => Some(content.input()),
-            None => return unopened(rt.alloc(), name),
+            None => return Ok(unopened(alloc, request, name, output)),
         },
     };
-    completed(rt, task, shelf, first, second, output)
+    completed(rt, request, shelf, first, second, output)
 }
 
 /// Does the task on these files, of which a scenario gets those that it names.
 fn completed<R: Threads + Wait + Sync + AllocGlobal>(
     rt: &R,
-    task: &Task,
+    request: &Request,
     shelf: &Shelf,
     first: Input,
     second: Option<Input>,
@@ -98,33 +143,77 @@ fn completed<R: Threads + Wait + Sync + AllocGlobal>(
 ) -> Result<Told, AllocError> {
     let alloc = rt.alloc();
     let bytes = match first {
-        Input::Bytes(bytes) if reads_scenario(task) => bytes.to_vec(alloc)?,
-        _ => return Ok(served(rt, task, first, second, output)),
+        Input::Bytes(bytes) if reads_scenario(&request.task) => bytes.to_vec(alloc)?,
+        _ => return Ok(served(rt, request, first, second, output)),
     };
     match with_files(alloc, bytes, shelf) {
-        Ok(text) => Ok(served(rt, task, Input::Bytes(text.as_slice()), second, output)),
-        Err(Untaken::Told(text)) => Ok(Told::fault(alloc, 1, format!(in alloc; "{text}\n")?)),
+        Ok(text) => Ok(served(rt, request, Input::Bytes(text.as_slice()), second, output)),
+        Err(Untaken::Told { lines, kind }) => {
+            Ok(untaken(alloc, request, lines.as_str(), kind, output))
+        }
         Err(Untaken::Memory) => Err(AllocError),
     }
 }
 
-/// What is told of a file that does not open.
-fn unopened(alloc: Global, name: &str) -> Result<Told, AllocError> {
+/// What is told of a file that is not there.
+fn unopened(alloc: Global, request: &Request, name: &str, output: Output) -> Told {
     let name = FileName(name);
-    Ok(Told::fault(alloc, 1, format!(in alloc; "fault read {name}\n")?))
+    let kind = Some(ErrorKind::NotFound);
+    untaken(
+        alloc,
+        request,
+        format_args!("fault read {name}"),
+        kind,
+        output,
+    )
+}
+
+/// What is told of a file that is not taken.
+fn untaken<D: Display + Drop>(
+    alloc: Global,
+    request: &Request,
+    lines: D,
+    kind: Option<ErrorKind>,
+    output: Output,
+) -> Told {
+    match kind {
+        Some(kind) if is_explained(&request.task) => {
+            let why = reason(kind);
+            turn_down(
+                alloc,
+                request,
+                format_args!("{lines}\nerror: {why}"),
+                output,
+            )
+        }
+        _ => turn_down(alloc, request, lines, output),
+    }
+}
+
+/// What is told where the task is not done, by this line.
+fn turn_down<D: Display + Drop>(
+    alloc: Global,
+    request: &Request,
+    line: D,
+    mut output: Output,
+) -> Told {
+    let mut err = Vec::new(alloc);
+    let status = turned_down(alloc, request, line, &mut output, &mut err);
+    let out = output.into_bytes(alloc);
+    Told { out, err, status }
 }
 
 /// Does the task.
 fn served<R: Threads + Wait + Sync + AllocGlobal>(
     rt: &R,
-    task: &Task,
+    request: &Request,
     first: Input,
     second: Option<Input>,
     mut output: Output,
 ) -> Told {
     let alloc = rt.alloc();
     let mut err = Vec::new(alloc);
-    let status = serve(rt, alloc, task, first, second, &mut output, &mut err);
+    let status = serve(rt, alloc, request, first, second, &mut output, &mut err);
     let out = output.into_bytes(alloc);
     Told { out, err, status }
 }

@@ -1,6 +1,6 @@
 -- The loop over the traitors' tables.
-use Rattle.std.proofs.Common.{◌≡◌, ℕ, ◌+◌, ◌<◌, ◌≤◌, List, length, drop, get_or, Option, None, Some, Result, Ok, Err, refl, sym, inl, inr}
-use Rattle.std.specs.Prelude.{slice_set, codes}
+use Rattle.std.proofs.Common.{◌≡◌, ℕ, ◌+◌, ◌<◌, ◌≤◌, Bool, true, false, List, length, drop, get_or, Option, None, Some, Result, Ok, Err, refl, sym, inl, inr}
+use Rattle.std.specs.Prelude.{MatchBool, slice_set, codes}
 use Rattle.insn.specs.declared.insn.Insn.{Insn}
 use Rattle.toml.proofs.Views.{items_view-drop}
 use Rattle.toml.specs.Data.{Items, Members, no_items, item, get_member}
@@ -82,6 +82,12 @@ module _ {X : Type 0} (made : Head → Seats → X) where
   pub reads_memory : (head_of : Members → Result Head Flaw) (parsed : Option Members) → Answered made head_of parsed (Err errors.Memory)
   reads_memory head_of None = tt
   reads_memory head_of (Some ms) = headed_fails (head_of ms) ms errors.Memory tt
+
+  -- a text that was not parsed: memory was refused, or there is none
+  pub reads_unparsed : (head_of : Members → Result Head Flaw) (parsed : Option Members) (is_memory : Bool) (e : ScenarioError) → MatchBool is_memory (e ≡ errors.Memory) (e ≡ errors.Toml)
+      → (is_memory ≡ false → parsed ≡ None) → Answered made head_of parsed (Err e)
+  reads_unparsed head_of parsed true e is none = rw is (reads_memory head_of parsed)
+  reads_unparsed head_of parsed false e is none = rw (none refl, is) tt
 
 -- behind a good head and its tables, the campaign of the scenario that they seat, or its failure
 pub campaign_told : (h : Head) (read : Result Items Flaw) (ds : Items) (s : Scenario) (x : Campaign) → read ≡ Ok ds → x ≡ campaign_by h.messages s

@@ -5,3 +5,4 @@ pub mod Tables
 pub mod Told
 pub mod Seen
 pub mod Telling
+pub mod Sources

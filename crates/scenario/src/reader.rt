@@ -1,11 +1,11 @@
 //! Scenarios, read from their text.
-ghost use Rattle.std.specs.Prelude.{◌≡◌, ◌≢◌, ◌-◌, ◌≤◌, min, length, replicate, option_map, None, Some, IfOk, OnOk, MatchResult, IfErr};
+ghost use Rattle.std.specs.Prelude.{◌≡◌, ◌≢◌, ◌-◌, ◌≤◌, min, length, replicate, option_map, None, Some, IfOk, OnOk, MatchBool, MatchResult, IfErr};
 ghost use Rattle.toml.specs.Parse.{parse_document};
 ghost use Rattle.toml.specs.View.{view, table_view, items_view};
 ghost use Rattle.scenario.specs.Flaws.{Gives};
 ghost use Rattle.scenario.specs.Checks.{head, rule_by_name, rule, messages_by_name, messages, fitting, tables};
 ghost use Rattle.scenario.specs.Told.{Answers, scenario_of, campaign_by, unseated, Reads, ReadsAny};
-ghost use Rattle.scenario.specs.declared.fault.ScenarioError.TheVariants.{Memory};
+ghost use Rattle.scenario.specs.declared.fault.ScenarioError.TheVariants.{Memory, Toml};
 
 use crate::fault::{Fault, ScenarioError};
 use crate::head::Head;
@@ -217,6 +217,17 @@ fn campaign(alloc: Global, table: &Table) -> Result<Campaign, ScenarioError>
     Ok(campaign_by(messages, scenario))
 }
 
+/// Why a text that was not parsed tells no scenario: it is no TOML, or memory was refused.
+fn unparsed(is_memory: bool) -> ScenarioError
+    ensures { MatchBool is_memory (result ≡ Memory) (result ≡ Toml) }
+{
+    if is_memory {
+        ScenarioError::Memory
+    } else {
+        ScenarioError::Toml
+    }
+}
+
 /// The scenario that the text of an oral campaign tells.
 ///
 /// # Errors
@@ -229,12 +240,7 @@ pub fn read(alloc: Global, text: &str) -> Result<Scenario, ScenarioError>
 {
     match toml::table_from_str(alloc, text) {
         Ok(table) => scenario(alloc, &table),
-        Err(error) => {
-            if error.is_memory() {
-                return Err(ScenarioError::Memory);
-            }
-            Err(ScenarioError::Toml)
-        }
+        Err(error) => Err(unparsed(error.is_memory())),
     }
 }
 
@@ -248,11 +254,6 @@ pub fn read_any(alloc: Global, text: &str) -> Result<Campaign, ScenarioError>
 {
     match toml::table_from_str(alloc, text) {
         Ok(table) => campaign(alloc, &table),
-        Err(error) => {
-            if error.is_memory() {
-                return Err(ScenarioError::Memory);
-            }
-            Err(ScenarioError::Toml)
-        }
+        Err(error) => Err(unparsed(error.is_memory())),
     }
 }

@@ -7,3 +7,4 @@ pub mod Loyals
 pub mod Naming
 pub mod Reread
 pub mod Telling
+pub mod TreeTables

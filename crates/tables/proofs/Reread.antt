@@ -6,6 +6,7 @@ use Rattle.std.proofs.lemmas.Bool.{cases_Bool, cond-true, cond-false, and_parts,
 use Rattle.std.proofs.lemmas.List.Folds.{list_any-append}
 use Rattle.std.proofs.lemmas.Slice.Eq.{bytes_eq-Decides}
 use Rattle.combine.specs.Chosen.{combined_by}
+use Rattle.combine.specs.declared.chosen.Rule.{Rule}
 use Rattle.label.specs.Labels.{on, is_distinct}
 use Rattle.label.specs.Oral.{Messages, IsLabel, AllBelow, BeginsWith, order_of, om}
 use Rattle.label.specs.Space.{begins_with}
@@ -20,24 +21,11 @@ use Rattle.book.specs.Explained.{dotted}
 use Rattle.book.specs.Grammar.{is_place, is_within, message_of, checked, with_message, lines_told, table_told}
 use Rattle.book.proofs.FormLemmas.{AreFew, begun_some, few_all, lines_read, message_read, tell}
 use Rattle.book.proofs.Places.{Place, places, is_in, AllDiffer, fits, is_place_of, are_places, places_differ, all_found}
-use Rattle.tables.specs.Written.{first_line, line_of, mark_of, telling}
-use Rattle.tables.specs.Laws.{TablesAreRead}
+use Rattle.tables.specs.Collected.{collected, message, messages_at, told_more}
+use Rattle.tables.specs.Written.{first_line, line_of, mark_of, table_text, telling}
+use Rattle.tables.specs.Laws.{AreOrders, TablesAreRead}
 use Rattle.tables.proofs.Telling.{tell_of, tell_lacks, head, head_read, head_lacks}
 use Rattle.tables.proofs.Flattened.{placed, written_is}
-
--- the message of a place
-abbrev pub message : Place → ℕ → Message
-message z v = record { label = z.0; receiver = z.1; order = v }
-
--- one message more, where an order was told
-abbrev told_more : Place → Option ℕ → List Message → List Message
-told_more z None ms = ms
-told_more z (Some v) ms = message z v ∷ ms
-
--- what is told at these places
-abbrev messages_at : Messages → List Place → List Message
-messages_at M [] = []
-messages_at M (z ∷ zs) = told_more z (M z.0 z.1) (messages_at M zs)
 
 added : (P : Message → Type 0) (z : Place) (o : Option ℕ) (ms : List Message) → ((v : ℕ) → o ≡ Some v → P (message z v)) → AllByRecursion P ms → AllByRecursion P (told_more z o ms)
 added P z None ms here a = a
@@ -176,7 +164,7 @@ found_more M w p z zs (Some v) ms e rest = elim (cases_Bool (z.1 == p && bytes_e
       ∙ (rest ∙ ap (λ b. cond b (M w p) None) (sym (rw apart refl)))
 ]
 
-found : (M : Messages) (w : List ℕ) (p : ℕ) (zs : List Place) → told (messages_at M zs) w p ≡ cond (is_in w p zs) (M w p) None
+pub found : (M : Messages) (w : List ℕ) (p : ℕ) (zs : List Place) → told (messages_at M zs) w p ≡ cond (is_in w p zs) (M w p) None
 unfolding told
 found M w p [] = refl
 found M w p (z ∷ zs) = found_more M w p z zs (M z.0 z.1) (messages_at M zs) refl (found M w p zs)
@@ -223,17 +211,16 @@ within n m c w =
     (and_from (nat_le n 13 && nat_le m 4) (nat_le (m + 2) n) (and_from (nat_le n 13) (nat_le m 4) (le-leb n 13 w.few) (le-leb m 4 w.rounds)) (le-leb (m + 2) n w.relays))
     (lt-ltb c n w.present)
 
--- the law, as specs/Laws states it
-pub proved_tables_are_read : TablesAreRead
-unfolding table_told decision_of
-proved_tables_are_read M orders n m c rule inside =
+-- the table is read again
+pub read_again : (M : Messages) → AreOrders M → (n m c : ℕ) (rule : Rule) → is_within n m c ≡ true → table_told (table_text M n m c rule) ≡ Ok (collected M n m c rule)
+unfolding table_told
+read_again M orders n m c rule inside =
     let limit = limits n m c inside in
     let few : n ≤ 13 = limit.few in
     let rounds : m ≤ 4 = limit.rounds in
     let present : c < n = limit.present in
     let empty : MessageTable = record { generals = n; bound = m; commander = c; rule = rule; messages = [] } in
     let good : AllByRecursion (λ z. is_place_of n m c z.0 z.1 ≡ true) (places n m c) = are_places n m c present in
-    let xs : List Message = messages_at M (places n m c) in
     let there : AllByRecursion (λ x. is_place empty x.label x.receiver ≡ true) (messages_at M (places n m c)) =
     all_messages M (λ x. is_place empty x.label x.receiver ≡ true) (places n m c) (weaker (λ z. is_place_of n m c z.0 z.1 ≡ true) (λ z. (v : ℕ) → M z.0 z.1 ≡ Some v → is_place_of n m c z.0 z.1 ≡ true) (places n m c) (λ z e v i. e) good)
     in
@@ -246,17 +233,24 @@ proved_tables_are_read M orders n m c rule inside =
     let text = written_is (telling M) n m c rule ∙ ap (λ ys. first_line n m c rule ++ ys) (lines_are M (places n m c)) in
     let lines = ap lines_of text ∙ lines_read (head n m c rule ∷ map tell_of (messages_at M (places n m c))) (head_lacks n m c rule ln lm lc, lines_lack (messages_at M (places n m c)) smalls) in
     let all = lines_are_told (messages_at M (places n m c)) empty 2 there smalls (are_apart M (places n m c) (places_differ n m c)) (none_before (messages_at M (places n m c))) in
-    let tells : (w : List ℕ) (p : ℕ) → is_place_of n m c w p ≡ true → told (messages_at M (places n m c)) w p ≡ M w p =
-    λ w p e. found M w p (places n m c) ∙ cond-true (is_in w p (places n m c)) (M w p) None (all_found n m c w p e)
-    in (
-      with_all empty (messages_at M (places n m c)),
-      rw (lines, head_read n m c rule ln lm lc, inside) all,
-      record {
-        generals = refl;
-        bound = refl;
-        commander = refl;
-        rule = refl;
-        told = tells;
-        decides = λ p lp ne. decides_same (combined_by rule) n m c p (told (messages_at M (places n m c))) M present lp ne tells;
-      },
-    )
+    rw (lines, head_read n m c rule ln lm lc, inside) all
+
+-- what it tells at the places of the campaign
+pub collected_tells : (M : Messages) (n m c : ℕ) (w : List ℕ) (p : ℕ) → is_place_of n m c w p ≡ true → told (messages_at M (places n m c)) w p ≡ M w p
+collected_tells M n m c w p e = found M w p (places n m c) ∙ cond-true (is_in w p (places n m c)) (M w p) None (all_found n m c w p e)
+
+-- the law, as specs/Laws states it
+pub proved_tables_are_read : TablesAreRead
+unfolding decision_of
+proved_tables_are_read M orders n m c rule inside = (
+  collected M n m c rule,
+  read_again M orders n m c rule inside,
+  record {
+    generals = refl;
+    bound = refl;
+    commander = refl;
+    rule = refl;
+    told = collected_tells M n m c;
+    decides = λ p lp ne. decides_same (combined_by rule) n m c p (told (messages_at M (places n m c))) M (limits n m c inside).present lp ne (collected_tells M n m c);
+  },
+)

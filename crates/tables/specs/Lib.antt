@@ -1,4 +1,5 @@
 pub mod Answers
+pub mod Collected
 pub mod Hearing
 pub mod Laws
 pub mod Lines

@@ -8,6 +8,7 @@ mod forming;
 mod laws;
 mod loyal;
 mod mark;
+mod tree_table;
 mod trees;
 mod writing;
 
@@ -15,4 +16,5 @@ pub use deciding::{decided, explained, explained_one};
 pub use filling::filled;
 pub use forming::formed;
 pub use laws::{loyal_tables_decide, tables_are_read};
+pub use tree_table::TreeTable;
 pub use trees::table_of;

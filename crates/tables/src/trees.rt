@@ -85,7 +85,7 @@ fn value(tree: &Tree, label: &Label) -> Option<u32>
 }
 
 /// Does nothing. What trees tell are orders of 32 bits.
-fn recall_orders(trees: &[Tree])
+pub(crate) fn recall_orders(trees: &[Tree])
     ensures { AreOrders (heard trees.now) }
 {
     for tree in trees {

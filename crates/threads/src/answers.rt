@@ -56,6 +56,16 @@ pub(crate) fn accounted(is_so: bool) -> Result<(), MusterError>
     }
 }
 
+/// What is there; where it is not, something is not as it has to be.
+pub(crate) fn found<T: Drop>(found: Option<T>) -> Result<T, MusterError>
+    ensures { MatchOption found (result ≡ Err Unaccounted) (λ own. result ≡ Ok own) }
+{
+    match found {
+        Some(own) => Ok(own),
+        None => Err(MusterError::Unaccounted),
+    }
+}
+
 /// Keeps the handle of a thread that was started: what went wrong, where one was not or there is no memory for the handle.
 pub(crate) fn kept<H: Drop, E: Drop>(
     handles: &mut Vec<H>,

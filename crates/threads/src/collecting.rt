@@ -9,6 +9,7 @@ use crate::camp::Camp;
 use crate::conducting::conduct;
 use crate::error::MusterError;
 use crate::gate::Gate;
+use crate::inbox::Closed;
 use arrayvec::ArrayVec;
 use post::{Collector, Poster};
 use round::{Round, Scenario, Told};
@@ -89,7 +90,7 @@ fn through_residents<R: Threads + Wait + Sync, G: Gate + Sync, J: Room + Send + 
                 let resident = camp.resident(posters.len() as u8);
                 let started = thread::Builder::new().stack_size(stack).spawn_scoped(
                     scope,
-                    move || -> Result<(), MusterError>
+                    move || -> Result<Closed, MusterError>
                         requires post { poster.table ≡ camp.now.post.table }
                         requires general { poster.general ≡ resident.general }
                     { resident.stay(rt, alloc, &camp.post, poster, me) },
@@ -116,7 +117,7 @@ fn finish<R: Threads + Wait, G, J: Room>(
     scenario: &Scenario,
     camp: &Camp<G, J>,
     collector: Collector,
-    handles: Vec<JoinHandle<Result<(), MusterError>>>,
+    handles: Vec<JoinHandle<Result<Closed, MusterError>>>,
     refused: Option<MusterError>,
 ) -> Result<(Vec<Round>, Told), MusterError>
     requires collector { collector.table ≡ camp.now.post.table }
@@ -157,7 +158,7 @@ fn conducted<R: Wait, G, J: Room>(
 /// Waits for the threads of the generals, who were started from the highest on: by what each has failed, ascending.
 fn failures<R: Threads>(
     rt: &R,
-    mut handles: Vec<JoinHandle<Result<(), MusterError>>>,
+    mut handles: Vec<JoinHandle<Result<Closed, MusterError>>>,
 ) -> ArrayVec<Option<MusterError>, 13>
     requires { length handles.items ≤ 13 }
     ensures { length result.items ≡ length handles.items }

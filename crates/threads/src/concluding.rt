@@ -9,9 +9,10 @@ ghost use Rattle.world.specs.Lists.{IsComplete, replayed, names_in};
 ghost use Rattle.world.specs.Promises.{AgreeUnderBound, IsVerdictOn, IsWellUnderBound};
 ghost use Rattle.world.specs.Replay.{replay_of};
 ghost use Rattle.world.specs.Safety.{IsShort};
-ghost use Rattle.threads.specs.declared.error.MusterError.TheVariants.{Unaccounted, Spawn, Post};
+ghost use Rattle.threads.specs.declared.error.MusterError.TheVariants.{Memory, Unaccounted, Spawn, Post};
 
 use crate::account::are_accounted;
+use crate::answers::accounted;
 use crate::error::MusterError;
 use arrayvec::ArrayVec;
 use board::{Access, Board};
@@ -44,10 +45,11 @@ pub(crate) fn judge<R: Threads + Sync>(
     ensures accounted { OnOk result (AreAccounted scenario.now [] board.now.ledger rows.now) }
     ensures decisions { IfOk result (λ orders. orders.items ≡ decisions scenario.now (messages rows.now)) }
     ensures unaccounted { IfErr result (λ e. e ≡ Unaccounted → ¬ ((board.now.opening ≡ scenario.now.board) × AreAccounted scenario.now [] board.now.ledger rows.now)) }
+    ensures memory { IfErr result (λ e. e ≡ Memory → board.now.opening ≡ scenario.now.board) }
     ensures started { IfErr result (λ e. e ≢ Spawn) }
     ensures posted { IfErr result (λ e. e ≢ Post) }
 {
-    let (accounted, decided) = thread::join(
+    let (compared, decided) = thread::join(
         rt,
         || -> Result<(), MusterError>
             requires rounds { length rows.now ≡ suc scenario.now.bound }
@@ -56,6 +58,8 @@ pub(crate) fn judge<R: Threads + Sync>(
             ensures accounted { OnOk result (AreAccounted scenario.entry.now [] board.entry.now.ledger rows.entry.now) }
             ensures unaccounted { IfErr result (λ e. e ≡ Unaccounted
                 → ¬ ((board.entry.now.opening ≡ scenario.entry.now.board) × AreAccounted scenario.entry.now [] board.entry.now.ledger rows.entry.now)) }
+            ensures opening { OnOk result (board.entry.now.opening ≡ scenario.entry.now.board) }
+            ensures memory { IfErr result (λ e. e ≡ Memory → board.entry.now.opening ≡ scenario.entry.now.board) }
             ensures started { IfErr result (λ e. e ≢ Spawn) }
             ensures posted { IfErr result (λ e. e ≢ Post) }
         { account(alloc, scenario, board, rows, told) },
@@ -65,7 +69,7 @@ pub(crate) fn judge<R: Threads + Sync>(
                 → orders.items ≡ decisions scenario.entry.now (messages before)) }
         { decide(rt, alloc, scenario, told) },
     );
-    accounted?;
+    compared?;
     Ok(decided?)
 }
 
@@ -85,18 +89,16 @@ fn account(
     requires rounds { length rows.now ≡ suc scenario.now.bound }
     requires told { WasTold scenario.now rows.now told.now }
     ensures legal { OnOk result (IsLegal scenario.now.board board.now.ledger) }
+    ensures opening { OnOk result (board.now.opening ≡ scenario.now.board) }
     ensures accounted { OnOk result (AreAccounted scenario.now [] board.now.ledger rows.now) }
     ensures unaccounted { IfErr result (λ e. e ≡ Unaccounted → ¬ ((board.now.opening ≡ scenario.now.board) × AreAccounted scenario.now [] board.now.ledger rows.now)) }
+    ensures memory { IfErr result (λ e. e ≡ Memory → board.now.opening ≡ scenario.now.board) }
     ensures started { IfErr result (λ e. e ≢ Spawn) }
     ensures posted { IfErr result (λ e. e ≢ Post) }
 {
-    if board.opening().as_slice() != scenario.board().as_slice() {
-        return Err(MusterError::Unaccounted);
-    }
-    if !are_accounted(alloc, told, scenario, rows, 0, board.ledger())? {
-        return Err(MusterError::Unaccounted);
-    }
-    Ok(())
+    accounted(board.opening().as_slice() == scenario.board().as_slice())?;
+    let are_accounted = are_accounted(alloc, told, scenario, rows, 0, board.ledger())?;
+    accounted(are_accounted)
 }
 
 /// What the lieutenants decide of what they were told, ascending by number.

@@ -5,6 +5,7 @@ ghost use Rattle.world.specs.Accounted.{rounds_of, IsAccounted};
 ghost use Rattle.threads.specs.declared.error.MusterError.TheVariants.{Unaccounted, Spawn, Post};
 
 use crate::account::are_accounted;
+use crate::answers::{accounted, found};
 use crate::error::MusterError;
 use crate::taking::arrange;
 use board::Access;
@@ -32,15 +33,10 @@ pub fn gather(
 {
     let generals = u32::from(scenario.generals());
     let rounds = u32::from(scenario.bound()) + 1;
-    let Some(rows) = arrange(alloc, letters, generals, rounds)? else {
-        return Err(MusterError::Unaccounted);
-    };
-    let Some(told) = deliver_all(alloc, scenario, rows.as_slice())? else {
-        return Err(MusterError::Unaccounted);
-    };
-    if !are_accounted(alloc, &told, scenario, rows.as_slice(), 0, ledger)? {
-        return Err(MusterError::Unaccounted);
-    }
+    let rows = found(arrange(alloc, letters, generals, rounds)?)?;
+    let told = found(deliver_all(alloc, scenario, rows.as_slice())?)?;
+    let are_accounted = are_accounted(alloc, &told, scenario, rows.as_slice(), 0, ledger)?;
+    accounted(are_accounted)?;
     Ok(rows)
 }
 

@@ -1,5 +1,5 @@
 //! Where a general waits for his next task.
-ghost use Rattle.std.specs.Prelude.{◌≡◌};
+ghost use Rattle.std.specs.Prelude.{◌≡◌, IfErr};
 ghost use Rattle.threads.specs.Inboxes.{task_in, left_in};
 
 use crate::task::Task;
@@ -15,6 +15,13 @@ enum Phase {
     Given(Task),
     /// No task any more.
     Closed,
+}
+
+/// That an inbox is closed: only the inbox tells so.
+#[derive(Clone, Copy, Debug)]
+pub(crate) struct Closed {
+    /// Whose it is.
+    general: u32,
 }
 
 /// An inbox of one general, in which he is given his tasks, one at a time.
@@ -52,12 +59,23 @@ impl Inbox {
         self.changed.notify_one();
     }
 
-    /// Waits for the next task, and takes it; none where the inbox is closed.
-    pub(crate) fn next<R: Wait>(&self, rt: &R) -> Option<Task> {
+    /// Waits for the next task, and takes it.
+    ///
+    /// # Errors
+    ///
+    /// `Closed` where the inbox is closed.
+    pub(crate) fn next<R: Wait>(&self, rt: &R) -> Result<Task, Closed>
+        ensures { IfErr result (λ closed. closed.general ≡ self.now.general) }
+    {
         let mut phase = self.changed.wait_while(rt, self.phase.lock(rt), |phase| {
             matches!(phase, Phase::Waiting)
         });
-        taken(&mut phase)
+        let Some(task) = taken(&mut phase) else {
+            return Err(Closed {
+                general: self.general,
+            });
+        };
+        Ok(task)
     }
 }
 

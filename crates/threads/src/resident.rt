@@ -1,14 +1,14 @@
 //! A general's thread through all rounds.
-ghost use Rattle.std.specs.Prelude.{◌≡◌, ◌≢◌, ◌++◌, ◌∷◌, [], IfOk, IfErr};
+ghost use Rattle.std.specs.Prelude.{◌≡◌, ◌≢◌, ◌++◌, ◌∷◌, [], Err, IfOk, IfErr};
 ghost use Rattle.round.specs.Letters.{Letter as LetterSeen};
 ghost use Rattle.threads.specs.Duties.{IsDone};
 ghost use Rattle.threads.specs.Served.{AreAmong};
-ghost use Rattle.threads.specs.declared.error.MusterError.TheVariants.{Spawn, Post as PostFull};
+ghost use Rattle.threads.specs.declared.error.MusterError.TheVariants.{Unaccounted, Spawn, Post as PostFull};
 
 use crate::answers::{accounted, posted};
 use crate::error::MusterError;
 use crate::gate::{Gate, Gated};
-use crate::inbox::Inbox;
+use crate::inbox::{Closed, Inbox};
 use crate::tally::Tally;
 use crate::task::Task;
 use post::{Post, Poster};
@@ -40,9 +40,10 @@ impl<'a, G: Gate, J: Room> Resident<'a, G, J> {
         post: &Post,
         poster: Poster,
         me: Witness<J>,
-    ) -> Result<(), MusterError>
+    ) -> Result<Closed, MusterError>
         requires post { poster.table ≡ post.now.table }
         requires general { poster.general ≡ self.general }
+        ensures closed { IfOk result (λ closed. closed.general ≡ self.entry.inbox.now.general) }
         ensures started { IfErr result (λ e. e ≢ Spawn) }
     {
         let ended = self.do_tasks(rt, alloc, post, poster, me);
@@ -52,7 +53,7 @@ impl<'a, G: Gate, J: Room> Resident<'a, G, J> {
         ended
     }
 
-    /// Does the tasks that his inbox gives him, until the inbox is closed.
+    /// Does the tasks that his inbox gives him, until the inbox is closed: nothing else ends them without an error.
     ///
     /// # Errors
     ///
@@ -64,14 +65,16 @@ impl<'a, G: Gate, J: Room> Resident<'a, G, J> {
         post: &Post,
         mut poster: Poster,
         mut me: Witness<J>,
-    ) -> Result<(), MusterError>
+    ) -> Result<Closed, MusterError>
         requires post { poster.table ≡ post.now.table }
         requires general { poster.general ≡ self.now.general }
+        ensures closed { IfOk result (λ closed. closed.general ≡ self.now.inbox.now.general) }
         ensures started { IfErr result (λ e. e ≢ Spawn) }
     {
         for _ in rt.forever() {
-            let Some(task) = self.inbox.next(rt) else {
-                return Ok(());
+            let task = match self.inbox.next(rt) {
+                Ok(task) => task,
+                Err(closed) => return Ok(closed),
             };
             let (again, later) = self.do_task(rt, alloc, post, poster, me, task)?;
             poster = again;
@@ -100,6 +103,8 @@ impl<'a, G: Gate, J: Room> Resident<'a, G, J> {
         ensures post { IfOk result (λ r. r.0.table ≡ post.now.table) }
         ensures general { IfOk result (λ r. r.0.general ≡ self.now.general) }
         ensures done { IfOk result (λ r. (letter : LetterSeen) × IsDone task letter × (r.0.posted ≡ poster.posted ++ letter ∷ [])) }
+        ensures theirs { task.general ≢ self.now.general → result ≡ Err Unaccounted }
+        ensures own { IfErr result (λ e. e ≡ Unaccounted → task.general ≢ self.now.general) }
         ensures started { IfErr result (λ e. e ≢ Spawn) }
     {
         let (letter, me) = self.letter(rt, alloc, me, task)?;
@@ -124,9 +129,12 @@ impl<'a, G: Gate, J: Room> Resident<'a, G, J> {
         ensures general { IfOk result (λ r. r.0.general ≡ self.now.general) }
         ensures done { IfOk result (λ r. IsDone task r.0) }
         ensures served { IfOk result (λ r. AreAmong r.0.transcript r.1.seen) }
+        ensures theirs { task.general ≢ self.now.general → result ≡ Err Unaccounted }
+        ensures own { IfErr result (λ e. e ≡ Unaccounted → task.general ≢ self.now.general) }
         ensures started { IfErr result (λ e. e ≢ Spawn) }
         ensures posted { IfErr result (λ e. e ≢ PostFull) }
     {
+        accounted(task.general() == self.general)?;
         let mut server = Gated {
             rt,
             alloc,
@@ -136,7 +144,6 @@ impl<'a, G: Gate, J: Room> Resident<'a, G, J> {
             made: Vec::new(alloc),
         };
         let letter = task.letter(alloc, &mut server)?;
-        accounted(letter.general == self.general)?;
         let Gated { me, .. } = server;
         Ok((letter, me))
     }

@@ -67,6 +67,13 @@ impl Task {
         })
     }
 
+    /// Whose it is.
+    pub(crate) fn general(&self) -> u32
+        ensures { result ≡ self.now.general }
+    {
+        self.general
+    }
+
     /// The general's letter. His program's requests go to the server, and the letter tells just what it has served.
     ///
     /// # Errors
@@ -78,6 +85,7 @@ impl Task {
         server: &mut S,
     ) -> Result<Letter, AllocError>
         ensures done { IfOk result (IsDone self) }
+        ensures general { IfOk result (λ letter. letter.general ≡ self.general) }
         ensures served { IfOk result (λ letter. S.served server.new ≡ S.served server.old ++ letter.transcript) }
     {
         let Task {

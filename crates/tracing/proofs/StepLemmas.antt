@@ -1,6 +1,6 @@
 -- One step of the machine, and the lines of a step.
 use Rattle.std.proofs.Common.{◌≡◌, ◌∙◌, ℕ, zero, suc, ◌+◌, ◌-◌, ◌<◌, ◌≤◌, List, [], ◌++◌, length, refl, sym, ap, subst, append_assoc, arith}
-use Rattle.std.specs.Prelude.{Option, Some, None, codes, replicate}
+use Rattle.std.specs.Prelude.{Option, Some, None, codes}
 use Rattle.insn.specs.declared.insn.Insn.{Insn}
 use Rattle.insn.specs.Program.{instruction_at}
 use Rattle.semantics.specs.Relay.{Relay}
@@ -18,7 +18,7 @@ use Rattle.machine.specs.Standing.{Standing, before}
 use Rattle.machine.specs.Advance.{IsOfRun, Leads, Requests, Exits, Stops}
 use Rattle.machine.proofs.AdvanceLemmas.{fewer}
 use Rattle.tracing.specs.Lines.{before_told, after_told, request_told}
-use Rattle.tracing.specs.Trace.{Rest, line_of, told, told_at, lines_from, trace}
+use Rattle.tracing.specs.Trace.{Rest, line_of, told, told_at, lines_from, trace_on}
 
 -- ---- one step
 
@@ -74,7 +74,7 @@ ask_of program context relay answers limit s request t is r =
 
 -- ---- the line of a step
 
-told_by : (program : List Insn) (context : List ℕ) (relay : Relay) (rest : Rest) (words : List ℕ) (s : State) (i : Insn) (o : Outcome)
+pub told_by : (program : List Insn) (context : List ℕ) (relay : Relay) (rest : Rest) (words : List ℕ) (s : State) (i : Insn) (o : Outcome)
     → instruction_at program s.unit ≡ Some i → step program context relay s ≡ o → told_at program context relay rest words s ≡ line_of rest words s i o
 told_by program context relay rest words s i o here steps =
     ap (λ (found : Option Insn). told rest words s found (step program context relay s)) here ∙ ap (line_of rest words s i) steps
@@ -134,19 +134,19 @@ told_exit program context relay rest words s t i r0 old new here steps is =
 -- ---- the whole run
 
 -- what is left to be told, from where the program stands and the board's words
-pub record IsTold (program : List Insn) (context : List ℕ) (relay : Relay) (a : Standing) (b : RecordedBoard) (text : List ℕ) : Type 0 where
+pub record IsTold (opening : List ℕ) (program : List Insn) (context : List ℕ) (relay : Relay) (a : Standing) (b : RecordedBoard) (text : List ℕ) : Type 0 where
   pub of_run : IsOfRun program context a
   pub relay_kept : a.relay ≡ relay
-  pub rest : text ++ lines_from program context relay (length program - a.state.steps) b.words a.state ≡ trace program context relay
+  pub rest : text ++ lines_from program context relay (length program - a.state.steps) b.words a.state ≡ trace_on opening program context relay
 
-pub told_from : (program : List Insn) (context : List ℕ) (relay : Relay) (a : Standing) (b : RecordedBoard) → IsOfRun program context a → a.relay ≡ relay →
-    b.words ≡ replicate 64 0 → a.state ≡ entry (empty_outbox a.relay) → IsTold program context relay a b []
-told_from program context relay a b run same zeros begun =
+pub told_from : (opening : List ℕ) (program : List Insn) (context : List ℕ) (relay : Relay) (a : Standing) (b : RecordedBoard) → IsOfRun program context a → a.relay ≡ relay →
+    b.words ≡ opening → a.state ≡ entry (empty_outbox a.relay) → IsTold opening program context relay a b []
+told_from opening program context relay a b run same opened begun =
     let at : a.state ≡ entry (empty_outbox relay) = begun ∙ ap (λ (r : Relay). entry (empty_outbox r)) same in
     record {
       of_run = run;
       relay_kept = same;
-      rest = (let all : length program - 0 ≡ length program = omega arith in rw (at, zeros) (ap (λ (k : ℕ). lines_from program context relay k (replicate 64 0) (entry (empty_outbox relay))) all));
+      rest = (let all : length program - 0 ≡ length program = omega arith in rw (at, opened) (ap (λ (k : ℕ). lines_from program context relay k opening (entry (empty_outbox relay))) all));
     }
 
 lines_suc : (program : List Insn) (context : List ℕ) (relay : Relay) (k : ℕ) (words : List ℕ) (s : State)
@@ -155,31 +155,31 @@ unfolding lines_from
 lines_suc program context relay k words s = refl
 
 -- the lines of so many steps are those of the step and of one fewer
-left_over : (program : List Insn) (context : List ℕ) (relay : Relay) (k : ℕ) (a : Standing) (b : RecordedBoard) (text : List ℕ) → IsTold program context relay a b text
-    → length program - a.state.steps ≡ suc k → text ++ told_at program context a.relay (λ left t. lines_from program context relay k left t) b.words a.state ≡ trace program context relay
-left_over program context relay k a b text h is =
+left_over : (opening : List ℕ) (program : List Insn) (context : List ℕ) (relay : Relay) (k : ℕ) (a : Standing) (b : RecordedBoard) (text : List ℕ) → IsTold opening program context relay a b text
+    → length program - a.state.steps ≡ suc k → text ++ told_at program context a.relay (λ left t. lines_from program context relay k left t) b.words a.state ≡ trace_on opening program context relay
+left_over opening program context relay k a b text h is =
     ap (λ (r : Relay). text ++ told_at program context r (λ left t. lines_from program context relay k left t) b.words a.state) h.relay_kept
     ∙ (ap (λ (l : List ℕ). text ++ l) (sym (lines_suc program context relay k b.words a.state))
     ∙ (ap (λ (n : ℕ). text ++ lines_from program context relay n b.words a.state) (sym is) ∙ h.rest))
 
-pub told_on : (program : List Insn) (context : List ℕ) (relay : Relay) (a t : Standing) (b d : RecordedBoard) (text longer : List ℕ) → IsSound program → IsTold program context relay a b text
+pub told_on : (opening : List ℕ) (program : List Insn) (context : List ℕ) (relay : Relay) (a t : Standing) (b d : RecordedBoard) (text longer : List ℕ) → IsSound program → IsTold opening program context relay a b text
     → IsOfRun program context t → t.relay ≡ a.relay → t.state.steps ≡ a.state.steps + 1
-    → ((rest : Rest) → text ++ told_at program context a.relay rest b.words a.state ≡ longer ++ rest d.words t.state) → IsTold program context relay t d longer
-told_on program context relay a t b d text longer sound h run same counted tells =
+    → ((rest : Rest) → text ++ told_at program context a.relay rest b.words a.state ≡ longer ++ rest d.words t.state) → IsTold opening program context relay t d longer
+told_on opening program context relay a t b d text longer sound h run same counted tells =
     let few : a.state.steps < length program = fewer program context a sound h.of_run in
     let left : length program - a.state.steps ≡ suc (length program - t.state.steps) = omega arith in
     record {
       of_run = run;
       relay_kept = same ∙ h.relay_kept;
-      rest = sym (tells (λ words s. lines_from program context relay (length program - t.state.steps) words s)) ∙ left_over program context relay (length program - t.state.steps) a b text h left;
+      rest = sym (tells (λ words s. lines_from program context relay (length program - t.state.steps) words s)) ∙ left_over opening program context relay (length program - t.state.steps) a b text h left;
     }
 
-pub told_end : (program : List Insn) (context : List ℕ) (relay : Relay) (a : Standing) (b : RecordedBoard) (text longer : List ℕ) → IsSound program → IsTold program context relay a b text
-    → ((rest : Rest) → text ++ told_at program context a.relay rest b.words a.state ≡ longer) → longer ≡ trace program context relay
-told_end program context relay a b text longer sound h tells =
+pub told_end : (opening : List ℕ) (program : List Insn) (context : List ℕ) (relay : Relay) (a : Standing) (b : RecordedBoard) (text longer : List ℕ) → IsSound program → IsTold opening program context relay a b text
+    → ((rest : Rest) → text ++ told_at program context a.relay rest b.words a.state ≡ longer) → longer ≡ trace_on opening program context relay
+told_end opening program context relay a b text longer sound h tells =
     let few : a.state.steps < length program = fewer program context a sound h.of_run in
     let left : length program - a.state.steps ≡ suc (length program - a.state.steps - 1) = omega arith in
-    sym (tells (λ words s. lines_from program context relay (length program - a.state.steps - 1) words s)) ∙ left_over program context relay (length program - a.state.steps - 1) a b text h left
+    sym (tells (λ words s. lines_from program context relay (length program - a.state.steps - 1) words s)) ∙ left_over opening program context relay (length program - a.state.steps - 1) a b text h left
 
 pub steps_left : (program : List Insn) (context : List ℕ) (a t : Standing) → IsSound program → IsOfRun program context a → t.state.steps ≡ a.state.steps + 1
     → length program - t.state.steps < length program - a.state.steps

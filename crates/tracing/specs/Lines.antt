@@ -1,5 +1,5 @@
 -- What is told of one step: the instruction, what it read, and what it wrote.
-use Rattle.std.specs.Prelude.{ℕ, List, [], ◌∷◌, ◌++◌, codes, decimal, slice_index, Option, Some, None}
+use Rattle.std.specs.Prelude.{ℕ, zero, suc, List, [], ◌∷◌, ◌++◌, codes, decimal, slice_index, Option, Some, None}
 use Rattle.insn.specs.declared.insn.Insn.{Insn}
 use Rattle.insn.specs.declared.insn.Insn.TheVariants.{Arithmetic, Negate, SignExtend, Swap, LoadImmediate, Jump, LongJump, Branch, Load, LoadSigned, Store, Call, Exit}
 use Rattle.semantics.specs.declared.value.Value.{Value}
@@ -58,17 +58,15 @@ abbrev pub word_told : ℕ → List ℕ → List ℕ → List ℕ
 word_told slot words left =
     codes " ; word " ++ decimal slot ++ codes " " ++ decimal (slice_index words slot) ++ codes " to " ++ decimal (slice_index left slot)
 
-abbrev pub slot_of : Request → Option ℕ
-slot_of (request.Get slot) = Some slot
-slot_of (request.Swap slot value) = Some slot
-slot_of (request.Add slot value) = Some slot
-slot_of (request.Cas slot expected new) = Some slot
-slot_of (request.Copy span) = None
+-- those of so many words in a row
+unfoldable pub words_told : ℕ → ℕ → List ℕ → List ℕ → List ℕ
+words_told slot zero words left = []
+words_told slot (suc n) words left = word_told slot words left ++ words_told (suc slot) n words left
 
-abbrev pub asked_told : Option ℕ → List ℕ → List ℕ → List ℕ
-asked_told None words left = []
-asked_told (Some slot) words left = word_told slot words left
-
--- what is told of a request, of the board's words before and after it; of a copy nothing more than its count
+-- what is told of a request, of the board's words before and after it: each that it asked for
 abbrev pub request_told : Request → List ℕ → List ℕ → List ℕ
-request_told r words left = asked_told (slot_of r) words left
+request_told (request.Get slot) words left = word_told slot words left
+request_told (request.Swap slot value) words left = word_told slot words left
+request_told (request.Add slot value) words left = word_told slot words left
+request_told (request.Cas slot expected new) words left = word_told slot words left
+request_told (request.Copy span) words left = words_told span.0 span.1 words left

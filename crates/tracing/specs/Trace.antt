@@ -1,8 +1,7 @@
--- A run of a program, step by step, with a board of its own, which begins with zeros.
-use Rattle.std.specs.Prelude.{ℕ, zero, suc, List, [], ◌++◌, Option, Some, None, codes, length, replicate}
+-- A run of a program, step by step, with a board of its own.
+use Rattle.std.specs.Prelude.{ℕ, zero, suc, List, [], ◌++◌, Option, Some, None, codes, length}
 use Rattle.insn.specs.declared.insn.Insn.{Insn}
 use Rattle.insn.specs.Program.{instruction_at}
-use Rattle.semantics.specs.Limits.{board_words}
 use Rattle.semantics.specs.Relay.{Relay}
 use Rattle.semantics.specs.State.{State, Outcome, Next, Ask, Exit, Trap, entry}
 use Rattle.semantics.specs.Outbox.{empty_outbox}
@@ -38,6 +37,6 @@ unfoldable pub lines_from : List Insn → List ℕ → Relay → ℕ → List �
 lines_from program context relay zero words s = []
 lines_from program context relay (suc k) words s = told_at program context relay (λ left t. lines_from program context relay k left t) words s
 
--- the lines of the whole run: within as many steps as the program has instructions
-abbrev pub trace : List Insn → List ℕ → Relay → List ℕ
-trace program context relay = lines_from program context relay (length program) (replicate board_words 0) (entry (empty_outbox relay))
+-- the lines of the whole run, with a board of these words: within as many steps as the program has instructions
+abbrev pub trace_on : List ℕ → List Insn → List ℕ → Relay → List ℕ
+trace_on words program context relay = lines_from program context relay (length program) words (entry (empty_outbox relay))

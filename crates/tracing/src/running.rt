@@ -7,7 +7,7 @@ ghost use Rattle.semantics.specs.Call.{resumed};
 ghost use Rattle.board.specs.Board.{reply, next};
 ghost use Rattle.machine.specs.Advance.{IsAskOfRun, IsOfRun};
 ghost use Rattle.tracing.specs.Lines.{after_told, request_told};
-ghost use Rattle.tracing.specs.Trace.{Rest, told_at, trace};
+ghost use Rattle.tracing.specs.Trace.{Rest, told_at, trace_on};
 
 use crate::steps::{put_after, put_before, put_request};
 use board::Board;
@@ -21,7 +21,7 @@ use std::alloc::{AllocError, Global};
 use verify::Verified;
 
 /// The run of a program to its exit, in this context and with an outbox of this relay, told step by step. The board that
-/// it asks is its own, and begins with zeros.
+/// it asks is its own, and begins with these words.
 ///
 /// # Errors
 ///
@@ -31,12 +31,13 @@ pub fn traced(
     verified: &Verified,
     context: &Context,
     shape: Shape,
+    words: [u64; 64],
 ) -> Result<String, AllocError>
     requires { IsShape shape }
-    ensures { IfOk result (λ text. string_bytes text ≡ trace verified.now context.now (oral shape)) }
+    ensures { IfOk result (λ text. string_bytes text ≡ trace_on words verified.now context.now (oral shape)) }
 {
     let mut text = String::with_capacity(alloc, 32 * verified.program().len())?;
-    let mut board = Board::new(alloc, [0; 64]);
+    let mut board = Board::new(alloc, words);
     let mut activation = Activation::start(verified, context, Outbox::new(alloc, shape)?);
     loop {
         if turn(

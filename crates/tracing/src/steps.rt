@@ -1,6 +1,6 @@
 //! The line of a step.
-ghost use Rattle.std.specs.Prelude.{◌≡◌, ◌++◌, ◌<◌, codes, decimal, length, slice_index, string_bytes, OnOk};
-ghost use Rattle.tracing.specs.Lines.{read_told, reads_told, stored_told, before_told, wrote, went, after_told, word_told, slot_of, asked_told, request_told};
+ghost use Rattle.std.specs.Prelude.{◌≡◌, ◌++◌, ◌+◌, ◌<◌, ◌≤◌, codes, decimal, length, slice_index, string_bytes, OnOk};
+ghost use Rattle.tracing.specs.Lines.{read_told, reads_told, stored_told, before_told, wrote, went, after_told, word_told, words_told, request_told};
 ghost use Rattle.tracing.specs.Values.{register_told, place_told};
 
 use crate::reads::{Registers, numbered, read_by};
@@ -8,7 +8,7 @@ use crate::values::{Held, Place};
 use asm::put_instruction;
 use insn::{Insn, Reg};
 use machine::Activation;
-use semantics::{Request, Slot, Value};
+use semantics::{Request, Value};
 use std::alloc::AllocError;
 
 /// Adds a register and what it holds.
@@ -114,31 +114,37 @@ pub fn put_after(out: &mut String, activation: &Activation, insn: &Insn) -> Resu
     }
 }
 
-/// The word of the board that is asked for.
-fn slot_of(request: &Request) -> Option<Slot>
-    ensures { result ≡ slot_of request.now }
-{
-    match request {
-        Request::Get { slot }
-        | Request::Swap { slot, .. }
-        | Request::Add { slot, .. }
-        | Request::Cas { slot, .. } => Some(*slot),
-        Request::Copy { .. } => None,
-    }
-}
-
 /// Adds a word of the board, before and after.
 fn put_word(
     out: &mut String,
-    slot: Slot,
+    slot: usize,
     words: &[u64; 64],
     left: &[u64; 64],
 ) -> Result<(), AllocError>
+    requires { slot < 64 }
     ensures { OnOk result (string_bytes out.new ≡ string_bytes out.old ++ word_told slot words.now left.now) }
 {
-    let slot = slot.number();
     let (before, after) = (words[slot], left[slot]);
     write!(out, " ; word {slot} {before} to {after}")
+}
+
+/// Adds so many words of the board in a row.
+#[tactic(auto, unfolding(crate::specs::Lines::words_told))]
+fn put_words(
+    out: &mut String,
+    slot: usize,
+    count: usize,
+    words: &[u64; 64],
+    left: &[u64; 64],
+) -> Result<(), AllocError>
+    requires { slot + count ≤ 64 }
+    ensures { OnOk result (string_bytes out.new ≡ string_bytes out.old ++ words_told slot count words.now left.now) }
+{
+    if count == 0 {
+        return Ok(());
+    }
+    put_word(out, slot, words, left)?;
+    put_words(out, slot + 1, count - 1, words, left)
 }
 
 /// Adds what is told of a request, of the board's words before and after it.
@@ -150,8 +156,11 @@ pub fn put_request(
 ) -> Result<(), AllocError>
     ensures { OnOk result (string_bytes out.new ≡ string_bytes out.old ++ request_told request.now words.now left.now) }
 {
-    match slot_of(request) {
-        None => Ok(()),
-        Some(slot) => put_word(out, slot, words, left),
+    match request {
+        Request::Get { slot }
+        | Request::Swap { slot, .. }
+        | Request::Add { slot, .. }
+        | Request::Cas { slot, .. } => put_word(out, slot.number(), words, left),
+        Request::Copy { span } => put_words(out, span.slot(), span.count(), words, left),
     }
 }

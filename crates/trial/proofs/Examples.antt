@@ -1,5 +1,5 @@
 -- One trial, and what some texts tell, computed in the kernel.
-use Rattle.std.specs.Prelude.{◌≡◌, ℕ, pos, List, [], ◌∷◌, ◌++◌, flat_map, codes, Option, Some, Result, Ok, Err, refl}
+use Rattle.std.specs.Prelude.{◌≡◌, ℕ, pos, List, [], ◌∷◌, ◌++◌, flat_map, codes, replicate, slice_set, Option, Some, Result, Ok, Err, refl}
 use Rattle.std.specs.Fmt.{digits}
 use Rattle.std.specs.Option.{option_map}
 use Rattle.toml.specs.Parse.{parse_document}
@@ -12,21 +12,20 @@ use Rattle.insn.specs.declared.insn.Operand.TheVariants.{Immediate}
 use Rattle.label.specs.Labels.{labels}
 use Rattle.semantics.specs.Execution.{step}
 use Rattle.round.specs.Contexts.{context_bytes}
-use Rattle.semantics.specs.Relay.{oral}
 use Rattle.trial.specs.declared.place.Name.TheVariants as names
 use Rattle.trial.specs.declared.place.Place.{Place}
 use Rattle.trial.specs.declared.place.Place.TheVariants as places
 use Rattle.trial.specs.declared.fault.Fault.{Fault}
 use Rattle.trial.specs.declared.fault.Fault.TheVariants as faults
 use Rattle.trial.specs.Flaws.{Flaw, unknown, faulty}
-use Rattle.trial.specs.Checks.{setting, number, general, over, orders, taken}
-use Rattle.trial.specs.Setting.{Setting, context_in}
-use Rattle.trial.specs.Trial.{ending, trial}
+use Rattle.trial.specs.Checks.{setting, number, general, over, orders, taken, word, words, board}
+use Rattle.trial.specs.Setting.{Setting}
+use Rattle.trial.specs.Trial.{ending, trial_in}
 use Rattle.trial.specs.Lines.{label_lines, put_lines, word_lines, trial_lines}
 
 -- general 2 of 5 in round 3: of the labels 0.1, 0.3 and 0.4 he took the orders 1, 0 and 1
 told : Setting
-told = record { shape = record { generals = 5; commander = 0; general = 2; round = 3 }; bound = 2; taken = 1 ∷ 0 ∷ 1 ∷ [] }
+told = record { shape = record { generals = 5; commander = 0; general = 2; round = 3 }; bound = 2; taken = 1 ∷ 0 ∷ 1 ∷ []; board = replicate 64 0 }
 
 set : ℕ → ℕ → Insn
 set r n = Arithmetic W64 Move r (Immediate (pos n))
@@ -36,7 +35,7 @@ shown : List Insn
 shown = set 1 3 ∷ Call (pos 9) ∷ set 1 1 ∷ set 2 1 ∷ set 3 7 ∷ Call (pos 6) ∷ set 1 5 ∷ set 2 1 ∷ Call (pos 3) ∷ Exit ∷ []
 
 -- 3 hears the truth of the labels on which he does not stand, 1 an order for that of rank 1, and a word is counted
-printed : option_map (trial_lines shown told) (trial shown (context_in told) (oral told.shape))
+printed : option_map (trial_lines shown told) (trial_in told shown)
     ≡ Some (codes "accepted 10 instructions 10 units\nr0 0 steps 10\nput 0 3 1\nput 1 1 7\nput 2 3 1\nword 5 1\n")
 unfolding told set shown ending step labels context_bytes put_lines label_lines word_lines digits
 printed = refl
@@ -49,69 +48,80 @@ stops : Fault → Place → Option (Result Setting Flaw)
 stops fault place = Some (Err (faulty fault place))
 
 whole : read_of (codes "generals = 5" ∷ codes "bound = 2" ∷ codes "commander = 0" ∷ codes "general = 2" ∷ codes "round = 3" ∷ codes "taken = [1, 0, 1]" ∷ []) ≡ Some (Ok told)
-unfolding told read_of toml_on_literals setting number general over orders taken labels
+unfolding told read_of toml_on_literals setting number general over orders taken word words board labels
 whole = refl
 
 -- what is not told is RETREAT
 untold : read_of (codes "generals = 4" ∷ codes "bound = 1" ∷ codes "commander = 3" ∷ codes "general = 0" ∷ codes "round = 2" ∷ [])
-    ≡ Some (Ok (record { shape = record { generals = 4; commander = 3; general = 0; round = 2 }; bound = 1; taken = 0 ∷ [] }))
-unfolding read_of toml_on_literals setting number general over orders taken labels
+    ≡ Some (Ok (record { shape = record { generals = 4; commander = 3; general = 0; round = 2 }; bound = 1; taken = 0 ∷ []; board = replicate 64 0 }))
+unfolding read_of toml_on_literals setting number general over orders taken word words board labels
 untold = refl
 
 -- the commander has taken his own order in round 1, and relays nothing later
 commanding : read_of (codes "generals = 4" ∷ codes "bound = 1" ∷ codes "commander = 3" ∷ codes "general = 3" ∷ codes "round = 1" ∷ codes "taken = [9]" ∷ [])
-    ≡ Some (Ok (record { shape = record { generals = 4; commander = 3; general = 3; round = 1 }; bound = 1; taken = 9 ∷ [] }))
-unfolding read_of toml_on_literals setting number general over orders taken labels
+    ≡ Some (Ok (record { shape = record { generals = 4; commander = 3; general = 3; round = 1 }; bound = 1; taken = 9 ∷ []; board = replicate 64 0 }))
+unfolding read_of toml_on_literals setting number general over orders taken word words board labels
 commanding = refl
 
 relays_nothing : read_of (codes "generals = 4" ∷ codes "bound = 1" ∷ codes "commander = 3" ∷ codes "general = 3" ∷ codes "round = 2" ∷ codes "taken = [9]" ∷ [])
     ≡ stops faults.Range (places.Key names.Taken)
-unfolding read_of stops toml_on_literals setting number general over orders taken labels
+unfolding read_of stops toml_on_literals setting number general over orders taken word words board labels
 relays_nothing = refl
 
 -- an unknown key comes first, the least of several by bytes
 least_key : read_of (codes "zeta = 1" ∷ codes "alpha = 2" ∷ codes "generals = 14" ∷ []) ≡ Some (Err (unknown (codes "alpha")))
-unfolding read_of toml_on_literals setting number general over orders taken labels
+unfolding read_of toml_on_literals setting number general over orders taken word words board labels
 least_key = refl
 
 too_many : read_of (codes "generals = 14" ∷ []) ≡ stops faults.Range (places.Key names.Generals)
-unfolding read_of stops toml_on_literals setting number general over orders taken labels
+unfolding read_of stops toml_on_literals setting number general over orders taken word words board labels
 too_many = refl
 
 -- there is no such general, below 0 and past the last alike
 below_the_first : read_of (codes "generals = 4" ∷ codes "bound = 1" ∷ codes "commander = -1" ∷ []) ≡ stops faults.General (places.Key names.Commander)
-unfolding read_of stops toml_on_literals setting number general over orders taken labels
+unfolding read_of stops toml_on_literals setting number general over orders taken word words board labels
 below_the_first = refl
 
 past_the_last : read_of (codes "generals = 4" ∷ codes "bound = 1" ∷ codes "commander = 0" ∷ codes "general = 4" ∷ []) ≡ stops faults.General (places.Key names.General)
-unfolding read_of stops toml_on_literals setting number general over orders taken labels
+unfolding read_of stops toml_on_literals setting number general over orders taken word words board labels
 past_the_last = refl
 
 -- there is one round more than the bound
 no_round : read_of (codes "generals = 4" ∷ codes "bound = 1" ∷ codes "commander = 0" ∷ codes "general = 1" ∷ codes "round = 3" ∷ []) ≡ stops faults.Range (places.Key names.Round)
-unfolding read_of stops toml_on_literals setting number general over orders taken labels
+unfolding read_of stops toml_on_literals setting number general over orders taken word words board labels
 no_round = refl
 
 roundless : read_of (codes "generals = 4" ∷ codes "bound = 1" ∷ codes "commander = 0" ∷ codes "general = 1" ∷ codes "taken = 7" ∷ []) ≡ stops faults.Key (places.Key names.Round)
-unfolding read_of stops toml_on_literals setting number general over orders taken labels
+unfolding read_of stops toml_on_literals setting number general over orders taken word words board labels
 roundless = refl
 
 -- of the orders taken first their number, then each in its turn
 too_long : read_of (codes "generals = 4" ∷ codes "bound = 1" ∷ codes "commander = 0" ∷ codes "general = 1" ∷ codes "round = 2" ∷ codes "taken = [true, 2]" ∷ [])
     ≡ stops faults.Range (places.Key names.Taken)
-unfolding read_of stops toml_on_literals setting number general over orders taken labels
+unfolding read_of stops toml_on_literals setting number general over orders taken word words board labels
 too_long = refl
 
 no_order : read_of (codes "generals = 5" ∷ codes "bound = 2" ∷ codes "commander = 0" ∷ codes "general = 2" ∷ codes "round = 3" ∷ codes "taken = [1, -1, true]" ∷ [])
     ≡ stops faults.Range (places.Order 1)
-unfolding read_of stops toml_on_literals setting number general over orders taken labels
+unfolding read_of stops toml_on_literals setting number general over orders taken word words board labels
 no_order = refl
 
 order_of_truth : read_of (codes "generals = 5" ∷ codes "bound = 2" ∷ codes "commander = 0" ∷ codes "general = 2" ∷ codes "round = 3" ∷ codes "taken = [1, 4294967295, true]" ∷ [])
     ≡ stops faults.Kind (places.Order 2)
-unfolding read_of stops toml_on_literals setting number general over orders taken labels
+unfolding read_of stops toml_on_literals setting number general over orders taken word words board labels
 order_of_truth = refl
 
 no_list : read_of (codes "generals = 5" ∷ codes "bound = 2" ∷ codes "commander = 0" ∷ codes "general = 2" ∷ codes "round = 3" ∷ codes "taken = 1" ∷ []) ≡ stops faults.Kind (places.Key names.Taken)
-unfolding read_of stops toml_on_literals setting number general over orders taken labels
+unfolding read_of stops toml_on_literals setting number general over orders taken word words board labels
 no_list = refl
+
+-- a board of two words
+counted : read_of (codes "generals = 4" ∷ codes "bound = 1" ∷ codes "commander = 0" ∷ codes "general = 3" ∷ codes "round = 1" ∷ codes "board = [0, 7]" ∷ [])
+    ≡ Some (Ok (record { shape = record { generals = 4; commander = 0; general = 3; round = 1 }; bound = 1; taken = []; board = slice_set (replicate 64 0) 1 7 }))
+unfolding read_of toml_on_literals setting number general over orders taken word words board labels
+counted = refl
+
+no_word : read_of (codes "generals = 4" ∷ codes "bound = 1" ∷ codes "commander = 0" ∷ codes "general = 3" ∷ codes "round = 1" ∷ codes "board = [0, -1, true]" ∷ [])
+    ≡ stops faults.Range (places.Word 1)
+unfolding read_of stops toml_on_literals setting number general over orders taken word words board labels
+no_word = refl

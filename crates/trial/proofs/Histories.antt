@@ -1,7 +1,6 @@
 -- A trial, access by access.
-use Rattle.std.proofs.Common.{◌≡◌, ℕ, zero, suc, ◌<◌, ◌^◌, List, [], ◌∷◌, Some, None, false, length, refl, sym, subst, arith}
-use Rattle.std.specs.Prelude.{replicate, IsSome}
-use Rattle.std.proofs.lemmas.List.Elements.{All-replicate}
+use Rattle.std.proofs.Common.{◌≡◌, ℕ, zero, suc, ◌<◌, List, [], ◌∷◌, Some, None, false, length, refl, sym, subst, arith}
+use Rattle.std.specs.Prelude.{IsSome}
 use Rattle.insn.specs.declared.insn.Insn.{Insn}
 use Rattle.semantics.specs.Relay.{Relay, IsRelay, IsContext}
 use Rattle.semantics.specs.Run.{IsSound}
@@ -19,7 +18,7 @@ use Rattle.round.specs.Activation.{Activation, turned}
 use Rattle.round.specs.Runs.{Onward, Runs, AreFitting}
 use Rattle.round.specs.Running.{AreAccessesOf}
 use Rattle.round.proofs.Onwards.{all_none}
-use Rattle.trial.specs.Trial.{Ending, served, ending, trial}
+use Rattle.trial.specs.Trial.{Ending, served, ending, trial_on}
 use Rattle.trial.specs.Laws.{IsGeneralsRun}
 
 -- where it stands, as an activation without a patience
@@ -101,12 +100,10 @@ went program context relay (suc k) words s e board is = by (λ left t kept rest.
     by ih (Exit r0 t) same rest = went_exits program context relay words s t r0 e same (let h = rest in cc)
     by ih (Trap cause) same rest = absurd (let h = rest in cc)
 
-zeros : IsBoard (replicate 64 0)
-zeros = record { long = refl; each = All-replicate (λ word. word < 2 ^ 64) 64 0 (omega arith) }
-
-pub trial_is_run : (program : List Insn) (context : List ℕ) (relay : Relay) (e : Ending) → trial program context relay ≡ Some e → IsGeneralsRun program context relay e
-trial_is_run program context relay e is =
-    let w = went program context relay (length program) (replicate 64 0) (entry (empty_outbox relay)) e zeros is in
+pub trial_is_run : (words : List ℕ) (program : List Insn) (context : List ℕ) (relay : Relay) (e : Ending) → IsBoard words → trial_on words program context relay ≡ Some e
+    → IsGeneralsRun words program context relay e
+trial_is_run words program context relay e board is =
+    let w = went program context relay (length program) words (entry (empty_outbox relay)) e board is in
     record {
       ledger = w.ledger;
       last = here program context relay w.last;
@@ -132,6 +129,7 @@ ends program context relay (suc k) words s board safe = by (λ left t kept rest.
     by ih (Exit r0 t) same leads = refl
     by ih (Trap cause) same leads = absurd leads
 
-pub trial_ends : (program : List Insn) (context : List ℕ) (relay : Relay) → IsSound program → IsContext context → IsRelay relay → IsSome (trial program context relay)
-trial_ends program context relay sound in_context in_limits =
-    ends program context relay (length program) (replicate 64 0) (entry (empty_outbox relay)) zeros (safe_of_sound program context relay sound in_context in_limits)
+pub trial_ends : (words : List ℕ) (program : List Insn) (context : List ℕ) (relay : Relay) → IsBoard words → IsSound program → IsContext context → IsRelay relay
+    → IsSome (trial_on words program context relay)
+trial_ends words program context relay board sound in_context in_limits =
+    ends program context relay (length program) words (entry (empty_outbox relay)) board (safe_of_sound program context relay sound in_context in_limits)

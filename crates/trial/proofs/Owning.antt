@@ -1,9 +1,7 @@
 -- A board that serves one general in one round alone.
-use Rattle.std.proofs.Common.{◌≡◌, List, [], ◌∷◌, ◌++◌, All, refl, append-nil, append_assoc, sym, ◌∙◌, ap, subst}
-use Rattle.std.specs.Prelude.{replicate}
+use Rattle.std.proofs.Common.{◌≡◌, ℕ, List, [], ◌∷◌, ◌++◌, All, refl, append-nil, append_assoc, sym, ◌∙◌, ap, subst}
 use Rattle.std.proofs.lemmas.List.Elements.{All-nil, All-push}
 use Rattle.label.specs.declared.shape.Shape.{Shape}
-use Rattle.semantics.specs.Limits.{board_words}
 use Rattle.board.specs.Board.{Access}
 use Rattle.board.specs.Ledger.{RecordedBoard}
 use Rattle.trial.specs.Setting.{Setting}
@@ -30,11 +28,12 @@ one_more shape old b d a one opened entered general round =
     }
 
 -- of a board that has served none before it is all
-pub all_of_one : (shape : Shape) (b d : RecordedBoard) → b.opening ≡ replicate board_words 0 → b.ledger ≡ [] → ServesOne shape b d → IsOfOne shape d
-all_of_one shape b d zeros none one =
+pub all_of_one : (shape : Shape) (words : List ℕ) (b d : RecordedBoard) → b.opening ≡ words → b.ledger ≡ [] → ServesOne shape b d → IsOfOne shape words d
+all_of_one shape words b d opened none one =
     let P : Access → Type 0 = λ a. (a.general ≡ shape.general) × (a.round ≡ shape.round) in
     let all : d.ledger ≡ one.more = one.ledger ∙ ap (λ (l : List Access). l ++ one.more) none in
-    record { opening = one.opening ∙ zeros; own = subst (λ (l : List Access). All P l) (sym all) one.own }
+    record { opening = one.opening ∙ opened; own = subst (λ (l : List Access). All P l) (sym all) one.own }
 
-pub board_in : (setting : Setting) (shape : Shape) (b : RecordedBoard) → shape ≡ setting.shape → IsOfOne shape b → IsOfOne setting.shape b
-board_in setting shape b same own = subst (λ (sh : Shape). IsOfOne sh b) same own
+pub board_in : (setting : Setting) (shape : Shape) (words : List ℕ) (b : RecordedBoard) → shape ≡ setting.shape → words ≡ setting.board → IsOfOne shape words b
+    → IsOfOne setting.shape setting.board b
+board_in setting shape words b same opened own = subst (λ (ws : List ℕ). IsOfOne setting.shape ws b) opened (subst (λ (sh : Shape). IsOfOne sh words b) same own)

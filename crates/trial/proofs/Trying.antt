@@ -6,25 +6,27 @@ use Rattle.label.specs.declared.shape.Shape.{Shape}
 use Rattle.semantics.specs.Relay.{Relay, oral}
 use Rattle.semantics.specs.State.{State}
 use Rattle.trial.specs.Setting.{Setting, context_in}
-use Rattle.trial.specs.Trial.{Ending, trial}
+use Rattle.trial.specs.Trial.{Ending, trial_in, trial_on}
 use Rattle.trial.specs.Lines.{first_lines, put_lines, word_lines}
 use Rattle.trial.specs.Told.{IsTried}
 
 -- the trial in the context and the relay of a setting is the trial in the setting
-pub ends_in : (program : List Insn) (s : Setting) (context : List ℕ) (own : Shape) (ended : Option Ending) → context ≡ context_in s → own ≡ s.shape
-    → trial program context (oral own) ≡ ended → trial program (context_in s) (oral s.shape) ≡ ended
-ends_in program s context own ended told shape is =
-    ap (λ (bytes : List ℕ). trial program bytes (oral s.shape)) (sym told) ∙ (ap (λ (kept : Shape). trial program context (oral kept)) (sym shape) ∙ is)
+pub ends_in : (program : List Insn) (s : Setting) (context words : List ℕ) (own : Shape) (ended : Option Ending) → context ≡ context_in s → own ≡ s.shape → words ≡ s.board
+    → trial_on words program context (oral own) ≡ ended → trial_in s program ≡ ended
+ends_in program s context words own ended told shape board is =
+    ap (λ (bytes : List ℕ). trial_on s.board program bytes (oral s.shape)) (sym told)
+    ∙ (ap (λ (kept : Shape). trial_on s.board program context (oral kept)) (sym shape) ∙ (ap (λ (ws : List ℕ). trial_on ws program context (oral own)) (sym board) ∙ is))
 
 pub relay_in : (s : Setting) (own : Shape) (kept : Relay) → own ≡ s.shape → kept ≡ oral own → kept ≡ oral s.shape
 relay_in s own kept shape same = same ∙ ap oral shape
 
-pub tried_is : (program code : List Insn) (s : Setting) (lines words : List ℕ) (kept : Relay) (r0 : ℕ) (state : State) → kept ≡ oral s.shape → code ≡ program
-    → trial program (context_in s) (oral s.shape) ≡ Some (record { r0 = r0; state = state; words = words })
-    → lines ≡ first_lines (length code) (length (slots_of code)) r0 state.steps ++ put_lines (record { relay = kept; rows = state.outbox; entries = state.entries }) ++ word_lines words → IsTried program s lines
-tried_is program code s lines words kept r0 state same read ended are = (
+pub tried_is : (program code : List Insn) (s : Setting) (lines opening words : List ℕ) (kept : Relay) (r0 : ℕ) (state : State) → kept ≡ oral s.shape → code ≡ program → opening ≡ s.board
+    → trial_in s program ≡ Some (record { r0 = r0; state = state; words = words })
+    → lines ≡ first_lines (length code) (length (slots_of code)) r0 state.steps ++ put_lines (record { relay = kept; rows = state.outbox; entries = state.entries }) ++ word_lines opening words → IsTried program s lines
+tried_is program code s lines opening words kept r0 state same read opened ended are = (
   record { r0 = r0; state = state; words = words },
   ended,
-  are ∙ (ap (λ (shown : List Insn). first_lines (length shown) (length (slots_of shown)) r0 state.steps ++ put_lines (record { relay = kept; rows = state.outbox; entries = state.entries }) ++ word_lines words) read
-      ∙ ap (λ (r : Relay). first_lines (length program) (length (slots_of program)) r0 state.steps ++ put_lines (record { relay = r; rows = state.outbox; entries = state.entries }) ++ word_lines words) same),
+  are ∙ (ap (λ (shown : List Insn). first_lines (length shown) (length (slots_of shown)) r0 state.steps ++ put_lines (record { relay = kept; rows = state.outbox; entries = state.entries }) ++ word_lines opening words) read
+      ∙ (ap (λ (r : Relay). first_lines (length program) (length (slots_of program)) r0 state.steps ++ put_lines (record { relay = r; rows = state.outbox; entries = state.entries }) ++ word_lines opening words) same
+      ∙ ap (λ (ws : List ℕ). first_lines (length program) (length (slots_of program)) r0 state.steps ++ put_lines (record { relay = oral s.shape; rows = state.outbox; entries = state.entries }) ++ word_lines ws words) opened)),
 )

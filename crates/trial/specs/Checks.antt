@@ -2,6 +2,7 @@
 use Rattle.std.specs.Prelude.{ℕ, suc, ℤ, pos, negsuc, Bool, ◌+◌, ◌-◌, min, nat_lt, nat_le, ◌&&◌, cond, List, length, slice_set, replicate, Option, Some, None, Result, Ok, Err, codes}
 use Rattle.std.specs.Option.{ok_or}
 use Rattle.toml.specs.Data.{Data, Items, Members, no_items, item, no_members, member, get_member, as_integer, as_array}
+use Rattle.semantics.specs.Limits.{board_words}
 use Rattle.label.specs.declared.shape.Shape.{Shape}
 use Rattle.label.specs.Relay.{relay}
 use Rattle.trial.specs.declared.place.Name.TheVariants as names
@@ -84,6 +85,28 @@ taken labels (Some d) = do
   ds ← elements (places.Key names.Taken) d
   orders labels ds
 
+-- a word of the board, which no integer of the text exceeds
+unfoldable pub word : Place → Data → Result ℕ Flaw
+word s d = do
+  z ← whole s d
+  natural faults.Range s z
+
+abbrev pub set_word : ℕ → List ℕ → Data → Result (List ℕ) Flaw
+set_word slot words d = word (places.Word slot) d >>= λ w. Ok (slice_set words slot w)
+
+-- at most 64 words; zeros for those that are missing
+unfoldable pub words : Items → Result (List ℕ) Flaw
+words ds = do
+  few ← test (nat_le (items_length ds) board_words) faults.Range (places.Key names.Board)
+  over set_word 0 (replicate board_words 0) ds
+
+-- the words of the board at first
+unfoldable pub board : Option Data → Result (List ℕ) Flaw
+board None = Ok (replicate board_words 0)
+board (Some d) = do
+  ds ← elements (places.Key names.Board) d
+  words ds
+
 -- the relay of general g in round r, among n generals under c
 abbrev pub shape_of : ℕ → ℕ → ℕ → ℕ → Shape
 shape_of n c g r = record { generals = n; commander = c; general = g; round = r }
@@ -98,4 +121,5 @@ setting ms = do
   g ← general (places.Key names.General) n (get_member (codes "general") ms)
   r ← number (places.Key names.Round) 1 (m + 1) (get_member (codes "round") ms)
   orders ← taken (length (relay (shape_of n c g r))) (get_member (codes "taken") ms)
-  Ok (record { shape = shape_of n c g r; bound = m; taken = orders })
+  words ← board (get_member (codes "board") ms)
+  Ok (record { shape = shape_of n c g r; bound = m; taken = orders; board = words })

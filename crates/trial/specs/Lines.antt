@@ -1,5 +1,5 @@
 -- The lines that are printed of a trial.
-use Rattle.std.specs.Prelude.{ℕ, ◌==◌, if◌then◌else◌, List, [], ◌++◌, length, codes, Option, Some, None}
+use Rattle.std.specs.Prelude.{ℕ, ◌==◌, if◌then◌else◌, List, [], ◌++◌, length, slice_index, codes, Option, Some, None}
 use Rattle.std.specs.Fmt.{decimal}
 use Rattle.std.specs.List.{flat_map, enumerate_from}
 use Rattle.insn.specs.declared.insn.Insn.{Insn}
@@ -32,15 +32,16 @@ label_lines outbox rank label = flat_map (λ p. put_line rank p (tells outbox la
 unfoldable pub put_lines : Contents → List ℕ
 put_lines outbox = flat_map (λ l. label_lines outbox l.0 l.1) (enumerate_from 0 (relayed outbox.relay))
 
--- a word of the board, where it is not zero any more
-abbrev pub word_line : ℕ → ℕ → List ℕ
-word_line index word = if word == 0 then [] else codes "word " ++ decimal index ++ codes " " ++ decimal word ++ codes "\n"
+-- a word of the board, where it is not what it was before
+abbrev pub word_line : ℕ → ℕ → ℕ → List ℕ
+word_line before index word = if word == before then [] else codes "word " ++ decimal index ++ codes " " ++ decimal word ++ codes "\n"
 
-unfoldable pub word_lines : List ℕ → List ℕ
-word_lines words = flat_map (λ w. word_line w.0 w.1) (enumerate_from 0 words)
+-- those of a board that began with these words
+unfoldable pub word_lines : List ℕ → List ℕ → List ℕ
+word_lines opening words = flat_map (λ w. word_line (slice_index opening w.0) w.0 w.1) (enumerate_from 0 words)
 
 -- all lines of a trial that ended so
 abbrev pub trial_lines : List Insn → Setting → Ending → List ℕ
 trial_lines program setting e =
     first_lines (length program) (length (slots_of program)) e.r0 e.state.steps
-    ++ put_lines (record { relay = oral setting.shape; rows = e.state.outbox; entries = e.state.entries }) ++ word_lines e.words
+    ++ put_lines (record { relay = oral setting.shape; rows = e.state.outbox; entries = e.state.entries }) ++ word_lines setting.board e.words

@@ -2,7 +2,7 @@
 use Rattle.std.specs.Prelude.{ℕ, Bool, ◌||◌, List, codes}
 use Rattle.std.specs.Str.{bytes_eq}
 use Rattle.trial.specs.declared.place.Name.{Name}
-use Rattle.trial.specs.declared.place.Name.TheVariants.{Generals, Bound, Commander, General, Round, Taken}
+use Rattle.trial.specs.declared.place.Name.TheVariants.{Generals, Bound, Commander, General, Round, Taken, Board}
 
 abbrev pub text_of : Name → List ℕ
 text_of Generals = codes "generals"
@@ -11,8 +11,9 @@ text_of Commander = codes "commander"
 text_of General = codes "general"
 text_of Round = codes "round"
 text_of Taken = codes "taken"
+text_of Board = codes "board"
 
 abbrev pub is_key : List ℕ → Bool
 is_key k =
     bytes_eq k (codes "generals") || (bytes_eq k (codes "bound") || (bytes_eq k (codes "commander") ||
-    (bytes_eq k (codes "general") || (bytes_eq k (codes "round") || bytes_eq k (codes "taken")))))
+    (bytes_eq k (codes "general") || (bytes_eq k (codes "round") || (bytes_eq k (codes "taken") || bytes_eq k (codes "board"))))))

@@ -12,6 +12,7 @@ use Rattle.trial.specs.declared.fault.SettingError.TheVariants.{Toml, Unknown, A
 abbrev pub place_text : Place → List ℕ
 place_text (place.Key name) = text_of name
 place_text (place.Order index) = codes "taken[" ++ decimal index ++ codes "]"
+place_text (place.Word index) = codes "board[" ++ decimal index ++ codes "]"
 
 abbrev pub code_of : Fault → List ℕ
 code_of Key = codes "K2"

@@ -3,13 +3,12 @@ use Rattle.std.specs.Prelude.{ℕ, ◌≡◌, List, Option, Some, None, Result, 
 use Rattle.toml.specs.Data.{Members}
 use Rattle.toml.specs.Parse.{parse_document}
 use Rattle.insn.specs.declared.insn.Insn.{Insn}
-use Rattle.semantics.specs.Relay.{oral}
 use Rattle.trial.specs.declared.fault.SettingError.{SettingError}
 use Rattle.trial.specs.declared.fault.SettingError.TheVariants as errors
 use Rattle.trial.specs.Flaws.{Gives}
 use Rattle.trial.specs.Checks.{setting}
-use Rattle.trial.specs.Setting.{Setting, context_in}
-use Rattle.trial.specs.Trial.{Ending, trial}
+use Rattle.trial.specs.Setting.{Setting}
+use Rattle.trial.specs.Trial.{Ending, trial_in}
 use Rattle.trial.specs.Lines.{trial_lines}
 
 -- the answer to a text: the setting that its table tells, or the first fault; no other answer but want of memory
@@ -26,4 +25,4 @@ Tells text s = Reads (parse_document text) (Ok s)
 -- the program's trial in the setting has ended, and these are its lines
 abbrev pub IsTried : List Insn → Setting → List ℕ → Type 0
 IsTried program s lines =
-    (e : Ending) × (trial program (context_in s) (oral s.shape) ≡ Some e) × (lines ≡ trial_lines program s e)
+    (e : Ending) × (trial_in s program ≡ Some e) × (lines ≡ trial_lines program s e)

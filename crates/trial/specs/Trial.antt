@@ -1,8 +1,8 @@
--- One run of a program with a board of its own, which begins with zeros (own).
+-- One run of a program with a board of its own (own).
 use Rattle.std.specs.Prelude.{ℕ, ◌≡◌, ◌++◌, zero, suc, List, All, Option, None, Some, length, replicate}
 use Rattle.insn.specs.declared.insn.Insn.{Insn}
 use Rattle.semantics.specs.Limits.{board_words}
-use Rattle.semantics.specs.Relay.{Relay}
+use Rattle.semantics.specs.Relay.{Relay, oral}
 use Rattle.semantics.specs.State.{State, Outcome, Next, Ask, Exit, Trap, entry}
 use Rattle.semantics.specs.Outbox.{empty_outbox}
 use Rattle.semantics.specs.Call.{resumed}
@@ -10,6 +10,7 @@ use Rattle.semantics.specs.Execution.{step}
 use Rattle.label.specs.declared.shape.Shape.{Shape}
 use Rattle.board.specs.Board.{Access, reply, next}
 use Rattle.board.specs.Ledger.{RecordedBoard}
+use Rattle.trial.specs.Setting.{Setting, context_in}
 
 -- how a run has ended: the number that it exited with, its last state, and the board's words
 pub record Ending : Type 0 where
@@ -37,6 +38,10 @@ trial_on words program context relay = ending program context relay (length prog
 abbrev pub trial : List Insn → List ℕ → Relay → Option Ending
 trial program context relay = trial_on (replicate board_words 0) program context relay
 
+-- the trial in a setting
+abbrev pub trial_in : Setting → List Insn → Option Ending
+trial_in s program = trial_on s.board program (context_in s) (oral s.shape)
+
 -- since it was the old one the board has served this general in this round alone
 pub record ServesOne (shape : Shape) (old new : RecordedBoard) : Type 0 where
   pub opening : new.opening ≡ old.opening
@@ -44,7 +49,7 @@ pub record ServesOne (shape : Shape) (old new : RecordedBoard) : Type 0 where
   pub ledger : new.ledger ≡ old.ledger ++ more
   pub own : All (λ a. (a.general ≡ shape.general) × (a.round ≡ shape.round)) more
 
--- it opened with zeros, and has never served another
-pub record IsOfOne (shape : Shape) (b : RecordedBoard) : Type 0 where
-  pub opening : b.opening ≡ replicate board_words 0
+-- it opened with these words, and has never served another
+pub record IsOfOne (shape : Shape) (words : List ℕ) (b : RecordedBoard) : Type 0 where
+  pub opening : b.opening ≡ words
   pub own : All (λ a. (a.general ≡ shape.general) × (a.round ≡ shape.round)) b.ledger

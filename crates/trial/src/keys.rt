@@ -22,6 +22,7 @@ fn is_key(key: &str) -> bool
         || key == "general"
         || key == "round"
         || key == "taken"
+        || key == "board"
 }
 
 fn first_unknown(table: &Table) -> Option<&str>
@@ -92,7 +93,7 @@ pub fn elements(place: Place, value: &Value) -> Result<&[Value], SettingError>
 }
 
 /// An integer that is not below 0.
-fn natural(fault: Fault, place: Place, integer: i64) -> Result<u64, SettingError>
+pub fn natural(fault: Fault, place: Place, integer: i64) -> Result<u64, SettingError>
     ensures value { Gives (λ n. n) result (natural fault place integer) }
     ensures fault { IfErr result (λ e. e ≢ Memory) }
 {

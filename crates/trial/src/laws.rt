@@ -6,7 +6,7 @@ pub fn trials_end()
     ensures { TrialsEnd }
 {}
 
-/// A trial that ends is the run of its program with the answers that a board of zeros gave, and it leaves that board's words.
+/// A trial that ends is the run of its program with the answers that the board gave, and it leaves that board's words.
 pub fn trials_are_runs()
     ensures { TrialsAreRuns }
 {}

@@ -12,6 +12,7 @@ mod relayed;
 mod running;
 mod setting;
 mod spelling;
+mod words;
 
 pub use fault::{Fault, SettingError};
 pub use laws::{contexts_are_settings, trials_are_runs, trials_end};

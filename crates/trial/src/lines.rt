@@ -1,5 +1,5 @@
 //! What is printed of a trial.
-ghost use Rattle.std.specs.Prelude.{◌≡◌, ◌<◌, ◌++◌, ℕ, List, Some, IfOk, OnOk, length, slice_get, string_bytes};
+ghost use Rattle.std.specs.Prelude.{◌≡◌, ◌<◌, ◌≤◌, ◌++◌, ℕ, List, Some, IfOk, OnOk, length, slice_get, string_bytes};
 ghost use Rattle.insn.specs.Program.{slots_of};
 ghost use Rattle.semantics.specs.Relay.{relayed};
 ghost use Rattle.trial.specs.Lines.{first_lines, put_line, label_lines, put_lines, word_line, word_lines};
@@ -12,9 +12,8 @@ use outbox::Outbox;
 use std::alloc::{AllocError, Global};
 use verify::Verified;
 
-/// Runs a program in a setting, with a board that begins with zeros: what is printed of it. How large the program is, what
-/// it exited with and after how many steps, what it put, by the rank of the label and the receiver, and the words of the
-/// board that are not zero.
+/// Runs a program in a setting: what is printed of it. How large the program is, what it exited with and after how many
+/// steps, what it put, by the rank of the label and the receiver, and the words of the board that are not what they were.
 ///
 /// # Errors
 ///
@@ -23,15 +22,20 @@ pub fn tried(alloc: Global, verified: &Verified, setting: &Setting) -> Result<St
     ensures { IfOk result (λ text. IsTried verified.now setting.now (string_bytes text)) }
 {
     let exited = run_in(alloc, verified, setting)?;
-    lines(alloc, verified.program(), &exited)
+    lines(alloc, verified.program(), &setting.board(), &exited)
 }
 
-/// The lines of a run that has ended.
-fn lines(alloc: Global, program: &Program, exited: &Exited) -> Result<String, AllocError>
+/// The lines of a run that has ended, of a board that began with these words.
+fn lines(
+    alloc: Global,
+    program: &Program,
+    opening: &[u64; 64],
+    exited: &Exited,
+) -> Result<String, AllocError>
     ensures { IfOk result (λ text. string_bytes text ≡
         first_lines (length program.now) (length (slots_of program.now)) exited.now.r0 exited.now.activation.state.steps
         ++ put_lines (record { relay = exited.now.activation.relay; rows = exited.now.activation.state.outbox; entries = exited.now.activation.state.entries })
-        ++ word_lines exited.now.board.words) }
+        ++ word_lines opening.now exited.now.board.words) }
 {
     let mut text = first_lines(
         alloc,
@@ -41,7 +45,7 @@ fn lines(alloc: Global, program: &Program, exited: &Exited) -> Result<String, Al
         exited.activation.steps(),
     )?;
     push_orders(alloc, &mut text, exited.activation.outbox())?;
-    push_words(alloc, &mut text, exited.board.words())?;
+    push_words(alloc, &mut text, opening, exited.board.words())?;
     Ok(text)
 }
 
@@ -106,21 +110,33 @@ fn push_order(
     text.push_str(line.as_str())
 }
 
-/// Adds a line for each word that is not zero.
-fn push_words(alloc: Global, text: &mut String, words: &[u64]) -> Result<(), AllocError>
-    ensures { OnOk result (string_bytes text.new ≡ string_bytes text.old ++ word_lines words.now) }
+/// Adds a line for each word that is not what it was.
+fn push_words(
+    alloc: Global,
+    text: &mut String,
+    opening: &[u64; 64],
+    words: &[u64],
+) -> Result<(), AllocError>
+    requires { length words.now ≤ 64 }
+    ensures { OnOk result (string_bytes text.new ≡ string_bytes text.old ++ word_lines opening.now words.now) }
 {
     for index in 0..words.len() {
-        push_word(alloc, text, index, words[index])?;
+        push_word(alloc, text, opening[index], index, words[index])?;
     }
     Ok(())
 }
 
 /// Adds the line of one word.
-fn push_word(alloc: Global, text: &mut String, index: usize, word: u64) -> Result<(), AllocError>
-    ensures { OnOk result (string_bytes text.new ≡ string_bytes text.old ++ word_line index word) }
+fn push_word(
+    alloc: Global,
+    text: &mut String,
+    before: u64,
+    index: usize,
+    word: u64,
+) -> Result<(), AllocError>
+    ensures { OnOk result (string_bytes text.new ≡ string_bytes text.old ++ word_line before index word) }
 {
-    if word == 0 {
+    if word == before {
         return Ok(());
     }
     let line = format!(in alloc; "word {index} {word}\n")?;

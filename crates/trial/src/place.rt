@@ -13,6 +13,7 @@ pub enum Name {
     General,
     Round,
     Taken,
+    Board,
 }
 
 impl Name {
@@ -27,6 +28,7 @@ impl Name {
             Name::General => "general",
             Name::Round => "round",
             Name::Taken => "taken",
+            Name::Board => "board",
         }
     }
 }
@@ -38,6 +40,8 @@ pub enum Place {
     Key(Name),
     /// An order of the list of those taken, counted from 0.
     Order(usize),
+    /// A word of the board, counted from 0.
+    Word(usize),
 }
 
 impl fmt::Display for Place {
@@ -50,6 +54,7 @@ impl fmt::Display for Place {
         match *self {
             Place::Key(name) => write!(f, "{}", name.text()),
             Place::Order(index) => write!(f, "taken[{index}]"),
+            Place::Word(index) => write!(f, "board[{index}]"),
         }
     }
 }

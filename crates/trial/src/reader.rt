@@ -1,10 +1,11 @@
 //! Settings, read from their text.
-ghost use Rattle.std.specs.Prelude.{◌≡◌, ◌-◌, ◌≤◌, min, Some};
+ghost use Rattle.std.specs.Prelude.{◌≡◌, ◌-◌, ◌≤◌, min, MatchBool, Some};
 ghost use Rattle.toml.specs.Parse.{parse_document};
 ghost use Rattle.toml.specs.View.{table_view};
 ghost use Rattle.trial.specs.Flaws.{Gives};
 ghost use Rattle.trial.specs.Checks.{setting};
 ghost use Rattle.trial.specs.Told.{Reads};
+ghost use Rattle.trial.specs.declared.fault.SettingError.TheVariants.{Memory, Toml};
 
 use crate::fault::SettingError;
 use crate::keys::{at, general, keys_are_known, number};
@@ -12,6 +13,7 @@ use crate::orders::taken;
 use crate::place::{Name, Place};
 use crate::relayed::labels_relayed;
 use crate::setting::Setting;
+use crate::words::board;
 use label::Shape;
 use std::alloc::Global;
 use toml::Table;
@@ -55,7 +57,19 @@ fn setting(alloc: Global, table: &Table) -> Result<Setting, SettingError>
         round,
     };
     let taken = taken(alloc, labels_relayed(shape), at(table, Name::Taken))?;
-    Ok(Setting::new(shape, bound, taken))
+    let board = board(at(table, Name::Board))?;
+    Ok(Setting::new(shape, bound, taken, board))
+}
+
+/// Why a text that was not parsed tells no setting: it is no TOML, or memory was refused.
+fn unparsed(is_memory: bool) -> SettingError
+    ensures { MatchBool is_memory (result ≡ Memory) (result ≡ Toml) }
+{
+    if is_memory {
+        SettingError::Memory
+    } else {
+        SettingError::Toml
+    }
 }
 
 /// The setting that a text tells.
@@ -63,17 +77,12 @@ fn setting(alloc: Global, table: &Table) -> Result<Setting, SettingError>
 /// # Errors
 ///
 /// The first fault, with its place: that the text is no TOML, then an unknown key (the least by bytes), then `generals`,
-/// `bound`, `commander`, `general`, `round` and `taken`.
+/// `bound`, `commander`, `general`, `round`, `taken` and `board`.
 pub fn read(alloc: Global, text: &str) -> Result<Setting, SettingError>
     ensures { Reads (parse_document text.now) result }
 {
     match toml::table_from_str(alloc, text) {
         Ok(table) => setting(alloc, &table),
-        Err(error) => {
-            if error.is_memory() {
-                return Err(SettingError::Memory);
-            }
-            Err(SettingError::Toml)
-        }
+        Err(error) => Err(unparsed(error.is_memory())),
     }
 }

@@ -1,12 +1,11 @@
 //! One run of a program, with a board of its own.
-ghost use Rattle.std.specs.Prelude.{◌≡◌, Some, IfOk, replicate};
+ghost use Rattle.std.specs.Prelude.{◌≡◌, Some, IfOk};
 ghost use Rattle.label.specs.Relay.{IsShape};
 ghost use Rattle.semantics.specs.Relay.{oral};
 ghost use Rattle.semantics.specs.State.{entry};
 ghost use Rattle.semantics.specs.Outbox.{empty_outbox};
 ghost use Rattle.machine.specs.Advance.{IsOfRun};
-ghost use Rattle.trial.specs.Setting.{context_in};
-ghost use Rattle.trial.specs.Trial.{trial, trial_on, IsOfOne, ServesOne};
+ghost use Rattle.trial.specs.Trial.{trial_in, trial_on, IsOfOne, ServesOne};
 
 use crate::setting::Setting;
 use board::Board;
@@ -28,34 +27,35 @@ pub struct Exited {
     pub board: Board,
 }
 
-/// Runs a program in a setting to its exit, with a board that begins with zeros.
+/// Runs a program in a setting to its exit.
 ///
 /// # Errors
 ///
 /// `AllocError` where the memory for the context, the outbox or an access is refused.
 pub fn run_in(alloc: Global, verified: &Verified, setting: &Setting) -> Result<Exited, AllocError>
-    ensures ending { IfOk result (λ e. trial verified.now (context_in setting.now) (oral setting.now.shape) ≡ Some (record { r0 = e.r0; state = e.activation.state; words = e.board.words })) }
+    ensures ending { IfOk result (λ e. trial_in setting.now verified.now ≡ Some (record { r0 = e.r0; state = e.activation.state; words = e.board.words })) }
     ensures relay { IfOk result (λ e. e.activation.relay ≡ oral setting.now.shape) }
-    ensures board { IfOk result (λ e. IsOfOne setting.now.shape e.board) }
+    ensures board { IfOk result (λ e. IsOfOne setting.now.shape setting.now.board e.board) }
 {
     let bytes = setting.context(alloc)?;
     let context = Context::new(bytes.as_slice());
-    run(alloc, verified, &context, setting.shape())
+    run(alloc, verified, &context, setting.shape(), setting.board())
 }
 
-/// Runs a program to its exit, in this context and with an outbox of this relay, with a board that begins with zeros.
+/// Runs a program to its exit, in this context and with an outbox of this relay, with a board that begins with these words.
 fn run(
     alloc: Global,
     verified: &Verified,
     context: &Context,
     shape: Shape,
+    words: [u64; 64],
 ) -> Result<Exited, AllocError>
     requires { IsShape shape }
-    ensures ending { IfOk result (λ e. trial verified.now context.now (oral shape) ≡ Some (record { r0 = e.r0; state = e.activation.state; words = e.board.words })) }
+    ensures ending { IfOk result (λ e. trial_on words verified.now context.now (oral shape) ≡ Some (record { r0 = e.r0; state = e.activation.state; words = e.board.words })) }
     ensures relay { IfOk result (λ e. e.activation.relay ≡ oral shape) }
-    ensures board { IfOk result (λ e. IsOfOne shape e.board) }
+    ensures board { IfOk result (λ e. IsOfOne shape words e.board) }
 {
-    let mut board = Board::new(alloc, [0; 64]);
+    let mut board = Board::new(alloc, words);
     let mut activation = Activation::start(verified, context, Outbox::new(alloc, shape)?);
     let r0 = run_on(&mut board, verified, context, shape, &mut activation)?;
     Ok(Exited {

@@ -8,13 +8,14 @@ use mem::Context;
 use std::alloc::{AllocError, Global};
 use std::marker::Model;
 
-/// What a program is tried in: whose relay it is, the campaign's bound, and the order that the general took for each
-/// label that he relays, by rank.
+/// What a program is tried in: whose relay it is, the campaign's bound, the order that the general took for each label that
+/// he relays, by rank, and the words of the board at first.
 #[derive(Debug, Drop)]
 pub struct Setting {
     shape: Shape,
     bound: u32,
     taken: Vec<u32>,
+    board: [u64; 64],
 }
 
 impl Model for Setting {
@@ -22,29 +23,31 @@ impl Model for Setting {
 
     ghost Value = { Told };
 
-    ghost view = { λ s. record { shape = s.shape; bound = s.bound; taken = s.taken.items } };
+    ghost view = { λ s. record { shape = s.shape; bound = s.bound; taken = s.taken.items; board = s.board } };
 
-    ghost invariant = { λ s. IsTold (record { shape = s.shape; bound = s.bound; taken = s.taken.items }) };
+    ghost invariant = { λ s. IsTold (record { shape = s.shape; bound = s.bound; taken = s.taken.items; board = s.board }) };
 }
 
 impl Setting {
-    /// The setting of a general's relay in a campaign with this bound, with an order for each label that he relays.
-    pub(crate) fn new(shape: Shape, bound: u32, taken: Vec<u32>) -> Setting
+    /// The setting of a general's relay in a campaign with this bound, with an order for each label that he relays, and a
+    /// board of these words.
+    pub(crate) fn new(shape: Shape, bound: u32, taken: Vec<u32>, board: [u64; 64]) -> Setting
         requires shape { IsShape shape }
         requires rounds { shape.round ≤ bound + 1 }
         requires few { bound ≤ 4 }
         requires enough { bound + 2 ≤ shape.generals }
         requires each { length taken.items ≡ length (relay shape) }
-        ensures { result ≡ record { shape = shape; bound = bound; taken = taken.items } }
+        ensures { result ≡ record { shape = shape; bound = bound; taken = taken.items; board = board } }
     {
         Setting {
             shape,
             bound,
             taken,
+            board,
         }
     }
 
-    /// Where a program is checked: the last of 4 generals in the first round, where he relays nothing.
+    /// Where a program is checked: the last of 4 generals in the first round, where he relays nothing, with a board of zeros.
     pub fn bench(alloc: Global) -> Setting
         ensures { result ≡ bench }
     {
@@ -54,7 +57,7 @@ impl Setting {
             general: 3,
             round: 1,
         };
-        Setting::new(shape, 1, Vec::new(alloc))
+        Setting::new(shape, 1, Vec::new(alloc), [0; 64])
     }
 
     /// Whose relay it is.
@@ -63,6 +66,13 @@ impl Setting {
         ensures within { IsShape result }
     {
         self.shape
+    }
+
+    /// The words of the board at first.
+    pub fn board(&self) -> [u64; 64]
+        ensures { result ≡ self.now.board }
+    {
+        self.board
     }
 
     /// What the general is told there: the 4,096 bytes of his context.

@@ -11,10 +11,11 @@ use Rattle.verify.specs.Judgement.{KnownSoFar, reached_at, passed_to}
 
 -- ---- the code beside the function
 
--- a step of the code leaves what is wanted, or answers the fault that is wanted; or memory was refused
+-- a step of the code leaves what is wanted, or answers the fault that is wanted; or memory was refused where no fault
+-- is wanted
 abbrev pub Does : Result KnownSoFar VerifyError → Result (Unit {0}) VerifyError → KnownSoFar → Type 0
 Does wanted (Ok u) reached = wanted ≡ Ok reached
-Does wanted (Err Memory) reached = Unit {0}
+Does wanted (Err Memory) reached = (left : KnownSoFar) × (wanted ≡ Ok left)
 Does wanted (Err fault) reached = wanted ≡ Err fault
 
 -- the code answers the fault that is wanted, if one is; or memory was refused

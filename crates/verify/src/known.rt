@@ -1,5 +1,5 @@
 //! What is known at each unit as the pass comes there.
-ghost use Rattle.std.specs.Prelude.{◌≡◌, ◌≢◌, None, IfOk, OnOk};
+ghost use Rattle.std.specs.Prelude.{◌≡◌, ◌≢◌, None, IfOk, OnErr, OnOk};
 ghost use Rattle.verify.specs.Structure.{structural_fault};
 ghost use Rattle.verify.specs.KnownAtUnits.{IsSurvey};
 
@@ -60,6 +60,7 @@ fn known_forward(alloc: Global, program: &Program) -> Result<Survey, AllocError>
 fn named(fault: VerifyError) -> Result<VerifyError, AllocError>
     ensures same { IfOk result (λ f. f ≡ fault) }
     ensures named { OnOk result (fault ≢ VerifyError.Memory) }
+    ensures memory { OnErr result (fault ≡ VerifyError.Memory) }
 {
     match fault {
         VerifyError::Memory => Err(AllocError),

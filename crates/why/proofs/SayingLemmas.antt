@@ -36,7 +36,7 @@ use Rattle.why.specs.Messages.{table_sentence}
 use Rattle.why.specs.Musters.{muster_sentence}
 use Rattle.why.specs.Mnemonics.{taken, takes_text}
 use Rattle.why.specs.Scenarios.{kind_sentence, missing_sentence, name_sentence, place_sentence, range_sentence as name_range_sentence, word_sentence}
-use Rattle.why.specs.Settings.{order_sentence, setting_kind_sentence, setting_name_sentence, setting_range_sentence, setting_sentence}
+use Rattle.why.specs.Settings.{order_sentence, setting_kind_sentence, setting_name_sentence, setting_range_sentence, setting_sentence, setting_word_sentence}
 
 -- one sentence or another
 if-says : (b : Bool) (s t : List ℕ) → s ≢ [] → t ≢ [] → cond b s t ≢ []
@@ -230,6 +230,7 @@ setting_kind-says setting_names.Commander = λ e. cc
 setting_kind-says setting_names.General = λ e. cc
 setting_kind-says setting_names.Round = λ e. cc
 setting_kind-says setting_names.Taken = λ e. cc
+setting_kind-says setting_names.Board = λ e. cc
 
 setting_range-says : (name : SettingName) → setting_range_sentence name ≢ []
 setting_range-says setting_names.Generals = λ e. cc
@@ -238,6 +239,7 @@ setting_range-says setting_names.Commander = λ e. cc
 setting_range-says setting_names.General = λ e. cc
 setting_range-says setting_names.Round = λ e. cc
 setting_range-says setting_names.Taken = λ e. cc
+setting_range-says setting_names.Board = λ e. cc
 
 setting_name-says : (f : SettingFault) (name : SettingName) → setting_name_sentence f name ≢ []
 setting_name-says setting.Key name = λ e. cc
@@ -251,6 +253,13 @@ order-says setting.Kind = λ e. cc
 order-says setting.Range = λ e. cc
 order-says setting.General = λ e. cc
 
+setting_word-says : (f : SettingFault) → setting_word_sentence f ≢ []
+setting_word-says setting.Key = λ e. cc
+setting_word-says setting.Kind = λ e. cc
+setting_word-says setting.Range = λ e. cc
+setting_word-says setting.General = λ e. cc
+
 pub setting-says : (f : SettingFault) (place : SettingPlace) → setting_sentence f place ≢ []
 setting-says f (setting_places.Key name) = setting_name-says f name
 setting-says f (setting_places.Order rank) = order-says f
+setting-says f (setting_places.Word slot) = setting_word-says f

@@ -24,11 +24,11 @@ use Rattle.toml.specs.Parse.{parse_document}
 use Rattle.why.specs.Assembly.{assembly_told, line_told}
 use Rattle.why.specs.Bytecode.{bytecode_told, unit_at, unit_marked}
 use Rattle.why.specs.Chronicles.{chronicle_line_told, chronicle_told, schedule_line_told, schedule_told}
-use Rattle.why.specs.Errors.{TellsScenario, TellsSetting}
+use Rattle.why.specs.Errors.{ReportsScenario, TellsSetting}
 use Rattle.why.specs.Keys.{Found, entry_line, found, header, table_of, value_end}
 use Rattle.why.specs.Laws.{IsInText, IsInUnit, IsReport, RefusalsAreTold}
 use Rattle.why.specs.Lines.{line_at}
-use Rattle.why.specs.Messages.{table_line_told, table_told}
+use Rattle.why.specs.Messages.{stranger_line_told, stranger_told, table_line_told, table_told}
 use Rattle.why.specs.Report.{Mark, report_text}
 use Rattle.why.specs.Scenarios.{at_end_told, at_line_told, code_line_told, is_long, line_behind, place_mark, place_told, program_line, program_told, source_line, text_told, entry_key_told, top_key_told, unknown_told}
 use Rattle.why.specs.Settings.{setting_place_told, setting_unknown_told, setting_word}
@@ -63,6 +63,14 @@ table_line name text f number (Some line) is = report (IsInText text) name _ _ _
 table_report : (name text : List ℕ) (f : TableFault) (number : ℕ) → IsReport (IsInText text) name (table_told name text f number)
 unfolding table_told
 table_report name text f number = table_line name text f number (line_at text number) refl
+
+stranger_line : (name text : List ℕ) (generals : ℕ) (line : Option (List ℕ)) → line_at text 1 ≡ line → IsReport (IsInText text) name (stranger_line_told name generals line)
+stranger_line name text generals None is = report (IsInText text) name _ _ _ (λ e. cc) tt
+stranger_line name text generals (Some line) is = report (IsInText text) name _ _ _ (λ e. cc) (marked-in text line 1 _ _ is)
+
+stranger_report : (name text : List ℕ) (generals : ℕ) → IsReport (IsInText text) name (stranger_told name text generals)
+unfolding stranger_told
+stranger_report name text generals = stranger_line name text generals (line_at text 1) refl
 
 schedule_line : (name text : List ℕ) (number : ℕ) (line : Option (List ℕ)) → line_at text number ≡ line → IsReport (IsInText text) name (schedule_line_told name number line)
 schedule_line name text number None is = report (IsInText text) name _ _ _ (λ e. cc) tt
@@ -165,7 +173,7 @@ unknown_report name text None key = report (IsInText text) name _ _ _ (λ e. cc)
 unknown_report name text (Some index) key = report (IsInText text) name _ _ _ (λ e. cc) (found-in text false key _ (entry-at index key text))
 
 scenario_report : (name text told : List ℕ) (error : ScenarioError) → (error ≡ scenario.Toml → IsUtf8 text × (parse_document text ≡ None))
-    → TellsScenario name text error told → IsReport (IsInText text) name told
+    → ReportsScenario name text error told → IsReport (IsInText text) name told
 scenario_report name text told scenario.Toml none tells = toml_report name text told (none refl) tells
 scenario_report name text told (scenario.Unknown at key) none tells = subst (IsReport (IsInText text) name) (sym tells) (unknown_report name text at _)
 scenario_report name text told (scenario.At f place) none tells = subst (IsReport (IsInText text) name) (sym tells) (place_report name text f place)
@@ -198,6 +206,7 @@ told = record {
   assembly = assembly_report;
   bytecode = bytecode_report;
   table = table_report;
+  stranger = stranger_report;
   schedule = schedule_report;
   chronicle = chronicle_report;
   object = object-says;

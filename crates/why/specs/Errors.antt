@@ -1,9 +1,10 @@
 -- What is said of each error of a scenario's or a setting's text.
-use Rattle.std.specs.Prelude.{ℕ, ◌≡◌, List, None, codes, string_bytes}
+use Rattle.std.specs.Prelude.{ℕ, ◌≡◌, List, ◌++◌, None, codes, string_bytes}
 use Rattle.scenario.specs.declared.fault.ScenarioError.{ScenarioError}
 use Rattle.scenario.specs.declared.fault.ScenarioError.TheVariants as scenario
 use Rattle.trial.specs.declared.fault.SettingError.{SettingError}
 use Rattle.trial.specs.declared.fault.SettingError.TheVariants as setting
+use Rattle.why.specs.Judged.{IsJudged, judged_of}
 use Rattle.why.specs.Report.{report_text}
 use Rattle.why.specs.Scenarios.{place_told, program_told, unknown_told}
 use Rattle.why.specs.Settings.{setting_place_told, setting_unknown_told}
@@ -12,13 +13,18 @@ use Rattle.why.specs.Toml.{TellsToml}
 abbrev pub memory_told : List ℕ → List ℕ
 memory_told name = report_text name (codes "there is not enough memory") None None
 
--- the text behind the line of a scenario's error
+-- the report of a scenario's error
+abbrev pub ReportsScenario : List ℕ → List ℕ → ScenarioError → List ℕ → Type 0
+ReportsScenario name text scenario.Toml told = TellsToml name text told
+ReportsScenario name text (scenario.Unknown at key) told = told ≡ unknown_told name text at (string_bytes key)
+ReportsScenario name text (scenario.At fault place) told = told ≡ place_told name text fault place
+ReportsScenario name text (scenario.Program general fault) told = told ≡ program_told name text general fault
+ReportsScenario name text scenario.Memory told = told ≡ memory_told name
+
+-- the text behind the line of a scenario's error: the report, and of a program that the verifier refuses its explanation
 abbrev pub TellsScenario : List ℕ → List ℕ → ScenarioError → List ℕ → Type 0
-TellsScenario name text scenario.Toml told = TellsToml name text told
-TellsScenario name text (scenario.Unknown at key) told = told ≡ unknown_told name text at (string_bytes key)
-TellsScenario name text (scenario.At fault place) told = told ≡ place_told name text fault place
-TellsScenario name text (scenario.Program general fault) told = told ≡ program_told name text general fault
-TellsScenario name text scenario.Memory told = told ≡ memory_told name
+TellsScenario name text error told =
+    (report : List ℕ) × ReportsScenario name text error report × ((behind : List ℕ) × IsJudged text (judged_of error) behind × (told ≡ report ++ behind))
 
 -- that of a setting's
 abbrev pub TellsSetting : List ℕ → List ℕ → SettingError → List ℕ → Type 0

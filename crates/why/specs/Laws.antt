@@ -14,9 +14,9 @@ use Rattle.toml.specs.Parse.{parse_document}
 use Rattle.why.specs.Assembly.{assembly_told}
 use Rattle.why.specs.Bytecode.{bytecode_told, unit_at}
 use Rattle.why.specs.Chronicles.{chronicle_told, schedule_told}
-use Rattle.why.specs.Errors.{TellsScenario, TellsSetting}
+use Rattle.why.specs.Errors.{ReportsScenario, TellsSetting}
 use Rattle.why.specs.Lines.{line_at, trimmed}
-use Rattle.why.specs.Messages.{table_told}
+use Rattle.why.specs.Messages.{stranger_told, table_told}
 use Rattle.why.specs.Musters.{muster_sentence}
 use Rattle.elf.specs.Sentences.{sentence_of}
 use Rattle.elf.specs.declared.fault.Fault.{Fault as ObjectFault}
@@ -49,11 +49,12 @@ pub record RefusalsAreTold : Type 0 where
   pub assembly : (name text : List ℕ) (fault : AsmFault) (line : ℕ) → IsReport (IsInText text) name (assembly_told name text fault line)
   pub bytecode : (name bytes : List ℕ) (fault : CodecFault) (unit : ℕ) → IsReport (IsInUnit bytes) name (bytecode_told name bytes fault unit)
   pub table : (name text : List ℕ) (fault : TableFault) (line : ℕ) → IsReport (IsInText text) name (table_told name text fault line)
+  pub stranger : (name text : List ℕ) (generals : ℕ) → IsReport (IsInText text) name (stranger_told name text generals)
   pub schedule : (name text : List ℕ) (line : ℕ) → IsReport (IsInText (take 1048576 text)) name (schedule_told name text line)
   pub chronicle : (name text : List ℕ) (fault : TraceFault) (line : ℕ) (wanted : Option (List ℕ)) → IsReport (IsInText text) name (chronicle_told name text fault line wanted)
   pub object : (fault : ObjectFault) → sentence_of fault ≢ []
   pub muster : (error : MusterError) → muster_sentence error ≢ []
   pub scenario : (name text told : List ℕ) (error : ScenarioError) → (error ≡ scenario.Toml → IsUtf8 text × (parse_document text ≡ None))
-      → TellsScenario name text error told → IsReport (IsInText text) name told
+      → ReportsScenario name text error told → IsReport (IsInText text) name told
   pub setting : (name text told : List ℕ) (error : SettingError) → (error ≡ setting.Toml → IsUtf8 text × (parse_document text ≡ None))
       → TellsSetting name text error told → IsReport (IsInText text) name told

@@ -11,5 +11,6 @@ pub mod Keys
 pub mod Toml
 pub mod Scenarios
 pub mod Settings
+pub mod Judged
 pub mod Errors
 pub mod Laws

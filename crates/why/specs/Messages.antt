@@ -1,5 +1,5 @@
 -- What is said of a fault of a message table.
-use Rattle.std.specs.Prelude.{ℕ, List, ◌==◌, ◌||◌, if◌then◌else◌, Option, None, Some, codes, length}
+use Rattle.std.specs.Prelude.{ℕ, List, ◌++◌, ◌-◌, ◌==◌, ◌||◌, if◌then◌else◌, Option, None, Some, codes, decimal, length}
 use Rattle.book.specs.declared.fault.Fault.{Fault}
 use Rattle.book.specs.declared.fault.Fault.TheVariants as fault
 use Rattle.why.specs.Assembly.{begins_marked, has}
@@ -36,3 +36,16 @@ table_line_told name f number (Some line) = report_text name (table_sentence f n
 -- of a fault at a line of the text of a file with this name
 unfoldable pub table_told : List ℕ → List ℕ → Fault → ℕ → List ℕ
 table_told name text f number = table_line_told name f number (line_at text number)
+
+-- ---- a general who is named, and is none of the table's
+
+abbrev pub stranger_sentence : ℕ → List ℕ
+stranger_sentence generals = codes "the table has the generals 0 to " ++ decimal (generals - 1)
+
+abbrev pub stranger_line_told : List ℕ → ℕ → Option (List ℕ) → List ℕ
+stranger_line_told name generals None = report_text name (stranger_sentence generals) None None
+stranger_line_told name generals (Some line) = report_text name (stranger_sentence generals) (Some (all_marked 1 (trimmed line))) None
+
+-- of a table of so many, the text of a file with this name: at its first line
+unfoldable pub stranger_told : List ℕ → List ℕ → ℕ → List ℕ
+stranger_told name text generals = stranger_line_told name generals (line_at text 1)

@@ -26,7 +26,7 @@ use Rattle.why.specs.Report.{Mark, near_words, report_text}
 
 abbrev pub missing_sentence : Name → List ℕ
 missing_sentence names.Rule = codes "a signed campaign combines nothing, and has no rule"
-missing_sentence names.Asm = codes "a traitor's table has one of `asm`, `code`, `asm_file` and `code_file`, and no second"
+missing_sentence names.Asm = codes "a traitor's table has one of `asm`, `code`, `asm_file`, `code_file` and `elf`, and no second"
 missing_sentence name = codes "the key `" ++ text_of name ++ codes "` is missing"
 
 abbrev pub kind_sentence : Name → List ℕ
@@ -87,7 +87,7 @@ top_keys =
     codes "generals" ∷ codes "bound" ∷ codes "commander" ∷ codes "order" ∷ codes "board" ∷ codes "patience" ∷ codes "rule" ∷ codes "messages" ∷ codes "traitor" ∷ []
 
 abbrev pub entry_keys : List (List ℕ)
-entry_keys = codes "general" ∷ codes "generals" ∷ codes "asm" ∷ codes "asm_file" ∷ codes "code" ∷ codes "code_file" ∷ []
+entry_keys = codes "general" ∷ codes "generals" ∷ codes "asm" ∷ codes "asm_file" ∷ codes "code" ∷ codes "code_file" ∷ codes "elf" ∷ codes "entry" ∷ []
 
 -- the sentence, the key in its line, and a key that is near
 abbrev pub key_told : List ℕ → List ℕ → List ℕ → Option Found → Option (List ℕ) → List ℕ

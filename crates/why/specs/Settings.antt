@@ -13,6 +13,7 @@ use Rattle.why.specs.Report.{Mark, near_words, report_text}
 
 abbrev pub setting_kind_sentence : Name → List ℕ
 setting_kind_sentence names.Taken = codes "the orders taken are a list of whole numbers"
+setting_kind_sentence names.Board = codes "the board is a list of whole numbers"
 setting_kind_sentence name = codes "a whole number is wanted here"
 
 abbrev pub setting_range_sentence : Name → List ℕ
@@ -20,6 +21,7 @@ setting_range_sentence names.Generals = codes "there are 2 to 13 generals"
 setting_range_sentence names.Bound = codes "a bound is 0 to 4, and at most generals - 2"
 setting_range_sentence names.Round = codes "a round is 1 to bound + 1"
 setting_range_sentence names.Taken = codes "these are more orders than he relays labels in this round"
+setting_range_sentence names.Board = codes "a board has at most 64 words"
 setting_range_sentence name = codes "this value is out of its range"
 
 abbrev pub setting_name_sentence : Fault → Name → List ℕ
@@ -32,13 +34,19 @@ abbrev pub order_sentence : Fault → List ℕ
 order_sentence faults.Kind = codes "an order that was taken is a whole number"
 order_sentence f = codes "an order is 0 to 4294967295"
 
+abbrev pub setting_word_sentence : Fault → List ℕ
+setting_word_sentence faults.Kind = codes "a word of the board is a whole number"
+setting_word_sentence f = codes "a word of the board is 0 to 2^63 - 1"
+
 abbrev pub setting_sentence : Fault → Place → List ℕ
 setting_sentence f (places.Key name) = setting_name_sentence f name
 setting_sentence f (places.Order rank) = order_sentence f
+setting_sentence f (places.Word slot) = setting_word_sentence f
 
 abbrev pub setting_word : Place → List ℕ
 setting_word (places.Key name) = text_of name
 setting_word (places.Order rank) = codes "taken"
+setting_word (places.Word slot) = codes "board"
 
 -- the value that is at fault: a key that is missing stands nowhere
 abbrev pub setting_mark : Place → List ℕ → Option Mark
@@ -48,7 +56,7 @@ unfoldable pub setting_place_told : List ℕ → List ℕ → Fault → Place �
 setting_place_told name text f place = report_text name (setting_sentence f place) (setting_mark place text) None
 
 abbrev pub setting_keys : List (List ℕ)
-setting_keys = codes "generals" ∷ codes "bound" ∷ codes "commander" ∷ codes "general" ∷ codes "round" ∷ codes "taken" ∷ []
+setting_keys = codes "generals" ∷ codes "bound" ∷ codes "commander" ∷ codes "general" ∷ codes "round" ∷ codes "taken" ∷ codes "board" ∷ []
 
 unfoldable pub setting_unknown_told : List ℕ → List ℕ → List ℕ → List ℕ
 setting_unknown_told name text key =

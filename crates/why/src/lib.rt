@@ -4,6 +4,7 @@
 mod assembly;
 mod bytecode;
 mod chronicles;
+mod judged;
 mod keys;
 mod laws;
 mod lines;
@@ -22,6 +23,6 @@ pub use assembly::of_assembly;
 pub use bytecode::of_bytecode;
 pub use chronicles::{of_chronicle, of_schedule};
 pub use laws::refusals_are_told;
-pub use messages::of_table;
+pub use messages::{of_stranger, of_table};
 pub use musters::of_muster;
 pub use telling::{of_scenario, of_setting};

@@ -1,6 +1,6 @@
 //! What is said of a fault of a message table.
 ghost use Rattle.std.specs.Prelude.{◌≡◌, IfOk, option_map, string_bytes};
-ghost use Rattle.why.specs.Messages.{shape_advice, table_advice, table_line_told, table_sentence, table_told};
+ghost use Rattle.why.specs.Messages.{shape_advice, stranger_line_told, stranger_told, table_advice, table_line_told, table_sentence, table_told};
 ghost use Rattle.why.specs.Report.{help_words};
 
 use crate::assembly::{begins_marked, has};
@@ -88,4 +88,36 @@ pub fn of_table(
     ensures { IfOk result (λ told. string_bytes told ≡ table_told name.now text.now fault number) }
 {
     line_told(alloc, name, fault, number, line_at(text, number))
+}
+
+/// What is said of a general who is named, and is none of a table's, whose first line this is.
+fn stranger_line_told(
+    alloc: Global,
+    name: &str,
+    generals: u8,
+    line: Option<&[u8]>,
+) -> Result<String, AllocError>
+    ensures { IfOk result (λ told. string_bytes told ≡ stranger_line_told name.now generals (option_map (λ l. l.now) line.entry)) }
+{
+    let last = generals.saturating_sub(1);
+    let sentence = format!(in alloc; "the table has the generals 0 to {last}")?;
+    let Some(line) = line else {
+        return report(alloc, name, sentence.as_str(), None, None);
+    };
+    let mark = all_marked(1, trimmed(line));
+    report(alloc, name, sentence.as_str(), Some(mark), None)
+}
+
+/// What is said of a general who is named, and is none of the generals of the message table of the file with this name: how
+/// many there are, at its first line.
+#[tactic(auto, unfolding(crate::specs::Messages::stranger_told))]
+pub fn of_stranger(
+    alloc: Global,
+    name: &str,
+    text: &[u8],
+    generals: u8,
+) -> Result<String, AllocError>
+    ensures { IfOk result (λ told. string_bytes told ≡ stranger_told name.now text.now generals) }
+{
+    stranger_line_told(alloc, name, generals, line_at(text, 1))
 }

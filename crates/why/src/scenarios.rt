@@ -25,13 +25,15 @@ static TOP_KEYS: [&'static str; 9] = [
 ];
 
 /// Those of a traitor's table.
-static ENTRY_KEYS: [&'static str; 6] = [
+static ENTRY_KEYS: [&'static str; 8] = [
     "general",
     "generals",
     "asm",
     "asm_file",
     "code",
     "code_file",
+    "elf",
+    "entry",
 ];
 
 /// What is missing.
@@ -45,7 +47,7 @@ fn missing_sentence(alloc: Global, name: Name) -> Result<String, AllocError>
         ),
         Name::Asm => String::from_str(
             alloc,
-            "a traitor's table has one of `asm`, `code`, `asm_file` and `code_file`, and no second",
+            "a traitor's table has one of `asm`, `code`, `asm_file`, `code_file` and `elf`, and no second",
         ),
         name => format!(in alloc; "the key `{}` is missing", name.text()),
     }

@@ -31,7 +31,11 @@ fn program_line<'a>(
 }
 
 /// The line of the program: that of its assembly, else that of its bytecode.
-fn source_line(alloc: Global, general: u8, text: &[u8]) -> Result<Option<Found<'_>>, AllocError>
+pub(crate) fn source_line(
+    alloc: Global,
+    general: u8,
+    text: &[u8],
+) -> Result<Option<Found<'_>>, AllocError>
     ensures { IfOk result (λ line. option_map found_view line ≡ source_line general text.now) }
 {
     match program_line(alloc, general, b"asm", text)? {
@@ -41,7 +45,7 @@ fn source_line(alloc: Global, general: u8, text: &[u8]) -> Result<Option<Found<'
 }
 
 /// Whether a text goes on over lines.
-fn is_long(value: &[u8]) -> bool
+pub(crate) fn is_long(value: &[u8]) -> bool
     ensures { result ≡ is_long value.now }
 {
     value.starts_with(b"\"\"\"") || value.starts_with(b"'''")

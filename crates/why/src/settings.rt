@@ -2,7 +2,7 @@
 ghost use Rattle.std.specs.Prelude.{◌≡◌, IfOk, option_map, string_bytes};
 ghost use Rattle.why.specs.Nearest.{near};
 ghost use Rattle.why.specs.Report.{mark_view};
-ghost use Rattle.why.specs.Settings.{order_sentence, setting_keys, setting_kind_sentence, setting_mark, setting_name_sentence, setting_place_told, setting_range_sentence, setting_sentence, setting_unknown_told, setting_word};
+ghost use Rattle.why.specs.Settings.{order_sentence, setting_keys, setting_kind_sentence, setting_mark, setting_name_sentence, setting_place_told, setting_range_sentence, setting_sentence, setting_unknown_told, setting_word, setting_word_sentence};
 
 use crate::keys::find_line;
 use crate::nearest::near;
@@ -12,13 +12,14 @@ use std::alloc::{AllocError, Global};
 use trial::{Fault, Name, Place};
 
 /// The keys of a setting.
-static KEYS: [&'static str; 6] = [
+static KEYS: [&'static str; 7] = [
     "generals",
     "bound",
     "commander",
     "general",
     "round",
     "taken",
+    "board",
 ];
 
 /// Of which kind the value is to be.
@@ -27,6 +28,7 @@ fn kind_sentence(name: Name) -> &'static str
 {
     match name {
         Name::Taken => "the orders taken are a list of whole numbers",
+        Name::Board => "the board is a list of whole numbers",
         _ => "a whole number is wanted here",
     }
 }
@@ -40,6 +42,7 @@ fn range_sentence(name: Name) -> &'static str
         Name::Bound => "a bound is 0 to 4, and at most generals - 2",
         Name::Round => "a round is 1 to bound + 1",
         Name::Taken => "these are more orders than he relays labels in this round",
+        Name::Board => "a board has at most 64 words",
         _ => "this value is out of its range",
     }
 }
@@ -67,6 +70,16 @@ fn order_sentence(fault: Fault) -> &'static str
     }
 }
 
+/// What is wrong with a word of the board.
+fn word_sentence(fault: Fault) -> &'static str
+    ensures { result.now ≡ setting_word_sentence fault }
+{
+    match fault {
+        Fault::Kind => "a word of the board is a whole number",
+        _ => "a word of the board is 0 to 2^63 - 1",
+    }
+}
+
 /// What is wrong at a place.
 fn sentence(alloc: Global, fault: Fault, place: Place) -> Result<String, AllocError>
     ensures { IfOk result (λ text. string_bytes text ≡ setting_sentence fault place) }
@@ -74,6 +87,7 @@ fn sentence(alloc: Global, fault: Fault, place: Place) -> Result<String, AllocEr
     match place {
         Place::Key(name) => name_sentence(alloc, fault, name),
         Place::Order(_) => String::from_str(alloc, order_sentence(fault)),
+        Place::Word(_) => String::from_str(alloc, word_sentence(fault)),
     }
 }
 
@@ -84,6 +98,7 @@ fn word(place: Place) -> &'static str
     match place {
         Place::Key(name) => name.text(),
         Place::Order(_) => "taken",
+        Place::Word(_) => "board",
     }
 }
 

@@ -1,7 +1,8 @@
 //! What is said of the errors of a scenario and a setting.
 ghost use Rattle.std.specs.Prelude.{IfOk, string_bytes};
-ghost use Rattle.why.specs.Errors.{TellsScenario, TellsSetting};
+ghost use Rattle.why.specs.Errors.{ReportsScenario, TellsScenario, TellsSetting};
 
+use crate::judged::judged;
 use crate::report::report;
 use crate::seated::program_told;
 use crate::unread::not_toml;
@@ -10,7 +11,8 @@ use scenario::ScenarioError;
 use std::alloc::{AllocError, Global};
 use trial::SettingError;
 
-/// What is said of an error of the scenario of the file with this name.
+/// What is said of an error of the scenario of the file with this name: the report, and behind that of a program that the
+/// verifier refuses its explanation.
 pub fn of_scenario(
     alloc: Global,
     name: &str,
@@ -18,6 +20,21 @@ pub fn of_scenario(
     error: &ScenarioError,
 ) -> Result<String, AllocError>
     ensures { IfOk result (λ told. TellsScenario name.now text.now error.now (string_bytes told)) }
+{
+    let mut told = scenario_report(alloc, name, text, error)?;
+    let behind = judged(alloc, text, error)?;
+    told.push_str(behind.as_str())?;
+    Ok(told)
+}
+
+/// The report of an error of the scenario of the file with this name.
+fn scenario_report(
+    alloc: Global,
+    name: &str,
+    text: &[u8],
+    error: &ScenarioError,
+) -> Result<String, AllocError>
+    ensures { IfOk result (λ told. ReportsScenario name.now text.now error.now (string_bytes told)) }
 {
     match error {
         ScenarioError::Toml => not_toml(alloc, name, text),

@@ -7,19 +7,19 @@ use Rattle.book.proofs.explaining.explain.Goals as goal
 use Rattle.book.proofs.explaining.explain.Goals.{then-general-commander+in_ok-push_lieutenant, else-general-commander}
 
 pub loop-general-preserved : goal.loop-general-preserved
-loop-general-preserved c =
-    let line = lieutenant_lines c.args.table.now c.args.traitors.now in
+loop-general-preserved g c =
+    let line = lieutenant_lines (g.H.Heard.seen c.args.table.now) c.args.traitors.now in
     elim c.if-general-commander.branch [
       | then-general-commander+in_ok-push_lieutenant w ↦
-          let off = off_first c.args.table.now.commander c.loop-general.general [] (λ e. w.if-general-commander.true (e ∙ sym c.commander.ensures.value)) refl in
-          rw (w.lines-is, w.in_ok-push_lieutenant.ensures, c.loop-general.invariant) (sym (lines_yes line (c.args.table.now.commander ∷ []) c.loop-general.general off))
+          let off = off_first (g.H.Heard.seen c.args.table.now).commander c.loop-general.general [] (λ e. w.if-general-commander.true (e ∙ sym c.commander.ensures.value)) refl in
+          rw (w.lines-is, w.in_ok-push_lieutenant.ensures, c.loop-general.invariant) (sym (lines_yes line ((g.H.Heard.seen c.args.table.now).commander ∷ []) c.loop-general.general off))
       | else-general-commander w ↦
-          let first = on_first c.args.table.now.commander c.loop-general.general [] (w.if-general-commander.false ∙ c.commander.ensures.value) in
-          rw (w.lines-is, c.loop-general.invariant) (sym (lines_no line (c.args.table.now.commander ∷ []) c.loop-general.general first))
+          let first = on_first (g.H.Heard.seen c.args.table.now).commander c.loop-general.general [] (w.if-general-commander.false ∙ c.commander.ensures.value) in
+          rw (w.lines-is, c.loop-general.invariant) (sym (lines_no line ((g.H.Heard.seen c.args.table.now).commander ∷ []) c.loop-general.general first))
     ]
 
 pub returns : goal.returns
-returns c =
+returns g c =
     let value = c.generals-general-end.ensures.value in
-    let all : c.loop-general.general ≡ c.args.table.now.generals = omega arith in
-    explained_whole c.args.table.now c.args.traitors.now c.loop-general.general c.judge.result (string_bytes c.loop-general.lines) (string_bytes c.push_conditions.new.lines) all c.loop-general.invariant c.judge.ensures c.in_ok-push_conditions.ensures
+    let all : c.loop-general.general ≡ (g.H.Heard.seen c.args.table.now).generals = omega arith in
+    explained_whole (g.H.Heard.seen c.args.table.now) c.args.traitors.now c.loop-general.general c.judge.result (string_bytes c.loop-general.lines) (string_bytes c.push_conditions.new.lines) all c.loop-general.invariant c.judge.ensures c.in_ok-push_conditions.ensures

@@ -6,4 +6,4 @@ use Rattle.book.specs.Explained.{lieutenant_lines}
 use Rattle.book.proofs.explaining.explain.Given as goal
 
 abbrev pub invariant-loop-general : goal.invariant-loop-general
-invariant-loop-general l = string_bytes l.lines ≡ flat_map (lieutenant_lines l.table l.traitors) (others l.general (l.table.commander ∷ []))
+invariant-loop-general g l = string_bytes l.lines ≡ flat_map (lieutenant_lines (g.H.Heard.seen l.table) l.traitors) (others l.general ((g.H.Heard.seen l.table).commander ∷ []))

@@ -4,4 +4,4 @@ use Rattle.book.specs.Decisions.{decision_of}
 use Rattle.book.proofs.judging.loyal_decisions.Given as goal
 
 abbrev pub invariant-loop-general : goal.invariant-loop-general
-invariant-loop-general l = l.decisions.items ≡ map (decision_of l.table) (others l.general (l.table.commander ∷ l.traitors))
+invariant-loop-general g l = l.decisions.items ≡ map (decision_of (g.H.Heard.seen l.table)) (others l.general ((g.H.Heard.seen l.table).commander ∷ l.traitors))

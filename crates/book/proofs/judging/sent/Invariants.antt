@@ -4,4 +4,4 @@ use Rattle.book.specs.Table.{told}
 use Rattle.book.proofs.judging.sent.Given as goal
 
 abbrev pub invariant-loop-general : goal.invariant-loop-general
-invariant-loop-general l = l.orders.items ≡ map (told l.table.messages (l.table.commander ∷ [])) (others l.general (l.table.commander ∷ []))
+invariant-loop-general g l = l.orders.items ≡ map (told (g.H.Heard.seen l.table).messages ((g.H.Heard.seen l.table).commander ∷ [])) (others l.general ((g.H.Heard.seen l.table).commander ∷ []))

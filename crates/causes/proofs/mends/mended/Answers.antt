@@ -1,7 +1,7 @@
 use Rattle.std.proofs.Common.{◌≤◌, ◌<◌, ◌+◌, arith, length}
 use Rattle.insn.specs.Program.{slots_of}
 use Rattle.insn.proofs.SlotLemmas.{slots_so_far, units_bound, length-le-slots_of}
-use Rattle.causes.proofs.MendLemmas.{mended_so_far, starts_inside}
+use Rattle.causes.proofs.MendLemmas.{edited_few, few_more, mended_so_far, starts_inside}
 use Rattle.causes.proofs.mends.mended.Goals as goal
 
 pub push_edited-requires-clause-unit : goal.push_edited-requires-clause-unit
@@ -20,9 +20,9 @@ overflow_add-unit c =
 pub loop-insn-preserved : goal.loop-insn-preserved
 loop-insn-preserved c =
     let lt : c.loop-insn.insn-index < length c.args.insns.now = omega arith in record {
-      so_far = mended_so_far _ _ c.args.insns.now c.args.edit.now c.args.place c.loop-insn.insn-index _ _ lt c.insn-item.is c.loop-insn.invariant.here c.loop-insn.invariant.so_far c.in_ok-push_edited.ensures.pushed;
+      so_far = mended_so_far _ _ c.args.insns.now c.args.edit.now c.args.place c.loop-insn.insn-index _ _ lt c.insn-item.is c.loop-insn.invariant.here c.loop-insn.invariant.so_far c.in_ok-push_edited.ensures;
       here = slots_so_far c.args.insns.now c.loop-insn.insn-index _ _ _ lt c.insn-item.is c.loop-insn.invariant.here c.units.ensures.units;
-      few = let more = c.in_ok-push_edited.ensures.few in let less = c.loop-insn.invariant.few in omega arith;
+      few = few_more _ _ _ c.loop-insn.insn-index c.loop-insn.invariant.few (edited_few c.args.edit.now c.args.place c.loop-insn.unit _) c.in_ok-push_edited.ensures;
     }
 
 pub returns-clause-few : goal.returns-clause-few

@@ -7,5 +7,5 @@ abbrev pub invariant-loop-insn : goal.invariant-loop-insn
 invariant-loop-insn l = record {
   so_far : l.out.items ≡ mended l.edit l.place 0 (take l.insn-index l.insns);
   here : l.unit ≡ length (slots_of (take l.insn-index l.insns));
-  few : length l.out.items ≤ 2 * l.insn-index;
+  few : length l.out.items ≤ 3 * l.insn-index;
 }

@@ -1,8 +1,8 @@
 use Rattle.std.proofs.Common.{◌≤◌, ◌<◌, ◌+◌, arith, length, string_bytes}
-use Rattle.std.specs.Prelude.{slice_get}
 use Rattle.insn.specs.Program.{slots_of}
 use Rattle.insn.proofs.SlotLemmas.{slots_so_far, units_bound}
-use Rattle.explain.specs.Units.{places_in}
+use Rattle.explain.specs.Here.{known_of}
+use Rattle.explain.specs.Units.{written_in}
 use Rattle.explain.proofs.UnitLemmas.{known_lines_so_far}
 use Rattle.explain.proofs.lines.put_units.Goals as goal
 
@@ -15,6 +15,6 @@ overflow_add-unit c =
 pub loop-insn-preserved : goal.loop-insn-preserved
 loop-insn-preserved c =
     let lt : c.loop-insn.insn-index < length c.args.insns.now = omega arith in (
-      known_lines_so_far (places_in c.args.places.now) (string_bytes c.args.out.now) _ _ c.args.insns.now (slice_get c.args.states.now) c.args.fault.now c.loop-insn.insn-index _ _ lt c.insn-item.is c.loop-insn.invariant.1 c.loop-insn.invariant.0 c.in_ok-put_reached.ensures,
+      known_lines_so_far (written_in c.args.written.now) c.args.surveyed.now.program.now (string_bytes c.args.out.now) _ _ c.args.insns.now (known_of c.args.surveyed.now) c.args.fault.now c.loop-insn.insn-index _ _ lt c.insn-item.is c.loop-insn.invariant.1 c.loop-insn.invariant.0 c.in_ok-put_reached.ensures,
       slots_so_far c.args.insns.now c.loop-insn.insn-index _ _ _ lt c.insn-item.is c.loop-insn.invariant.1 c.units.ensures.units,
     )

@@ -2,9 +2,8 @@
 use Rattle.std.proofs.Common.{◌∙◌, List, length, ap, sym, refl}
 use Rattle.insn.specs.declared.insn.Insn.{Insn}
 use Rattle.insn.specs.Program.{slots_of}
-use Rattle.semantics.specs.Relay.{oral}
-use Rattle.trial.specs.Setting.{Setting, context_in}
-use Rattle.trial.specs.Trial.{trial}
+use Rattle.trial.specs.Setting.{Setting}
+use Rattle.trial.specs.Trial.{trial_in}
 use Rattle.lab.proofs.checking.run.Goals as goal
 
 pub returns : goal.returns
@@ -17,7 +16,7 @@ returns c =
       instructions = c.len.ensures.len ∙ ap length c.program-program.ensures.same;
       units = c.units.ensures.units ∙ ap (λ (p : List Insn). length (slots_of p)) c.program-program.ensures.same;
       ending = record { r0 = e.r0; state = e.activation.state; words = e.board.words };
-      ended = ap (λ (s : Setting). trial program (context_in s) (oral s.shape)) (sym c.bench.ensures) ∙ c.in_ok-exited.ensures.ending;
+      ended = ap (λ (s : Setting). trial_in s program) (sym c.bench.ensures) ∙ c.in_ok-exited.ensures.ending;
       r0 = refl;
       steps = c.steps.ensures;
     }

@@ -4,8 +4,8 @@ use Rattle.lab.specs.Answers.{ComesTo, Prints}
 use Rattle.lab.specs.Hints.{explained_in}
 use Rattle.lab.specs.Whys.{Nothing, TellsWhyOf, is_explained}
 use Rattle.lab.specs.Serving.{Files, IsTrialOf, files}
-use Rattle.lab.specs.declared.first_answer.FirstAnswer.TheVariants.{Text, Bytes, Trial, Play, Muster, Audit}
-use Rattle.lab.proofs.FilesLemmas.{answered_alone, answered_audited, answered_mustered, answered_played, answered_tried, prevented_later, second_named}
+use Rattle.lab.specs.declared.first_answer.FirstAnswer.TheVariants.{Text, Bytes, Trial, Play, Muster, Audit, Draw, DrawRecorded, Retrace}
+use Rattle.lab.proofs.FilesLemmas.{answered_alone, answered_audited, answered_drawn, answered_mustered, answered_played, answered_recorded, answered_retraced, answered_tried, prevented_later, second_named}
 use Rattle.lab.specs.Faults.{IsToldIf}
 use Rattle.lab.specs.declared.failure.Failure.{Failure}
 use Rattle.lab.specs.declared.refusal.Refusal.{Refusal}
@@ -114,6 +114,66 @@ returns-in-Ok-Audit-clause-fault g c =
     prevented_later c.args.task.now both _ _ c.in_ok-bytes.bytes.items c.unwrap_or-file.result.now (Audit c.in-Ok-Audit.campaign c.in-Ok-Audit.explained) c.is_explained-reported.result fault c.in_ok-bytes.ensures.whole comes
     (second_named c.args.task.now c.second.result c.unwrap_or-file.result _ c.second.ensures c.unwrap_or-file.ensures refl) c.is_explained-reported.ensures why)
     c.audit_of.ensures.fault
+
+pub returns-in-Ok-Draw-clause-answer : goal.returns-in-Ok-Draw-clause-answer
+returns-in-Ok-Draw-clause-answer g c =
+    let both : Files = files g.R.Source.bytes c.args.first c.args.second in
+    let is : c.in-Ok-Draw.field-0 ≡ Draw c.in-Ok-Draw.scenario = c.in-Ok-Draw.field-0-is in
+    let comes : ComesTo c.args.task.now c.in_ok-bytes.bytes.items (Draw c.in-Ok-Draw.scenario) = rw (c.as_slice.ensures.value, is) at c.in-Ok-Draw.ensures.answered in
+    IfOk-weaker c.draw_by.result _ _
+    (λ text by. answered_drawn c.args.task.now both c.in_ok-bytes.bytes.items text.items c.in-Ok-Draw.scenario c.in_ok-bytes.ensures.whole comes by)
+    c.draw_by.ensures.drawn
+
+pub returns-in-Ok-Draw-clause-fault : goal.returns-in-Ok-Draw-clause-fault
+returns-in-Ok-Draw-clause-fault g c =
+    let both : Files = files g.R.Source.bytes c.args.first c.args.second in
+    let is : c.in-Ok-Draw.field-0 ≡ Draw c.in-Ok-Draw.scenario = c.in-Ok-Draw.field-0-is in
+    let comes : ComesTo c.args.task.now c.in_ok-bytes.bytes.items (Draw c.in-Ok-Draw.scenario) = rw (c.as_slice.ensures.value, is) at c.in-Ok-Draw.ensures.answered in
+    IfErr-weaker c.draw_by.result _ _
+    (λ fault why.
+    prevented_later c.args.task.now both _ _ c.in_ok-bytes.bytes.items c.unwrap_or-file.result.now (Draw c.in-Ok-Draw.scenario) c.is_explained-reported.result fault c.in_ok-bytes.ensures.whole comes
+    (second_named c.args.task.now c.second.result c.unwrap_or-file.result _ c.second.ensures c.unwrap_or-file.ensures refl) c.is_explained-reported.ensures why)
+    c.draw_by.ensures.fault
+
+pub returns-in-Ok-DrawRecorded-clause-answer : goal.returns-in-Ok-DrawRecorded-clause-answer
+returns-in-Ok-DrawRecorded-clause-answer g c =
+    let both : Files = files g.R.Source.bytes c.args.first c.args.second in
+    let is : c.in-Ok-DrawRecorded.field-0 ≡ DrawRecorded c.in-Ok-DrawRecorded.scenario = c.in-Ok-DrawRecorded.field-0-is in
+    let comes : ComesTo c.args.task.now c.in_ok-bytes.bytes.items (DrawRecorded c.in-Ok-DrawRecorded.scenario) = rw (c.as_slice.ensures.value, is) at c.in-Ok-DrawRecorded.ensures.answered in
+    IfOk-weaker c.draw_record.result _ _
+    (λ text by. answered_recorded c.args.task.now both c.in_ok-bytes.bytes.items text.items c.in-Ok-DrawRecorded.scenario c.in_ok-bytes.ensures.whole comes by)
+    c.draw_record.ensures.drawn
+
+pub returns-in-Ok-DrawRecorded-clause-fault : goal.returns-in-Ok-DrawRecorded-clause-fault
+returns-in-Ok-DrawRecorded-clause-fault g c =
+    let both : Files = files g.R.Source.bytes c.args.first c.args.second in
+    let is : c.in-Ok-DrawRecorded.field-0 ≡ DrawRecorded c.in-Ok-DrawRecorded.scenario = c.in-Ok-DrawRecorded.field-0-is in
+    let comes : ComesTo c.args.task.now c.in_ok-bytes.bytes.items (DrawRecorded c.in-Ok-DrawRecorded.scenario) = rw (c.as_slice.ensures.value, is) at c.in-Ok-DrawRecorded.ensures.answered in
+    IfErr-weaker c.draw_record.result _ _
+    (λ fault why.
+    prevented_later c.args.task.now both _ _ c.in_ok-bytes.bytes.items c.unwrap_or-file.result.now (DrawRecorded c.in-Ok-DrawRecorded.scenario) c.is_explained-reported.result fault c.in_ok-bytes.ensures.whole comes
+    (second_named c.args.task.now c.second.result c.unwrap_or-file.result _ c.second.ensures c.unwrap_or-file.ensures refl) c.is_explained-reported.ensures why)
+    c.draw_record.ensures.fault
+
+pub returns-in-Ok-Retrace-clause-answer : goal.returns-in-Ok-Retrace-clause-answer
+returns-in-Ok-Retrace-clause-answer g c =
+    let both : Files = files g.R.Source.bytes c.args.first c.args.second in
+    let is : c.in-Ok-Retrace.field-0 ≡ Retrace c.in-Ok-Retrace.scenario = c.in-Ok-Retrace.field-0-is in
+    let comes : ComesTo c.args.task.now c.in_ok-bytes.bytes.items (Retrace c.in-Ok-Retrace.scenario) = rw (c.as_slice.ensures.value, is) at c.in-Ok-Retrace.ensures.answered in
+    IfOk-weaker c.retrace_of.result _ _
+    (λ text by. answered_retraced c.args.task.now both c.in_ok-bytes.bytes.items text.items c.in-Ok-Retrace.scenario c.in_ok-bytes.ensures.whole comes by)
+    c.retrace_of.ensures.retraced
+
+pub returns-in-Ok-Retrace-clause-fault : goal.returns-in-Ok-Retrace-clause-fault
+returns-in-Ok-Retrace-clause-fault g c =
+    let both : Files = files g.R.Source.bytes c.args.first c.args.second in
+    let is : c.in-Ok-Retrace.field-0 ≡ Retrace c.in-Ok-Retrace.scenario = c.in-Ok-Retrace.field-0-is in
+    let comes : ComesTo c.args.task.now c.in_ok-bytes.bytes.items (Retrace c.in-Ok-Retrace.scenario) = rw (c.as_slice.ensures.value, is) at c.in-Ok-Retrace.ensures.answered in
+    IfErr-weaker c.retrace_of.result _ _
+    (λ fault why.
+    prevented_later c.args.task.now both _ _ c.in_ok-bytes.bytes.items c.unwrap_or-file.result.now (Retrace c.in-Ok-Retrace.scenario) c.is_explained-reported.result fault c.in_ok-bytes.ensures.whole comes
+    (second_named c.args.task.now c.second.result c.unwrap_or-file.result _ c.second.ensures c.unwrap_or-file.ensures refl) c.is_explained-reported.ensures why)
+    c.retrace_of.ensures.fault
 
 pub returns-clause-fault : goal.returns-clause-fault
 returns-clause-fault g c =

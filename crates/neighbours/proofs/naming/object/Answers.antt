@@ -17,4 +17,4 @@ returns-in_ok-object-in-Ok-clause-file c =
 pub returns-in_ok-refused-in-Err-clause-untaken : goal.returns-in_ok-refused-in-Err-clause-untaken
 returns-in_ok-refused-in-Err-clause-untaken c =
     let own : option_map (λ f. f.now) c.as_deref-function.result ≡ c.args.named.now.function = c.as_deref-function.ensures.value ∙ ap (λ (a : Asked). a.function) c.named.view_is in
-    inr (inr (c.args.bytes.now, c.in-Err.fault, c.requires, ap (λ (f : Option (List ℕ)). entry_of c.args.bytes.now f) (sym own) ∙ c.in-Err.ensures, c.in_ok-refused-in-Err.ensures))
+    (refl, inr (c.in-Err.fault, c.requires, ap (λ (f : Option (List ℕ)). entry_of c.args.bytes.now f) (sym own) ∙ c.in-Err.ensures, c.in_ok-refused-in-Err.ensures))

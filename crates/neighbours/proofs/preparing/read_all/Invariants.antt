@@ -4,4 +4,4 @@ use Rattle.neighbours.specs.Taken.{IsBeside}
 use Rattle.neighbours.proofs.preparing.read_all.Given as goal
 
 abbrev pub invariant-loop-file : goal.invariant-loop-file
-invariant-loop-file g l = AllZip IsBeside (take l.file-index l.named) l.files.items
+invariant-loop-file g l = AllZip (IsBeside (g.D.Folder.bytes l.folder)) (take l.file-index l.named) l.files.items

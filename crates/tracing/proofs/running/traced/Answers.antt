@@ -5,7 +5,7 @@ use Rattle.tracing.proofs.running.traced.Goals as goal
 
 pub returns-then-branch : goal.returns-then-branch
 returns-then-branch c =
-    told_end c.args.verified.now c.args.context.now (oral c.args.shape) c.loop-activation.activation c.loop-activation.board (string_bytes c.loop-activation.text) (string_bytes c.turn.new.out)
+    told_end c.args.words c.args.verified.now c.args.context.now (oral c.args.shape) c.loop-activation.activation c.loop-activation.board (string_bytes c.loop-activation.text) (string_bytes c.turn.new.out)
     c.program.ensures.sound c.loop-activation.invariant (c.in_ok-turn.ensures.ended c.if-branch.true)
 
 pub loop-activation-smaller : goal.loop-activation-smaller
@@ -15,6 +15,6 @@ loop-activation-smaller c =
 
 pub loop-activation-preserved : goal.loop-activation-preserved
 loop-activation-preserved c =
-    told_on c.args.verified.now c.args.context.now (oral c.args.shape) c.loop-activation.activation c.turn.new.activation c.loop-activation.board c.turn.new.board
+    told_on c.args.words c.args.verified.now c.args.context.now (oral c.args.shape) c.loop-activation.activation c.turn.new.activation c.loop-activation.board c.turn.new.board
     (string_bytes c.loop-activation.text) (string_bytes c.turn.new.out) c.program.ensures.sound c.loop-activation.invariant (c.in_ok-turn.ensures.on c.if-branch.false)
     c.in_ok-turn.ensures.relay (c.in_ok-turn.ensures.counted c.if-branch.false) (c.in_ok-turn.ensures.told c.if-branch.false)

@@ -4,7 +4,7 @@ use Rattle.tracing.proofs.StepLemmas.{IsTold}
 use Rattle.tracing.proofs.running.traced.Given as goal
 
 abbrev pub invariant-loop-activation : goal.invariant-loop-activation
-invariant-loop-activation l = IsTold l.verified l.context (oral l.shape) l.activation l.board (string_bytes l.text)
+invariant-loop-activation l = IsTold l.fn.words l.verified l.context (oral l.shape) l.activation l.board (string_bytes l.text)
 
 abbrev pub decreases-loop-activation : goal.decreases-loop-activation
 decreases-loop-activation l = length l.verified - l.activation.state.steps

@@ -8,12 +8,12 @@ use Rattle.trial.proofs.laws.contexts_are_settings.Goals as goal
 
 pub returns : goal.returns
 returns c = record {
-  possible = λ s before g is within le. record {
+  possible = λ s before g words is within le. record {
     shape = shape_is s g (length before) is within le;
     rounds = omega arith;
     few = is.rounds;
     enough = is.enough;
     each = length-map (relay (shape_of s g (suc (length before)))) (took s before g);
   };
-  same = λ s before g. refl;
+  same = λ s before g words. refl;
 }

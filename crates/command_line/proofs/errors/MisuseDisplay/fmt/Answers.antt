@@ -17,3 +17,15 @@ returns-in-Most-clause-writes g c = rw c.in-Most.is (go (debug_str (string_bytes
     go None writes = tt
     go (Some own) writes = subst (λ text. Writes (Some text))
         (sym (parts (codes "invalid value ") own (codes " for '") (codes "--most <N>") (codes "': ") (codes "a whole number, 1 to 18446744073709551615"))) writes
+
+pub returns-in-Depth-clause-writes : goal.returns-in-Depth-clause-writes
+returns-in-Depth-clause-writes g c = rw c.in-Depth.is (go (debug_str (string_bytes c.in-Depth.word)) c.write-in-Depth.ensures.writes)
+  where
+    Writes : Option (List ℕ) → Type 0
+    Writes text = DisplaysOnOk g.W.Write.write_str_gives c.args.f.now c.write-in-Depth.result text c.write-in-Depth.new.self
+
+    go : (quoted : Option (List ℕ)) → Writes (Some (codes "invalid value ") ++? (quoted ++? Some (codes " for '--depth <D>': a number of levels, 0 to 4")))
+        → Writes (option_map (λ own. codes "invalid value " ++ own ++ codes " for '" ++ codes "--depth <D>" ++ codes "': " ++ codes "a number of levels, 0 to 4") quoted)
+    go None writes = tt
+    go (Some own) writes = subst (λ text. Writes (Some text))
+        (sym (parts (codes "invalid value ") own (codes " for '") (codes "--depth <D>") (codes "': ") (codes "a number of levels, 0 to 4"))) writes

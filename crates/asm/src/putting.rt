@@ -1,0 +1,32 @@
+//! Parts of texts. Each is one function that is called: a text that is added in place of a call takes ten times the code.
+ghost use Rattle.std.specs.Prelude.{◌≡◌, ◌++◌, decimal, string_bytes, OnOk};
+ghost use Rattle.std.specs.Fmt.{signed_decimal};
+
+use itoa::Buffer;
+use std::alloc::AllocError;
+
+/// Adds a text.
+#[inline(never)]
+pub fn put(out: &mut String, text: &str) -> Result<(), AllocError>
+    ensures { OnOk result (string_bytes out.new ≡ string_bytes out.old ++ text.now) }
+{
+    out.push_str(text)
+}
+
+/// Adds a decimal number, with a minus where it is negative.
+#[inline(never)]
+pub fn put_number(out: &mut String, number: i64) -> Result<(), AllocError>
+    ensures { OnOk result (string_bytes out.new ≡ string_bytes out.old ++ signed_decimal number) }
+{
+    let mut buffer = Buffer::new();
+    put(out, buffer.format(number))
+}
+
+/// Adds a decimal number.
+#[inline(never)]
+pub fn put_unsigned(out: &mut String, number: u64) -> Result<(), AllocError>
+    ensures { OnOk result (string_bytes out.new ≡ string_bytes out.old ++ decimal number) }
+{
+    let mut buffer = Buffer::new();
+    put(out, buffer.format(number))
+}

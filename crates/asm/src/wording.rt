@@ -1,0 +1,163 @@
+//! How the units of a program are written in its text.
+ghost use Rattle.std.specs.Prelude.{◌≡◌, ◌++◌, map, string_bytes, IfOk, MatchOption, Ok, OnOk, Some, true, false};
+ghost use Rattle.std.specs.List.{list_all};
+ghost use Rattle.asm.specs.Places.{for_units, is_visible, line_statements, statement_text, statements_of, word_text};
+ghost use Rattle.asm.specs.Printing.{more_text, operands_text};
+ghost use Rattle.asm.specs.Statement.{statement_of};
+ghost use Rattle.asm.specs.Views.{source_view};
+
+use crate::fault::LineError;
+use crate::kept::{Statement, units};
+use crate::line::next_line;
+use crate::outline::read_outline;
+use crate::putting::put;
+use crate::statement::read_statement;
+use std::alloc::{AllocError, Global};
+
+/// Whether a byte is a visible character, or a space.
+fn is_visible(byte: u8) -> bool
+    ensures { result ≡ is_visible byte }
+{
+    32 <= byte && byte < 127
+}
+
+/// Whether all bytes of a word are.
+fn are_visible(word: &[u8]) -> bool
+    ensures { result ≡ list_all is_visible word.now }
+{
+    word.iter().all(|byte| is_visible(*byte))
+}
+
+/// A word that can be told on a line, as text.
+fn visible(word: &[u8]) -> Option<&str>
+    ensures { MatchOption result (list_all is_visible word.now ≡ false) (λ text. (list_all is_visible word.now ≡ true) × (text.now ≡ word.now)) }
+{
+    if !are_visible(word) {
+        return None;
+    }
+    match str::from_utf8(word) {
+        Ok(text) => Some(text),
+        Err(_) => unreachable!(),
+    }
+}
+
+/// Adds a word as it stands there.
+fn put_word(out: &mut String, word: &[u8]) -> Result<(), AllocError>
+    ensures { OnOk result (string_bytes out.new ≡ string_bytes out.old ++ word_text word.now) }
+{
+    match visible(word) {
+        Some(text) => put(out, text),
+        None => Ok(()),
+    }
+}
+
+/// Adds the operands behind the first.
+fn put_more(out: &mut String, operands: &[&[u8]]) -> Result<(), AllocError>
+    ensures { OnOk result (string_bytes out.new ≡ string_bytes out.old ++ more_text (map word_text (map (λ w. w.now) operands.now))) }
+{
+    let [operand, rest @ ..] = operands else {
+        return Ok(());
+    };
+    put(out, ", ")?;
+    put_word(out, operand)?;
+    put_more(out, rest)
+}
+
+/// Adds the operands.
+fn put_operands(out: &mut String, operands: &[&[u8]]) -> Result<(), AllocError>
+    ensures { OnOk result (string_bytes out.new ≡ string_bytes out.old ++ operands_text (map word_text (map (λ w. w.now) operands.now))) }
+{
+    let [operand, rest @ ..] = operands else {
+        return Ok(());
+    };
+    put(out, " ")?;
+    put_word(out, operand)?;
+    put_more(out, rest)
+}
+
+/// Adds a mnemonic and its operands.
+fn put_words(out: &mut String, words: &[&[u8]]) -> Result<(), AllocError>
+    ensures { OnOk result (string_bytes out.new ≡ string_bytes out.old ++ statement_text (map (λ w. w.now) words.now)) }
+{
+    let [word, operands @ ..] = words else {
+        return Ok(());
+    };
+    put_word(out, word)?;
+    put_operands(out, operands)
+}
+
+/// A statement in its words.
+fn statement_text(alloc: Global, words: &[&[u8]]) -> Result<String, AllocError>
+    ensures { IfOk result (λ text. string_bytes text ≡ statement_text (map (λ w. w.now) words.now)) }
+{
+    let mut text = String::new(alloc);
+    put_words(&mut text, words)?;
+    Ok(text)
+}
+
+/// Adds it for each of its units.
+fn put_units(
+    alloc: Global,
+    statements: &mut Vec<String>,
+    words: &[&[u8]],
+    statement: &Statement<'_>,
+) -> Result<(), AllocError>
+    ensures { OnOk result (map string_bytes statements.new.items ≡ map string_bytes statements.old.items
+        ++ for_units (Ok (Some (source_view statement.now))) (statement_text (map (λ w. w.now) words.now))) }
+{
+    statements.push(statement_text(alloc, words)?)?;
+    if units(statement) == 2 {
+        statements.push(statement_text(alloc, words)?)?;
+    }
+    Ok(())
+}
+
+/// The same, if the words are those of a statement.
+fn put_statement(
+    alloc: Global,
+    statements: &mut Vec<String>,
+    words: &[&[u8]],
+) -> Result<(), AllocError>
+    ensures { OnOk result (map string_bytes statements.new.items ≡ map string_bytes statements.old.items
+        ++ for_units (statement_of (map (λ w. w.now) words.now)) (statement_text (map (λ w. w.now) words.now))) }
+{
+    match read_statement(words) {
+        Ok(Some(statement)) => put_units(alloc, statements, words, &statement),
+        Ok(None) | Err(_) => Ok(()),
+    }
+}
+
+/// Adds those of a line.
+fn put_line<'a>(
+    alloc: Global,
+    statements: &mut Vec<String>,
+    words: &mut Vec<&'a [u8]>,
+    line: &'a [u8],
+) -> Result<(), AllocError>
+    ensures { OnOk result (map string_bytes statements.new.items ≡ map string_bytes statements.old.items ++ line_statements line.now) }
+{
+    match read_outline(words, line) {
+        Ok(_name) => put_statement(alloc, statements, words.as_slice()),
+        Err(LineError::Memory) => Err(AllocError),
+        Err(LineError::Fault(_)) => Ok(()),
+    }
+}
+
+/// How each unit of the program that a text says is written there: `mnemonic a, b, c` with the words of its line, twice of
+/// an `lddw`, which has two units.
+///
+/// # Errors
+///
+/// Want of memory.
+pub fn statements(alloc: Global, text: &str) -> Result<Vec<String>, AllocError>
+    ensures { IfOk result (λ statements. map string_bytes statements.items ≡ statements_of text.now) }
+{
+    let mut statements = Vec::new(alloc);
+    let mut words = Vec::new(alloc);
+    let mut rest = text.as_bytes();
+    while let Some((line, after)) = next_line(rest) {
+        put_line(alloc, &mut statements, &mut words, line)?;
+        rest = after;
+    }
+    Ok(statements)
+}

@@ -1,0 +1,46 @@
+//! What is asked of whatever tells the messages of a table.
+
+use combine::Rule;
+use label::Label;
+use tree::Tree;
+
+/// A campaign's numbers and rule, and what each of its lieutenants was told.
+pub trait Heard {
+    ghost use Rattle.std.specs.Prelude.{◌≡◌, ◌≢◌, ◌<◌, true};
+    ghost use Rattle.book.specs.Grammar.{is_place};
+    ghost use Rattle.book.specs.Table.{AreNumbersWithin, MessageTable, told};
+    ghost use Rattle.book.specs.Trees.{tree_of};
+
+    // The table that tells the same.
+    ghost seen: { Self → MessageTable };
+
+    /// How many generals there are, 2 to 13.
+    fn generals(&self) -> u8
+        ensures value { result ≡ (seen self.now).generals }
+        ensures within { AreNumbersWithin (seen self.now).generals (seen self.now).bound (seen self.now).commander };
+
+    /// The greatest number of traitors that the campaign is made for, 0 to 4.
+    fn bound(&self) -> u8
+        ensures value { result ≡ (seen self.now).bound }
+        ensures within { AreNumbersWithin (seen self.now).generals (seen self.now).bound (seen self.now).commander };
+
+    /// The commander's number.
+    fn commander(&self) -> u8
+        ensures value { result ≡ (seen self.now).commander }
+        ensures within { AreNumbersWithin (seen self.now).generals (seen self.now).bound (seen self.now).commander };
+
+    /// The rule by which orders are combined.
+    fn rule(&self) -> Rule
+        ensures { result ≡ (seen self.now).rule };
+
+    /// What is told of a label to a receiver, who does not stand on it.
+    fn told(&self, label: &Label, receiver: u8) -> Option<u32>
+        requires { is_place (seen self.now) label.now receiver ≡ true }
+        ensures { result ≡ told (seen self.now).messages label.now receiver };
+
+    /// The tree of a lieutenant, filled from the messages.
+    fn tree(&self, general: u8) -> &Tree
+        requires general { general < (seen self.now).generals }
+        requires lieutenant { general ≢ (seen self.now).commander }
+        ensures { result.now ≡ tree_of (seen self.now).generals (seen self.now).bound (seen self.now).commander (told (seen self.now).messages) general };
+}

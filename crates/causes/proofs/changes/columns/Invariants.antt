@@ -1,0 +1,11 @@
+use Rattle.std.proofs.Common.{◌≡◌, ℕ, length, Some}
+use Rattle.std.specs.Prelude.{slice_get}
+use Rattle.causes.specs.declared.changes.Column.{Column}
+use Rattle.causes.specs.Columns.{IsColumn}
+use Rattle.causes.proofs.changes.columns.Given as goal
+
+abbrev pub invariant-loop-cell : goal.invariant-loop-cell
+invariant-loop-cell l = record {
+  size : length l.columns.items ≡ l.cell;
+  so_far : (cell : ℕ) (column : Column) → slice_get l.columns.items cell ≡ Some column → IsColumn l.program (slice_get l.states) cell column;
+}

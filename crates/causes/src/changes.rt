@@ -1,0 +1,134 @@
+//! For each cell of the stack which units set it.
+ghost use Rattle.std.specs.Prelude.{◌≡◌, ◌<◌, length, slice_get, option_map, IfOk};
+ghost use Rattle.insn.specs.Program.{slots_of, instruction_at};
+ghost use Rattle.causes.specs.declared.subject.Subject.TheVariants.{Cell};
+ghost use Rattle.causes.specs.Marks.{known_by};
+ghost use Rattle.causes.specs.Columns.{set_by, setting, stack_behind, stacks_behind, stack_at, changed_in, flag_at, AreColumns};
+
+use crate::cells::held_at;
+use crate::left::left_by;
+use crate::marking::known_by;
+use absmem::AbsStack;
+use insn::{Insn, Program};
+use std::alloc::{AllocError, Global};
+use verify::AbsState;
+
+/// Of a cell of the stack, for each unit whether its instruction sets it.
+#[derive(Debug, Drop)]
+pub struct Column {
+    pub changed: Vec<bool>,
+}
+
+impl Column {
+    /// Whether a unit sets the cell.
+    pub(crate) fn is_set_by(&self, unit: usize) -> bool
+        ensures { result ≡ flag_at (slice_get self.now.changed.items unit) }
+    {
+        match self.changed.get(unit) {
+            Some(changed) => *changed,
+            None => false,
+        }
+    }
+}
+
+/// The stack that a store or a call leaves.
+fn stack_behind(insn: Option<Insn>, state: Option<&AbsState>) -> Option<AbsStack>
+    ensures { result ≡ stack_behind insn (option_map (λ a. a.now) state.entry) }
+{
+    let Some(insn) = insn else {
+        return None;
+    };
+    let Some(state) = state else {
+        return None;
+    };
+    match &insn {
+        Insn::Store { .. } | Insn::Call { .. } => Some(left_by(&insn, state).stack.copy()),
+        _ => None,
+    }
+}
+
+/// Those that the units leave.
+fn stacks_behind(
+    alloc: Global,
+    program: &Program,
+    states: &[Option<AbsState>],
+) -> Result<Vec<Option<AbsStack>>, AllocError>
+    ensures { IfOk result (λ vec. vec.items ≡ stacks_behind program.now (slice_get states.now) (length (slots_of program.now))) }
+{
+    let mut stacks = Vec::new(alloc);
+    for unit in 0..program.units() {
+        stacks.push(stack_behind(program.at(unit), known_by(states, unit)))?;
+    }
+    Ok(stacks)
+}
+
+/// That which a unit leaves.
+fn stack_at(stacks: &[Option<AbsStack>], unit: usize) -> Option<&AbsStack>
+    ensures { option_map (λ s. s.now) result ≡ stack_at (slice_get stacks.now unit) }
+{
+    stacks.get(unit)?.as_ref()
+}
+
+/// Whether a cell holds something else in the one that is left.
+fn changed_in(cell: u16, state: Option<&AbsState>, behind: Option<&AbsStack>) -> bool
+    ensures { result ≡ changed_in cell (option_map (λ a. a.now) state.entry) (option_map (λ s. s.now) behind.entry) }
+{
+    let Some(state) = state else {
+        return false;
+    };
+    let Some(behind) = behind else {
+        return false;
+    };
+    let place = usize::from(cell);
+    !held_at(&state.stack, place).is_same(held_at(behind, place))
+}
+
+/// Whether a unit sets a cell, with the stacks that the units leave.
+fn sets_cell(
+    program: &Program,
+    states: &[Option<AbsState>],
+    stacks: &[Option<AbsStack>],
+    cell: u16,
+    unit: usize,
+) -> bool
+    requires inside { unit < length (slots_of program.now) }
+    requires left { stacks.now ≡ stacks_behind program.now (slice_get states.now) (length (slots_of program.now)) }
+    ensures { result ≡ set_by (Cell cell) (instruction_at program.now unit) (known_by (slice_get states.now unit)) }
+{
+    changed_in(cell, known_by(states, unit), stack_at(stacks, unit))
+}
+
+/// For each unit whether it sets a cell.
+fn flags_of(
+    alloc: Global,
+    program: &Program,
+    states: &[Option<AbsState>],
+    stacks: &[Option<AbsStack>],
+    cell: u16,
+) -> Result<Vec<bool>, AllocError>
+    requires { stacks.now ≡ stacks_behind program.now (slice_get states.now) (length (slots_of program.now)) }
+    ensures { IfOk result (λ vec. vec.items ≡ setting program.now (slice_get states.now) (Cell cell) (length (slots_of program.now))) }
+{
+    let mut changed = Vec::new(alloc);
+    for unit in 0..program.units() {
+        changed.push(sets_cell(program, states, stacks, cell, unit))?;
+    }
+    Ok(changed)
+}
+
+/// The columns of all cells of the stack.
+pub fn columns(
+    alloc: Global,
+    program: &Program,
+    states: &[Option<AbsState>],
+) -> Result<Vec<Column>, AllocError>
+    ensures { IfOk result (λ vec. AreColumns program.now (slice_get states.now) vec.items) }
+{
+    let stacks = stacks_behind(alloc, program, states)?;
+    let mut columns = Vec::new(alloc);
+    for cell in 0..512 {
+        let changed = flags_of(alloc, program, states, stacks.as_slice(), cell)?;
+        columns.push(Column { changed })?;
+    }
+    Ok(columns)
+}

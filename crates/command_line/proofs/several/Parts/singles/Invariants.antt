@@ -1,0 +1,9 @@
+use Rattle.std.proofs.Common.{◌≡◌, map, take}
+use Rattle.command_line.specs.Asked.{words_of}
+use Rattle.command_line.specs.Several.{request_of, singles}
+use Rattle.command_line.proofs.SeveralLemmas.{texts}
+use Rattle.command_line.proofs.several.Parts.singles.Given as goal
+
+abbrev pub invariant-loop-file : goal.invariant-loop-file
+invariant-loop-file l =
+    texts l.requests.items ≡ map (request_of l.name (words_of l.self.kept.items)) (singles (words_of (take l.file-index l.self.files.items)))

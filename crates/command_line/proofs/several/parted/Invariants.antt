@@ -1,0 +1,9 @@
+use Rattle.std.proofs.Common.{◌≡◌, drop, false, map}
+use Rattle.command_line.specs.Asked.{words_of}
+use Rattle.command_line.specs.Several.{onto, parted, parted_of}
+use Rattle.command_line.specs.Subcommand.{flag_of}
+use Rattle.command_line.proofs.several.parted.Given as goal
+
+abbrev pub invariant-loop-index : goal.invariant-loop-index
+invariant-loop-index l =
+    onto (parted_of l.parts) (parted (map flag_of l.flags) l.is_value (words_of (drop l.index l.words))) ≡ parted (map flag_of l.flags) false (words_of l.fn.words)

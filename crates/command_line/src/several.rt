@@ -1,0 +1,192 @@
+//! Words that name several files.
+ghost use Rattle.std.specs.Prelude.{◌≡◌, ◌∷◌, IfOk, List, [], codes, false, map, option_map};
+ghost use Rattle.std.specs.List.{list_any};
+ghost use Rattle.std.specs.Str.{bytes_eq};
+ghost use Rattle.command_line.specs.Asked.{words_of};
+ghost use Rattle.command_line.specs.Several.{are_several, is_flag, is_option, judging, onto, pairs, parted, parted_of, request_of, requests_of, singles};
+ghost use Rattle.command_line.specs.Subcommand.{flag_of, usage_of};
+ghost use Rattle.command_line.specs.Usage.{Text};
+
+use crate::subcommand::{Flag, Subcommand};
+use crate::subcommands::{AUDIT, CHECK, PLAY};
+use std::alloc::{AllocError, Global};
+
+/// A subcommand's words: those that hold for each file, and the files.
+#[derive(Drop)]
+struct Parts<'a> {
+    kept: Vec<&'a str>,
+    files: Vec<&'a str>,
+}
+
+/// The words of each request: where `--verdicts` stands among the flags of `check`, `play` or `audit`, for each file (of
+/// `audit` for a scenario and a chronicle each) those of the flags, `--`, and the file; else the words themselves.
+///
+/// # Errors
+///
+/// `AllocError` where memory is refused.
+pub fn each<'a>(alloc: Global, words: &[&'a str]) -> Result<Vec<Vec<&'a str>>, AllocError>
+    ensures { IfOk result (λ requests. map (λ request. words_of request.items) requests.items ≡ requests_of (words_of words.now)) }
+{
+    let Some((name, rest)) = words.split_first() else {
+        return alone(alloc, words);
+    };
+    let Some(subcommand) = judging(name) else {
+        return alone(alloc, words);
+    };
+    let parts = parted(alloc, subcommand.flags, rest)?;
+    let number = subcommand.places.len();
+    if !parts.are_several(number) {
+        return alone(alloc, words);
+    }
+    if number == 2 {
+        parts.pairs(alloc, *name)
+    } else {
+        parts.singles(alloc, *name)
+    }
+}
+
+/// The subcommand of this name, where it is one that prints verdicts.
+fn judging(name: &str) -> Option<Subcommand<'static>>
+    ensures { option_map usage_of result ≡ judging name.now }
+{
+    match name {
+        "check" => Some(CHECK),
+        "play" => Some(PLAY),
+        "audit" => Some(AUDIT),
+        _ => None,
+    }
+}
+
+/// The words themselves, as the only request.
+fn alone<'a>(alloc: Global, words: &[&'a str]) -> Result<Vec<Vec<&'a str>>, AllocError>
+    ensures { IfOk result (λ requests. map (λ request. words_of request.items) requests.items ≡ words_of words.now ∷ []) }
+{
+    let mut request = Vec::new(alloc);
+    request.extend_from_slice(words)?;
+    let mut requests = Vec::new(alloc);
+    requests.push(request)?;
+    Ok(requests)
+}
+
+/// Whether a word is one of a hyphen and more.
+fn is_flag(word: &str) -> bool
+    ensures { result ≡ is_flag word.now }
+{
+    word.as_bytes().starts_with(b"-") && word != "-"
+}
+
+/// Whether the word is this option, whose value stands in the next one.
+fn is_option(flag: &Flag, word: &str) -> bool
+    ensures { result ≡ is_option word.now (flag_of flag.now) }
+{
+    match (flag, word.as_bytes().strip_prefix(b"--")) {
+        (Flag::Option { name, .. }, Some(own)) => own == name.as_bytes(),
+        _ => false,
+    }
+}
+
+/// Whether the word is an option, whose value stands in the next one.
+fn wants_value(flags: &[Flag], word: &str) -> bool
+    ensures { result ≡ list_any (λ flag. is_option word.now (flag_of flag)) flags.now }
+{
+    flags.iter().any(|flag| is_option(flag, word))
+}
+
+/// The words of a subcommand with these flags, parted.
+fn parted<'a>(alloc: Global, flags: &[Flag], words: &[&'a str]) -> Result<Parts<'a>, AllocError>
+    ensures { IfOk result (λ parts. parted_of parts ≡ parted (map flag_of flags.now) false (words_of words.now)) }
+{
+    let mut parts = Parts {
+        kept: Vec::new(alloc),
+        files: Vec::new(alloc),
+    };
+    let mut is_value = false;
+    for index in 0..words.len() {
+        let word = words[index];
+        if !is_value && word == "--" {
+            parts.files.extend_from_slice(&words[index + 1..])?;
+            return Ok(parts);
+        }
+        is_value = parts.take(flags, is_value, word)?;
+    }
+    Ok(parts)
+}
+
+impl<'a> Parts<'a> {
+    /// Takes one word more, which is the value of an option or stands before `--`; the answer is whether the next is a value.
+    fn take(&mut self, flags: &[Flag], is_value: bool, word: &'a str) -> Result<bool, AllocError>
+        requires { is_value ≡ false → bytes_eq word.now (codes "--") ≡ false }
+        ensures { IfOk result (λ next. (rest : List Text) → onto (parted_of self.new) (parted (map flag_of flags.now) next rest)
+            ≡ onto (parted_of self.old) (parted (map flag_of flags.now) is_value (word.now ∷ rest))) }
+    {
+        if is_value {
+            self.kept.push(word)?;
+            return Ok(false);
+        }
+        if is_flag(word) {
+            self.kept.push(word)?;
+            return Ok(wants_value(flags, word));
+        }
+        self.files.push(word)?;
+        Ok(false)
+    }
+
+    /// Whether the switch stands among the words.
+    fn have_switch(&self) -> bool
+        ensures { result ≡ list_any (λ word. bytes_eq word.now (codes "--verdicts")) self.now.kept.items }
+    {
+        self.kept.iter().any(|word| *word == "--verdicts")
+    }
+
+    /// Whether the switch stands among the words, and the files go into groups of so many, one or two.
+    #[tactic(auto, using(crate::proofs::SeveralLemmas::any_word, crate::proofs::SeveralLemmas::as_many))]
+    fn are_several(&self, number: usize) -> bool
+        ensures { result ≡ are_several number (parted_of self.now) }
+    {
+        let files = self.files.len();
+        self.have_switch() && files != 0 && (number != 2 || files % 2 == 0)
+    }
+
+    /// The words for these files.
+    fn request(
+        &self,
+        alloc: Global,
+        name: &'a str,
+        files: &[&'a str],
+    ) -> Result<Vec<&'a str>, AllocError>
+        ensures { IfOk result (λ request. words_of request.items ≡ request_of name.now (parted_of self.now).kept (words_of files.now)) }
+    {
+        let mut request = Vec::new(alloc);
+        request.push(name)?;
+        request.extend_from_slice(self.kept.as_slice())?;
+        request.push("--")?;
+        request.extend_from_slice(files)?;
+        Ok(request)
+    }
+
+    /// The words for each file.
+    fn singles(&self, alloc: Global, name: &'a str) -> Result<Vec<Vec<&'a str>>, AllocError>
+        ensures { IfOk result (λ requests. map (λ request. words_of request.items) requests.items
+            ≡ map (request_of name.now (parted_of self.now).kept) (singles (parted_of self.now).files)) }
+    {
+        let mut requests = Vec::new(alloc);
+        for file in &self.files {
+            requests.push(self.request(alloc, name, &[*file])?)?;
+        }
+        Ok(requests)
+    }
+
+    /// The words for a scenario and a chronicle each.
+    fn pairs(&self, alloc: Global, name: &'a str) -> Result<Vec<Vec<&'a str>>, AllocError>
+        ensures { IfOk result (λ requests. map (λ request. words_of request.items) requests.items
+            ≡ map (request_of name.now (parted_of self.now).kept) (pairs (parted_of self.now).files)) }
+    {
+        let mut requests = Vec::new(alloc);
+        let mut rest = self.files.as_slice();
+        while let [scenario, chronicle, behind @ ..] = rest {
+            requests.push(self.request(alloc, name, &[*scenario, *chronicle])?)?;
+            rest = behind;
+        }
+        Ok(requests)
+    }
+}

@@ -1,0 +1,55 @@
+-- What is printed of an answer, and of a refusal, where JSON or one line is asked for (own).
+use Rattle.std.specs.Prelude.{ℕ, ◌++◌, ◌||◌, Bool, true, false, List, [], ◌∷◌, Option, Some, codes, find, option_map, take, unwrap_or}
+use Rattle.std.specs.Str.{bytes_eq}
+use Rattle.std.specs.String.{string_bytes}
+use Rattle.command_line.specs.Told.{file_of}
+use Rattle.command_line.specs.declared.tasks.Request.{Request}
+use Rattle.command_line.specs.declared.tasks.Task.{Task}
+use Rattle.command_line.specs.declared.tasks.Task.TheVariants.{Audit}
+use Rattle.json_lines.specs.Labels.{at_first}
+use Rattle.json_lines.specs.Lines.{json_text, object_line, with_file}
+use Rattle.json_lines.specs.Objects.{line_object}
+use Rattle.json_lines.specs.Refusals.{refusal_object}
+use Rattle.streams.specs.Names.{shown}
+use Rattle.text.specs.Parts.{before, lines_of}
+use Rattle.text.specs.Stop.{feed}
+
+-- JSON, or one line, is asked for
+abbrev pub is_shaped : Request → Bool
+is_shaped request = request.json || request.verdicts
+
+-- the file that is judged: of an audit the chronicle, else the only or first one
+abbrev pub judged : Task → List ℕ
+judged (Audit scenario chronicle explained) = string_bytes chronicle
+judged task = unwrap_or (file_of task) []
+
+abbrev pub is_verdict : List ℕ → Bool
+is_verdict line = bytes_eq (take 8 line) (codes "verdict ")
+
+-- the line of a text that says what has come of a task: the verdict on a campaign or, where there is none, the first
+abbrev pub outcome : List ℕ → List ℕ
+outcome text = unwrap_or (find is_verdict (lines_of text)) (before feed text)
+
+-- a line behind the name of its file, where it is known how that is told
+abbrev pub named_line : List ℕ → List ℕ → Option (List ℕ)
+named_line name line = option_map (λ told. told ++ codes ": " ++ line ++ 10 ∷ []) (shown name)
+
+-- an answer's text: as it is, as JSON, as one line, as one line of JSON
+abbrev pub answer_by : Bool → Bool → List ℕ → List ℕ → Option (List ℕ)
+answer_by false false name text = Some text
+answer_by true false name text = Some (json_text text)
+answer_by false true name text = named_line name (outcome text)
+answer_by true true name text = Some (object_line (with_file name (line_object at_first (outcome text))))
+
+abbrev pub answer_as : Request → List ℕ → Option (List ℕ)
+answer_as request text = answer_by request.json request.verdicts (judged request.task) text
+
+-- a refusal's text: as it is, as an object, as one line, as an object with the file
+abbrev pub refusal_by : Bool → Bool → List ℕ → List ℕ → Option (List ℕ)
+refusal_by false false name text = Some text
+refusal_by true false name text = Some (object_line (refusal_object text))
+refusal_by false true name text = named_line name (before feed text)
+refusal_by true true name text = Some (object_line (with_file name (refusal_object text)))
+
+abbrev pub refusal_as : Request → List ℕ → Option (List ℕ)
+refusal_as request text = refusal_by request.json request.verdicts (judged request.task) text

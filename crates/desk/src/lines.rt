@@ -1,0 +1,53 @@
+//! What is printed of an answer, and of a refusal.
+ghost use Rattle.std.specs.Prelude.{◌≡◌, IfOk, IfSome};
+ghost use Rattle.desk.specs.Printing.{answer_as, named_line, refusal_as};
+
+use crate::outcome::{first_line, judged, outcome};
+use command_line::Request;
+use std::alloc::{AllocError, Global};
+use streams::FileName;
+
+/// A line behind the name of its file.
+fn named_line(alloc: Global, name: &str, line: &[u8]) -> Result<Vec<u8>, AllocError>
+    ensures { IfOk result (λ all. IfSome (named_line name.now line.now) (λ known. all.items ≡ known)) }
+{
+    let name = FileName(name);
+    let mut lines = format!(in alloc; "{name}: ")?.into_bytes();
+    lines.extend_from_slice(line)?;
+    lines.push(b'\n')?;
+    Ok(lines)
+}
+
+/// An answer's text in the form that is asked for.
+pub(crate) fn answer_lines(
+    alloc: Global,
+    request: &Request,
+    text: &[u8],
+) -> Result<Vec<u8>, AllocError>
+    ensures { IfOk result (λ all. IfSome (answer_as request.now text.now) (λ known. all.items ≡ known)) }
+{
+    let name = judged(&request.task);
+    match (request.json, request.verdicts) {
+        (false, false) => text.to_vec(alloc),
+        (true, false) => json_lines::answer(alloc, text),
+        (false, true) => named_line(alloc, name, outcome(text)),
+        (true, true) => json_lines::answer_of(alloc, name, outcome(text)),
+    }
+}
+
+/// A refusal's text in the form that is asked for.
+pub(crate) fn refusal_lines(
+    alloc: Global,
+    request: &Request,
+    text: &[u8],
+) -> Result<Vec<u8>, AllocError>
+    ensures { IfOk result (λ all. IfSome (refusal_as request.now text.now) (λ known. all.items ≡ known)) }
+{
+    let name = judged(&request.task);
+    match (request.json, request.verdicts) {
+        (false, false) => text.to_vec(alloc),
+        (true, false) => json_lines::refusal(alloc, text),
+        (false, true) => named_line(alloc, name, first_line(text)),
+        (true, true) => json_lines::refusal_of(alloc, name, text),
+    }
+}

@@ -1,0 +1,75 @@
+//! Answers and refusals, printed in the form that is asked for.
+ghost use Rattle.std.specs.Prelude.{◌≡◌, ◌⊎◌, IfSome, codes};
+ghost use Rattle.std.specs.Io.KnownBytes.{Appends};
+ghost use Rattle.lab.specs.Serving.{Tells};
+ghost use Rattle.desk.specs.Printing.{answer_as};
+ghost use Rattle.desk.specs.Serving.{IsRefusalShown, IsUnwritten};
+
+use crate::lines::{answer_lines, refusal_lines};
+use command_line::Request;
+use std::alloc::Global;
+use streams::Output;
+
+/// Says that memory is wanting.
+pub(crate) fn lacking<F: Output>(fault: &mut F) -> u8
+    ensures status { result ≡ 3 }
+    ensures memory { Tells (F.fails fault.old) (F.contents fault.old) (F.contents fault.new) (codes "out of memory") }
+{
+    let _ = fault.tell("out of memory");
+    3
+}
+
+/// Says that the output failed.
+fn unwritten<F: Output>(fault: &mut F) -> u8
+    ensures status { result ≡ 1 }
+    ensures told { Tells (F.fails fault.old) (F.contents fault.old) (F.contents fault.new) (codes "fault write") }
+{
+    let _ = fault.tell("fault write");
+    1
+}
+
+/// Prints an answer. The result is the exit status.
+pub(crate) fn show_answer<O: Output, F: Output>(
+    alloc: Global,
+    request: &Request,
+    text: &[u8],
+    out: &mut O,
+    fault: &mut F,
+) -> u8
+    ensures status { (result ≡ 0) ⊎ ((result ≡ 1) ⊎ (result ≡ 3)) }
+    ensures done { result ≡ 0 → IfSome (answer_as request.now text.now) (Appends (O.contents out.old) (O.contents out.new)) }
+    ensures quiet { result ≡ 0 → fault.new ≡ fault.old }
+    ensures unwritten { result ≡ 1 → IsUnwritten (O.fails out.old) (Tells (F.fails fault.old) (F.contents fault.old) (F.contents fault.new)) (answer_as request.now text.now) (O.contents out.old) (O.contents out.new) }
+    ensures unprinted { result ≡ 3 → out.new ≡ out.old }
+    ensures memory { result ≡ 3 → Tells (F.fails fault.old) (F.contents fault.old) (F.contents fault.new) (codes "out of memory") }
+{
+    let Ok(lines) = answer_lines(alloc, request, text) else {
+        return lacking(fault);
+    };
+    match out.put(lines.as_slice()) {
+        Ok(()) => 0,
+        Err(_) => unwritten(fault),
+    }
+}
+
+/// Prints a refusal. The result is the exit status.
+pub(crate) fn show_refusal<O: Output, F: Output>(
+    alloc: Global,
+    request: &Request,
+    text: &[u8],
+    out: &mut O,
+    fault: &mut F,
+) -> u8
+    ensures status { (result ≡ 1) ⊎ (result ≡ 3) }
+    ensures shown { result ≡ 1 → IsRefusalShown (fault.new ≡ fault.old) (O.fails out.old) (Tells (F.fails fault.old) (F.contents fault.old) (F.contents fault.new)) request.now (O.contents out.old) (O.contents out.new) text.now }
+    ensures unprinted { result ≡ 3 → out.new ≡ out.old }
+    ensures memory { result ≡ 3 → Tells (F.fails fault.old) (F.contents fault.old) (F.contents fault.new) (codes "out of memory") }
+{
+    let Ok(lines) = refusal_lines(alloc, request, text) else {
+        return lacking(fault);
+    };
+    match out.put(lines.as_slice()) {
+        Ok(()) => 1,
+        Err(_) => unwritten(fault),
+    }
+}

@@ -1,0 +1,120 @@
+//! Requests, served.
+ghost use Rattle.std.specs.Prelude.{◌≡◌, ◌⊎◌, IfSome, IsSomeAnd, codes, false, true};
+ghost use Rattle.lab.specs.Serving.{IsFault, Tells, files};
+ghost use Rattle.streams.specs.Writing.{AppendsFront};
+ghost use Rattle.desk.specs.Printing.{is_shaped};
+ghost use Rattle.desk.specs.Serving.{IsAnswerUnwritten, IsPrevented, IsRefusalShown, IsShown};
+
+use crate::printing::{lacking, show_answer, show_refusal};
+use command_line::Request;
+use lab::Failure;
+use std::alloc::Global;
+use std::fmt::Display;
+use std::sync::Wait;
+use std::thread::Threads;
+use streams::{Output, Source};
+
+/// Whether JSON, or one line, is asked for.
+fn is_shaped(request: &Request) -> bool
+    ensures { result ≡ is_shaped request.now }
+{
+    request.json || request.verdicts
+}
+
+/// Does what is asked for, as `lab::serve` does the task; where JSON or one line is asked for, the answer or the refusal is
+/// printed so, on `out`. The result is the exit status: 0 done, 1 refused or a fault of a file, 3 want of memory.
+pub fn serve<T, R, O, F>(
+    rt: &T,
+    alloc: Global,
+    request: &Request,
+    first: R,
+    second: Option<R>,
+    out: &mut O,
+    fault: &mut F,
+) -> u8
+where
+    T: Threads + Wait + Sync,
+    R: Source,
+    O: Output,
+    F: Output,
+    ensures status { (result ≡ 0) ⊎ ((result ≡ 1) ⊎ (result ≡ 3)) }
+
+    ensures done { result ≡ 0 →
+        IsShown request.now (files R.bytes first second) (O.contents out.old) (O.contents out.new) }
+    ensures quiet { result ≡ 0 → fault.new ≡ fault.old }
+
+    // Neither JSON nor one line is asked for.
+    ensures at_fault { is_shaped request.now ≡ false → result ≡ 1 →
+        IsFault (R.fails first) (IsSomeAnd second R.fails) (O.fails out.old) (AppendsFront (O.contents out.old) (O.contents out.new)) request.now.task (files R.bytes first second)
+        (out.new ≡ out.old) (Tells (F.fails fault.old) (F.contents fault.old) (F.contents fault.new)) }
+    // One of them is.
+    ensures refused { is_shaped request.now ≡ true → result ≡ 1 →
+        IsAnswerUnwritten (O.fails out.old) (Tells (F.fails fault.old) (F.contents fault.old) (F.contents fault.new)) request.now (files R.bytes first second) (O.contents out.old) (O.contents out.new)
+        ⊎ IsPrevented (R.fails first) (IsSomeAnd second R.fails)
+        (IsRefusalShown (fault.new ≡ fault.old) (O.fails out.old) (Tells (F.fails fault.old) (F.contents fault.old) (F.contents fault.new)) request.now (O.contents out.old) (O.contents out.new))
+        request.now (files R.bytes first second) }
+
+    ensures unprinted { result ≡ 3 → out.new ≡ out.old }
+    ensures memory { result ≡ 3 →
+        Tells (F.fails fault.old) (F.contents fault.old) (F.contents fault.new) (codes "out of memory") }
+{
+    let task = &request.task;
+    if !is_shaped(request) {
+        return lab::serve(rt, alloc, task, first, second, out, fault);
+    }
+    match lab::answered(rt, alloc, task, first, second) {
+        Ok(text) => show_answer(alloc, request, text.as_slice(), out, fault),
+        Err(Failure::Memory) => lacking(fault),
+        Err(failure) => shown(alloc, request, failure, out, fault),
+    }
+}
+
+/// Says that the task is not done, by this line: a file of it does not open, or is not taken. The result is the exit status:
+/// 1, or 3 for want of memory.
+pub fn turned_down<D, O, F>(
+    alloc: Global,
+    request: &Request,
+    line: D,
+    out: &mut O,
+    fault: &mut F,
+) -> u8
+where
+    D: Display + Drop,
+    O: Output,
+    F: Output,
+    ensures status { (result ≡ 1) ⊎ (result ≡ 3) }
+    // Neither JSON nor one line is asked for.
+    ensures plain { is_shaped request.now ≡ false → (result ≡ 1) × (out.new ≡ out.old)
+        × IfSome (D.output line) (Tells (F.fails fault.old) (F.contents fault.old) (F.contents fault.new)) }
+    // One of them is.
+    ensures shown { is_shaped request.now ≡ true → result ≡ 1 →
+        IfSome (D.output line) (IsRefusalShown (fault.new ≡ fault.old) (O.fails out.old) (Tells (F.fails fault.old) (F.contents fault.old) (F.contents fault.new)) request.now (O.contents out.old) (O.contents out.new)) }
+    ensures unprinted { result ≡ 3 → out.new ≡ out.old }
+    ensures memory { result ≡ 3 →
+        Tells (F.fails fault.old) (F.contents fault.old) (F.contents fault.new) (codes "out of memory") }
+{
+    if is_shaped(request) {
+        return shown(alloc, request, line, out, fault);
+    }
+    let _ = fault.tell(line);
+    1
+}
+
+/// Prints this line as a refusal, in the form that is asked for. The result is the exit status.
+fn shown<D, O, F>(alloc: Global, request: &Request, line: D, out: &mut O, fault: &mut F) -> u8
+where
+    D: Display + Drop,
+    O: Output,
+    F: Output,
+    ensures status { (result ≡ 1) ⊎ (result ≡ 3) }
+    ensures shown { result ≡ 1 →
+        IfSome (D.output line) (IsRefusalShown (fault.new ≡ fault.old) (O.fails out.old) (Tells (F.fails fault.old) (F.contents fault.old) (F.contents fault.new)) request.now (O.contents out.old) (O.contents out.new)) }
+    ensures unprinted { result ≡ 3 → out.new ≡ out.old }
+    ensures memory { result ≡ 3 →
+        Tells (F.fails fault.old) (F.contents fault.old) (F.contents fault.new) (codes "out of memory") }
+{
+    let Ok(text) = format!(in alloc; "{line}") else {
+        return lacking(fault);
+    };
+    show_refusal(alloc, request, text.as_bytes(), out, fault)
+}

@@ -1,4 +1,0 @@
-use Rattle.explain.proofs.wanted.+last_set.Given as goal
-
-abbrev pub decreases-last_set : goal.decreases-last_set
-decreases-last_set l = l.unit

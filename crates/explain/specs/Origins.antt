@@ -1,0 +1,66 @@
+-- Of which register a number was computed that may be above or below 0, read as signed, where no rule says why (own).
+use Rattle.std.specs.Prelude.{ℕ, zero, suc, is_none, Bool, true, false, if◌then◌else◌, List, Option, Some, None, [], option_map, option_and_then, slice_get}
+use Rattle.std.specs.Option.{option_or}
+use Rattle.word.specs.declared.Width.TheVariants.{W64}
+use Rattle.word.specs.declared.Operation.TheVariants.{Add, ArithmeticShiftRight}
+use Rattle.insn.specs.declared.insn.Insn.{Insn}
+use Rattle.insn.specs.declared.insn.Insn.TheVariants.{Arithmetic}
+use Rattle.insn.specs.declared.insn.Operand.TheVariants.{Register as Source}
+use Rattle.insn.specs.Program.{instruction_at}
+use Rattle.absval.specs.declared.value.AbsVal.{AbsVal}
+use Rattle.absval.specs.declared.value.AbsVal.TheVariants.{Number}
+use Rattle.absval.specs.Table.{in_a_row}
+use Rattle.verify.specs.declared.state.AbsState.{AbsState}
+use Rattle.verify.specs.Registers.{known_at}
+use Rattle.causes.specs.declared.mark.Mark.{Mark}
+use Rattle.causes.specs.declared.mark.Mark.TheVariants.{Sets}
+use Rattle.causes.specs.Marks.{KnownByUnit, known_by}
+use Rattle.explain.specs.declared.sentence.Sentence.{Sentence}
+use Rattle.explain.specs.declared.sentence.Sentence.TheVariants.{Register}
+use Rattle.explain.specs.declared.sentence.Misuse.TheVariants.{Computed}
+use Rattle.explain.specs.Reads.{of_first, of_operand}
+
+abbrev pub is_either_sign : AbsVal → Bool
+is_either_sign (Number n) = is_none (in_a_row n.range)
+is_either_sign value = false
+
+-- a register that is one
+abbrev pub number_at : List AbsVal → Option ℕ → Option ℕ
+number_at registers None = None
+number_at registers (Some r) = if is_either_sign (known_at registers r) then Some r else None
+
+-- the first that an operation reads; `arsh` has a rule of its own
+abbrev pub computed_of : Insn → List AbsVal → Option ℕ
+computed_of (Arithmetic w ArithmeticShiftRight dst operand) registers = None
+computed_of (Arithmetic w operation dst operand) registers = option_or (number_at registers (of_first operation dst)) (number_at registers (of_operand operand))
+computed_of i registers = None
+
+abbrev pub is_set : Option Mark → Bool
+is_set (Some Sets) = true
+is_set _ = false
+
+-- the last of the units below one that set it
+abbrev pub last_set : List Mark → ℕ → Option ℕ
+last_set marks zero = None
+last_set marks (suc n) = if is_set (slice_get marks n) then Some n else last_set marks n
+
+abbrev pub origin_at : ℕ → Option Insn → Option AbsState → Option (ℕ × ℕ)
+origin_at unit (Some i) (Some a) = option_map (λ r. (r, unit)) (computed_of i a.registers)
+origin_at unit i known = None
+
+-- the register, and the unit that computed of it what is asked about, the last that set it
+abbrev pub origin_of : List Insn → KnownByUnit → List Mark → ℕ → Option (ℕ × ℕ)
+origin_of program survey marks unit = option_and_then (λ n. origin_at n (instruction_at program n) (known_by (survey n))) (last_set marks unit)
+
+abbrev pub from_origin : (ℕ → ℕ → List ℕ) → Option (ℕ × ℕ) → List ℕ
+from_origin tells None = []
+from_origin tells (Some origin) = tells origin.0 origin.1
+
+-- the number of a sum with a pointer that stands in the number's register
+abbrev pub summed : Insn → Sentence → Option ℕ
+summed (Arithmetic W64 Add dst (Source src)) (Register (Computed r value)) = Some dst
+summed i s = None
+
+abbrev pub other_number : Insn → Option AbsState → Sentence → Option ℕ
+other_number i None s = None
+other_number i (Some a) s = number_at a.registers (summed i s)

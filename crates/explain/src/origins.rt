@@ -1,0 +1,139 @@
+//! Of which register a number was computed that may be above or below 0.
+ghost use Rattle.std.specs.Prelude.{◌≡◌, ◌<◌, IfSome, option_map, slice_get};
+ghost use Rattle.insn.specs.Program.{instruction_at};
+ghost use Rattle.causes.specs.Marks.{known_by};
+ghost use Rattle.explain.specs.Origins.{is_either_sign, number_at, computed_of, is_set, last_set, origin_at, origin_of, summed, other_number};
+
+use crate::reads::{of_first, of_operand};
+use crate::sentence::{Misuse, Sentence};
+use absval::AbsVal;
+use causes::{Mark, known_by};
+use insn::{Insn, Operand, Program, Reg};
+use verify::AbsState;
+use word::{Operation, Width};
+
+/// Whether it is a number that, read as signed, may be above or below 0.
+fn is_either_sign(value: AbsVal) -> bool
+    ensures { result ≡ is_either_sign value }
+{
+    match value {
+        AbsVal::Number(numbers) => numbers.as_signed().is_none(),
+        AbsVal::Unset | AbsVal::Pointer(..) => false,
+    }
+}
+
+/// A register that is one.
+fn number_at(state: &AbsState, register: Option<Reg>) -> Option<Reg>
+    ensures { result ≡ number_at state.now.registers register }
+{
+    let r = register?;
+    if is_either_sign(state.known(r)) {
+        Some(r)
+    } else {
+        None
+    }
+}
+
+/// The first that an operation reads.
+fn computed_of(insn: &Insn, state: &AbsState) -> Option<Reg>
+    ensures { result ≡ computed_of insn.now state.now.registers }
+{
+    let Insn::Arithmetic {
+        operation,
+        dst,
+        operand,
+        ..
+    } = insn
+    else {
+        return None;
+    };
+    if let Operation::ArithmeticShiftRight = operation {
+        return None;
+    }
+    match number_at(state, of_first(*operation, *dst)) {
+        Some(r) => Some(r),
+        None => number_at(state, of_operand(*operand)),
+    }
+}
+
+/// Whether the instruction of a unit sets it.
+pub(crate) fn is_set(marks: &[Mark], unit: usize) -> bool
+    ensures { result ≡ is_set (slice_get marks.now unit) }
+{
+    match marks.get(unit) {
+        Some(Mark::Sets) => true,
+        _ => false,
+    }
+}
+
+/// The last of the units below one that set it.
+pub(crate) fn last_set(marks: &[Mark], unit: usize) -> Option<usize>
+    ensures set { result ≡ last_set marks.now unit }
+    ensures below { IfSome result (λ n. n < unit) }
+{
+    if unit == 0 {
+        return None;
+    }
+    if is_set(marks, unit - 1) {
+        return Some(unit - 1);
+    }
+    last_set(marks, unit - 1)
+}
+
+/// The register of which an instruction computed it, with its unit.
+fn origin_at(unit: usize, insn: Option<Insn>, state: Option<&AbsState>) -> Option<(Reg, usize)>
+    ensures origin { result ≡ origin_at unit insn (option_map (λ a. a.now) state.entry) }
+    ensures there { IfSome result (λ origin. origin.1 ≡ unit) }
+{
+    let Some(insn) = insn else {
+        return None;
+    };
+    let Some(state) = state else {
+        return None;
+    };
+    let r = computed_of(&insn, state)?;
+    Some((r, unit))
+}
+
+/// The register of which the last unit that set it computed it, and that unit.
+pub(crate) fn origin_of(
+    program: &Program,
+    states: &[Option<AbsState>],
+    marks: &[Mark],
+    unit: usize,
+) -> Option<(Reg, usize)>
+    ensures origin { result ≡ origin_of program.now (slice_get states.now) marks.now unit }
+    ensures below { IfSome result (λ origin. origin.1 < unit) }
+{
+    let place = last_set(marks, unit)?;
+    origin_at(place, program.at(place), known_by(states, place))
+}
+
+/// The number of a sum with a pointer that stands in the number's register.
+fn summed(insn: &Insn, sentence: &Sentence) -> Option<Reg>
+    ensures { result ≡ summed insn.now sentence.now }
+{
+    let Sentence::Register(Misuse::Computed(_, _)) = sentence else {
+        return None;
+    };
+    match insn {
+        Insn::Arithmetic {
+            width: Width::W64,
+            operation: Operation::Add,
+            dst,
+            operand: Operand::Register(_),
+        } => Some(*dst),
+        _ => None,
+    }
+}
+
+/// The same, where it may be above or below 0.
+pub(crate) fn other_number(
+    insn: &Insn,
+    state: Option<&AbsState>,
+    sentence: &Sentence,
+) -> Option<Reg>
+    ensures { result ≡ other_number insn.now (option_map (λ a. a.now) state.entry) sentence.now }
+{
+    number_at(state?, summed(insn, sentence))
+}

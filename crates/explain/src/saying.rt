@@ -1,0 +1,343 @@
+//! Why a program is refused, as text.
+ghost use Rattle.std.specs.Prelude.{◌≡◌, ◌++◌, codes, decimal, string_bytes, OnOk};
+ghost use Rattle.std.specs.Fmt.{signed_decimal};
+ghost use Rattle.explain.specs.Sentences.{leads_text, structure_text, place_text, reached_text, would_text, named_text, limit_text, misuse_text, extent_text, access_text, helper_text, above_text, pointer_text, past_text, no_helper_text, together_text, misfit_text, sentence_text};
+
+use crate::sentence::{Access, Misfit, Misuse, Sentence, Structure};
+use crate::values::{Span, put_known, put_span, region_name};
+use absval::AbsVal;
+use asm::{put, put_number, put_unsigned};
+use causes::numbered;
+use helper::Helper;
+use insn::Reg;
+use semantics::Region;
+use std::alloc::AllocError;
+
+/// Adds a register by its name.
+pub(crate) fn put_register(out: &mut String, r: Reg) -> Result<(), AllocError>
+    ensures { OnOk result (string_bytes out.new ≡ string_bytes out.old ++ (codes "r" ++ decimal r)) }
+{
+    put(out, "r")?;
+    put_unsigned(out, u64::from(r.number()))
+}
+
+/// Adds a register by its name, and what is known of it.
+pub(crate) fn put_named(out: &mut String, r: Reg, value: AbsVal) -> Result<(), AllocError>
+    ensures { OnOk result (string_bytes out.new ≡ string_bytes out.old ++ named_text r value) }
+{
+    put_register(out, r)?;
+    put(out, " ")?;
+    put_known(out, value)
+}
+
+/// Adds a register, what is known of it, and a text.
+fn put_so(out: &mut String, r: Reg, value: AbsVal, text: &str) -> Result<(), AllocError>
+    ensures { OnOk result (string_bytes out.new ≡ string_bytes out.old ++ (named_text r value ++ text.now)) }
+{
+    put_named(out, r, value)?;
+    put(out, text)
+}
+
+/// Adds a text and a number.
+pub(crate) fn put_counted(out: &mut String, text: &str, number: u64) -> Result<(), AllocError>
+    ensures { OnOk result (string_bytes out.new ≡ string_bytes out.old ++ (text.now ++ decimal number)) }
+{
+    put(out, text)?;
+    put_unsigned(out, number)
+}
+
+/// Adds a text and a number of either sign.
+fn put_signed(out: &mut String, text: &str, number: i64) -> Result<(), AllocError>
+    ensures { OnOk result (string_bytes out.new ≡ string_bytes out.old ++ (text.now ++ signed_decimal number)) }
+{
+    put(out, text)?;
+    put_number(out, number)
+}
+
+/// Adds a number between two texts.
+pub(crate) fn put_between(
+    out: &mut String,
+    front: &str,
+    number: u64,
+    behind: &str,
+) -> Result<(), AllocError>
+    ensures { OnOk result (string_bytes out.new ≡ string_bytes out.old ++ (front.now ++ decimal number ++ behind.now)) }
+{
+    put(out, front)?;
+    put_unsigned(out, number)?;
+    put(out, behind)
+}
+
+/// The same of a number of either sign.
+pub(crate) fn put_signed_between(
+    out: &mut String,
+    front: &str,
+    number: i64,
+    behind: &str,
+) -> Result<(), AllocError>
+    ensures { OnOk result (string_bytes out.new ≡ string_bytes out.old ++ (front.now ++ signed_decimal number ++ behind.now)) }
+{
+    put(out, front)?;
+    put_number(out, number)?;
+    put(out, behind)
+}
+
+/// Adds where a jump leads.
+#[tactic(auto, unfolding(crate::specs::Sentences::leads_text))]
+fn put_target(out: &mut String, to: i64) -> Result<(), AllocError>
+    ensures { OnOk result (string_bytes out.new ≡ string_bytes out.old ++ leads_text to) }
+{
+    put_signed(out, "the jump leads to unit ", to)
+}
+
+/// The same, and a text.
+fn put_leads(out: &mut String, to: i64, text: &str) -> Result<(), AllocError>
+    ensures { OnOk result (string_bytes out.new ≡ string_bytes out.old ++ (leads_text to ++ text.now)) }
+{
+    put_target(out, to)?;
+    put(out, text)
+}
+
+/// Adds where a jump leads that is at fault.
+fn put_structure(out: &mut String, structure: Structure) -> Result<(), AllocError>
+    ensures { OnOk result (string_bytes out.new ≡ string_bytes out.old ++ structure_text structure) }
+{
+    match structure {
+        Structure::Back(to) => put_leads(out, to, ": a jump leads only forward"),
+        Structure::Out(to, units) => {
+            put_leads(out, to, ", past all ")?;
+            put_unsigned(out, units as u64)
+        }
+        Structure::Inside(to) => put_leads(out, to, ", inside a wide instruction"),
+        Structure::NoExit => put(out, "the last instruction is not the exit"),
+    }
+}
+
+/// Adds a part of a region.
+#[tactic(auto, unfolding(crate::specs::Sentences::place_text))]
+fn put_part(out: &mut String, region: Region, span: Span) -> Result<(), AllocError>
+    ensures { OnOk result (string_bytes out.new ≡ string_bytes out.old ++ place_text region span) }
+{
+    put(out, "the ")?;
+    put(out, region_name(region))?;
+    put(out, " at ")?;
+    put_span(out, span)
+}
+
+/// Adds what may be reached through a register, and a text.
+#[tactic(auto, unfolding(crate::specs::Sentences::reached_text))]
+fn put_reached(
+    out: &mut String,
+    r: Reg,
+    region: Region,
+    span: Span,
+    text: &str,
+) -> Result<(), AllocError>
+    ensures { OnOk result (string_bytes out.new ≡ string_bytes out.old ++ (reached_text r region span ++ text.now)) }
+{
+    put_register(out, r)?;
+    put(out, " may reach ")?;
+    put_part(out, region, span)?;
+    put(out, text)
+}
+
+/// How far a pointer may point, on the side where it points too far.
+fn limit(high: i64) -> &'static str
+    ensures { result.now ≡ limit_text high }
+{
+    if high > 65_536 { "65536" } else { "-65536" }
+}
+
+/// Adds that a register would point.
+#[tactic(auto, unfolding(crate::specs::Sentences::would_text))]
+fn put_would(out: &mut String, r: Reg) -> Result<(), AllocError>
+    ensures { OnOk result (string_bytes out.new ≡ string_bytes out.old ++ would_text r) }
+{
+    put_register(out, r)?;
+    put(out, " would point")
+}
+
+/// Adds a part of a region, and how far a pointer may point.
+#[tactic(auto, unfolding(crate::specs::Sentences::past_text))]
+fn put_past(out: &mut String, region: Region, span: Span) -> Result<(), AllocError>
+    ensures { OnOk result (string_bytes out.new ≡ string_bytes out.old ++ past_text region span) }
+{
+    put_part(out, region, span)?;
+    put(out, ", past ")?;
+    put(out, limit(span.high))
+}
+
+/// Adds that a register would point too far.
+fn put_far(out: &mut String, r: Reg, region: Region, span: Span) -> Result<(), AllocError>
+    ensures { OnOk result (string_bytes out.new ≡ string_bytes out.old ++ misuse_text (Misuse.Far r region span)) }
+{
+    put_would(out, r)?;
+    put(out, " into ")?;
+    put_past(out, region, span)
+}
+
+/// Adds that a pointer is stored, and not whole.
+fn put_stored(
+    out: &mut String,
+    r: Reg,
+    value: AbsVal,
+    base: Reg,
+    at: AbsVal,
+) -> Result<(), AllocError>
+    ensures { OnOk result (string_bytes out.new ≡ string_bytes out.old ++ misuse_text (Misuse.Stored r value base at)) }
+{
+    put_so(out, r, value, ", stored at ")?;
+    put_so(
+        out,
+        base,
+        at,
+        ": a pointer is stored as 8 bytes, with one offset, at one address",
+    )
+}
+
+/// Adds how a register is used.
+fn put_misuse(out: &mut String, misuse: Misuse) -> Result<(), AllocError>
+    ensures { OnOk result (string_bytes out.new ≡ string_bytes out.old ++ misuse_text misuse) }
+{
+    match misuse {
+        Misuse::Unset(r) => {
+            put_register(out, r)?;
+            put(
+                out,
+                " is read, and may be unset, or of different kinds on different ways",
+            )
+        }
+        Misuse::Frame => put(out, "r10 is written, which marks the end of the stack"),
+        Misuse::Far(r, region, span) => put_far(out, r, region, span),
+        Misuse::EitherSign(r, value) => put_so(
+            out,
+            r,
+            value,
+            ": a number that moves a pointer is read as signed, and this one may be above or below 0",
+        ),
+        Misuse::Computed(r, value) => put_so(
+            out,
+            r,
+            value,
+            ": of a pointer only a copy of 64 bits is made, or, in its own register, the 64-bit sum or difference with a number",
+        ),
+        Misuse::Compared(r, value) => put_so(out, r, value, ": a comparison is of numbers only"),
+        Misuse::Stored(r, value, base, at) => put_stored(out, r, value, base, at),
+        Misuse::NoBase(r, value) => {
+            put_so(out, r, value, ": memory is reached by a pointer only")
+        }
+        Misuse::Exit(value) => { put_so(out, numbered(0), value, ": a program ends with a number") }
+    }
+}
+
+/// From which offset to which a region has bytes.
+fn extent(region: Region) -> &'static str
+    ensures { result.now ≡ extent_text region }
+{
+    match region {
+        Region::Stack => "-512 to -1",
+        Region::Context => "0 to 4095",
+    }
+}
+
+/// Adds what an access may touch.
+fn put_access(out: &mut String, access: Access) -> Result<(), AllocError>
+    ensures { OnOk result (string_bytes out.new ≡ string_bytes out.old ++ access_text access) }
+{
+    match access {
+        Access::Outside(r, region, span) => {
+            put_reached(out, r, region, span, ": it has ")?;
+            put(out, extent(region))
+        }
+        Access::Empty(r, span, cell) => {
+            put_reached(out, r, Region::Stack, span, ": no byte is known at ")?;
+            put_number(out, i64::from(cell) - 512)
+        }
+        Access::Context(r, value) => put_so(out, r, value, ": the context is only read"),
+    }
+}
+
+/// The name of a helper, as in assembly.
+fn helper_name(helper: Helper) -> &'static str
+    ensures { result.now ≡ helper_text helper }
+{
+    match helper {
+        Helper::BoardGet => "board_get",
+        Helper::BoardSwap => "board_swap",
+        Helper::BoardAdd => "board_add",
+        Helper::BoardCas => "board_cas",
+        Helper::BoardCopy => "board_copy",
+        Helper::Send => "send",
+        Helper::SendRow => "send_row",
+        Helper::Sway => "sway",
+        Helper::Honest => "honest",
+        Helper::SignOrder => "sign_order",
+        Helper::PassOn => "pass_on",
+    }
+}
+
+/// Adds up to which number a helper takes one.
+#[tactic(auto, unfolding(crate::specs::Sentences::above_text))]
+fn put_above(out: &mut String, helper: Helper, most: u64) -> Result<(), AllocError>
+    ensures { OnOk result (string_bytes out.new ≡ string_bytes out.old ++ above_text helper most) }
+{
+    put(out, helper_name(helper))?;
+    put_between(out, " takes a number up to ", most, " there")
+}
+
+/// Adds that a helper takes a pointer.
+#[tactic(auto, unfolding(crate::specs::Sentences::pointer_text))]
+fn put_pointer(out: &mut String, helper: Helper) -> Result<(), AllocError>
+    ensures { OnOk result (string_bytes out.new ≡ string_bytes out.old ++ pointer_text helper) }
+{
+    put(out, helper_name(helper))?;
+    put(out, " takes a pointer there")
+}
+
+/// What is said of a number that no helper has.
+#[tactic(auto, unfolding(crate::specs::Sentences::no_helper_text))]
+fn no_helper() -> &'static str
+    ensures { result.now ≡ no_helper_text }
+{
+    "no helper has the number "
+}
+
+/// What is said of slot and count together.
+#[tactic(auto, unfolding(crate::specs::Sentences::together_text))]
+fn together() -> &'static str
+    ensures { result.now ≡ together_text }
+{
+    "r1 and r3 together may be "
+}
+
+/// Adds what a call asks.
+fn put_misfit(out: &mut String, misfit: Misfit) -> Result<(), AllocError>
+    ensures { OnOk result (string_bytes out.new ≡ string_bytes out.old ++ misfit_text misfit) }
+{
+    match misfit {
+        Misfit::Helper(number) => {
+            put_signed_between(out, no_helper(), i64::from(number), ": they are 1 to 11")
+        }
+        Misfit::Above(helper, r, value, most) => {
+            put_so(out, r, value, ": ")?;
+            put_above(out, helper, most)
+        }
+        Misfit::NoPointer(helper, r, value) => {
+            put_so(out, r, value, ": ")?;
+            put_pointer(out, helper)
+        }
+        Misfit::Board(sum) => { put_between(out, together(), sum, ", and the board has 64 words") }
+    }
+}
+
+/// Adds a sentence.
+pub(crate) fn put_sentence_text(out: &mut String, sentence: Sentence) -> Result<(), AllocError>
+    ensures { OnOk result (string_bytes out.new ≡ string_bytes out.old ++ sentence_text sentence) }
+{
+    match sentence {
+        Sentence::Structure(structure) => put_structure(out, structure),
+        Sentence::Register(misuse) => put_misuse(out, misuse),
+        Sentence::Memory(access) => put_access(out, access),
+        Sentence::Call(misfit) => put_misfit(out, misfit),
+    }
+}

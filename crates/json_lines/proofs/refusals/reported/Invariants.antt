@@ -1,0 +1,10 @@
+use Rattle.std.proofs.Common.{◌≡◌, length}
+use Rattle.text.specs.Parts.{lines_of}
+use Rattle.json_lines.specs.Refusals.{reported}
+use Rattle.json_lines.proofs.refusals.reported.Given as goal
+
+abbrev pub invariant-loop-first : goal.invariant-loop-first
+invariant-loop-first l = reported (lines_of l.rest) ≡ reported (lines_of l.lines)
+
+abbrev pub decreases-loop-first : goal.decreases-loop-first
+decreases-loop-first l = length l.rest

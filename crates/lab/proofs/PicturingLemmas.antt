@@ -1,0 +1,39 @@
+-- What is drawn of a text that is a message table or a campaign's.
+use Rattle.std.proofs.Common.{ℕ, ◌≡◌, Bool, true, false, List, [], refl, subst, sym}
+use Rattle.drawing.specs.Drawn.{DrawsTable}
+use Rattle.drawing.specs.declared.form.Form.{Form}
+use Rattle.drawing.specs.declared.node.View.{View}
+use Rattle.retold.specs.Retold.{table_of}
+use Rattle.round.specs.Scenario.{Scenario}
+use Rattle.scenario.specs.Told.{Tells}
+use Rattle.world.specs.Chronicle.{Chronicle}
+use Rattle.lab.specs.Campaigns.{played}
+use Rattle.lab.specs.Picturing.{IsTableIn, is_toml}
+use Rattle.lab.specs.Refusals.{RefusesEither, RefusesNaming, RefusesTree}
+use Rattle.lab.specs.Strangers.{KnowsAll}
+use Rattle.lab.specs.declared.refusal.Refusal.{Refusal}
+
+module _ (text traitors : List ℕ) (view : View) (form : Form) (general : ℕ) (picture : List ℕ) where
+  pub of_table : is_toml text ≡ false → DrawsTable text traitors view form general picture
+      → (table : List ℕ) × IsTableIn (is_toml text) text table × DrawsTable table traitors view form general picture
+  of_table none draws = (text, subst (λ (own : Bool). IsTableIn own text text) (sym none) refl, draws)
+
+  pub of_campaign : (s : Scenario) → is_toml text ≡ true → Tells text s → DrawsTable (table_of (played s [])) traitors view form general picture
+      → (table : List ℕ) × IsTableIn (is_toml text) text table × DrawsTable table traitors view form general picture
+  of_campaign s is tells draws =
+      (table_of (played s []), subst (λ (own : Bool). IsTableIn own text (table_of (played s []))) (sym is) (s, tells, refl), draws)
+
+  pub of_chronicle : (s : Scenario) (c : Chronicle) → c ≡ played s [] → text ≡ table_of c → DrawsTable text traitors view form general picture
+      → DrawsTable (table_of (played s [])) traitors view form general picture
+  of_chronicle s c is written draws =
+      subst (λ (own : Chronicle). DrawsTable (table_of own) traitors view form general picture) is
+      (subst (λ (own : List ℕ). DrawsTable own traitors view form general picture) written draws)
+
+pub no_table : (named text : List ℕ) (refusal : Refusal) → is_toml text ≡ false → RefusesNaming named text refusal → RefusesTree named text refusal
+no_table named text refusal none refuses = subst (λ (own : Bool). RefusesEither own named text refusal) (sym none) refuses
+
+pub no_campaign : (named text : List ℕ) (refusal : Refusal) → is_toml text ≡ true → RefusesEither true named text refusal → RefusesTree named text refusal
+no_campaign named text refusal is refuses = subst (λ (own : Bool). RefusesEither own named text refusal) (sym is) refuses
+
+pub known_in : (named text : List ℕ) (toml : Bool) → is_toml text ≡ toml → KnowsAll toml text named → KnowsAll (is_toml text) text named
+known_in named text toml is known = subst (λ (own : Bool). KnowsAll own text named) (sym is) known

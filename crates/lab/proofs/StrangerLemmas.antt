@@ -1,0 +1,99 @@
+-- Generals who are named, by what is read of a text.
+use Rattle.std.proofs.Common.{ℕ, zero, suc, ◌≡◌, ◌∙◌, Bool, true, false, List, [], ◌∷◌, take, ap, inl, inr, refl, sym, subst}
+use Rattle.std.specs.Prelude.{None, Ok, Some, find, slice_get}
+use Rattle.std.proofs.lemmas.Bool.{cases_Bool, cond-false, cond-true}
+use Rattle.book.specs.Grammar.{table_told}
+use Rattle.book.specs.Table.{MessageTable}
+use Rattle.round.specs.Scenario.{Scenario as Campaign}
+use Rattle.scenario.specs.Told.{Tells}
+use Rattle.lab.specs.Refusals.{RefusesEither, RefusesNaming, RefusesScenario, RefusesTable}
+use Rattle.lab.specs.Strangers.{HasGenerals, IsStranger, KnowsAll, stranger_among}
+use Rattle.lab.specs.declared.refusal.Refusal.{Refusal}
+use Rattle.lab.specs.declared.refusal.Refusal.TheVariants.{Codec, Object, Verifier, Assembly, Table, Scenario, Setting, Trace, Threads, Stranger, NotText, Memory}
+
+pub of_table : (text named : List ℕ) (table : MessageTable) → table_told text ≡ Ok table → stranger_among table.generals named ≡ None → KnowsAll false text named
+of_table text named table is none = (table.generals, (table, is, refl), none)
+
+pub of_scenario : (text named : List ℕ) (s : Campaign) → Tells text s → stranger_among s.generals named ≡ None → KnowsAll true text named
+of_scenario text named s tells none = (s.generals, (s, tells, refl), none)
+
+pub unread_table : (text named : List ℕ) (refusal : Refusal) → RefusesTable text refusal → RefusesNaming named text refusal
+unread_table text named (Codec error) refuses = refuses
+unread_table text named (Object fault) refuses = refuses
+unread_table text named (Verifier fault) refuses = refuses
+unread_table text named (Assembly error) refuses = refuses
+unread_table text named (Table error) refuses = refuses
+unread_table text named (Scenario error) refuses = refuses
+unread_table text named (Setting error) refuses = refuses
+unread_table text named (Trace error) refuses = refuses
+unread_table text named (Threads error) refuses = refuses
+unread_table text named (Stranger g n) refuses = absurd refuses
+unread_table text named NotText refuses = refuses
+unread_table text named Memory refuses = refuses
+
+pub unread_scenario : (text named : List ℕ) (refusal : Refusal) → RefusesScenario text refusal → RefusesEither true named text refusal
+unread_scenario text named (Codec error) refuses = refuses
+unread_scenario text named (Object fault) refuses = refuses
+unread_scenario text named (Verifier fault) refuses = refuses
+unread_scenario text named (Assembly error) refuses = refuses
+unread_scenario text named (Table error) refuses = refuses
+unread_scenario text named (Scenario error) refuses = refuses
+unread_scenario text named (Setting error) refuses = refuses
+unread_scenario text named (Trace error) refuses = refuses
+unread_scenario text named (Threads error) refuses = refuses
+unread_scenario text named (Stranger g n) refuses = absurd refuses
+unread_scenario text named NotText refuses = refuses
+unread_scenario text named Memory refuses = refuses
+
+pub strange_to_table : (text named : List ℕ) (table : MessageTable) (refusal : Refusal) → table_told text ≡ Ok table → IsStranger table.generals named refusal → RefusesNaming named text refusal
+strange_to_table text named table (Codec error) is strange = absurd strange
+strange_to_table text named table (Object fault) is strange = absurd strange
+strange_to_table text named table (Verifier fault) is strange = absurd strange
+strange_to_table text named table (Assembly error) is strange = absurd strange
+strange_to_table text named table (Table error) is strange = absurd strange
+strange_to_table text named table (Scenario error) is strange = absurd strange
+strange_to_table text named table (Setting error) is strange = absurd strange
+strange_to_table text named table (Trace error) is strange = absurd strange
+strange_to_table text named table (Threads error) is strange = absurd strange
+strange_to_table text named table (Stranger g n) is strange = ((table, is, sym strange.0), subst (λ (n : ℕ). stranger_among n named ≡ Some g) (sym strange.0) strange.1)
+strange_to_table text named table NotText is strange = absurd strange
+strange_to_table text named table Memory is strange = absurd strange
+
+pub strange_to_scenario : (text named : List ℕ) (s : Campaign) (refusal : Refusal) → Tells text s → IsStranger s.generals named refusal → RefusesEither true named text refusal
+strange_to_scenario text named s (Codec error) tells strange = absurd strange
+strange_to_scenario text named s (Object fault) tells strange = absurd strange
+strange_to_scenario text named s (Verifier fault) tells strange = absurd strange
+strange_to_scenario text named s (Assembly error) tells strange = absurd strange
+strange_to_scenario text named s (Table error) tells strange = absurd strange
+strange_to_scenario text named s (Scenario error) tells strange = absurd strange
+strange_to_scenario text named s (Setting error) tells strange = absurd strange
+strange_to_scenario text named s (Trace error) tells strange = absurd strange
+strange_to_scenario text named s (Threads error) tells strange = absurd strange
+strange_to_scenario text named s (Stranger g n) tells strange = ((s, tells, sym strange.0), subst (λ (n : ℕ). stranger_among n named ≡ Some g) (sym strange.0) strange.1)
+strange_to_scenario text named s NotText tells strange = absurd strange
+strange_to_scenario text named s Memory tells strange = absurd strange
+
+-- ---- the first that is a stranger
+
+some_none : {A : Type 0} {a : A} → Some a ≡ None → ⊥
+some_none e = cc
+
+pub found_here : (p : ℕ → Bool) (xs : List ℕ) (i x : ℕ) → find p (take i xs) ≡ None → slice_get xs i ≡ Some x → p x ≡ true → find p xs ≡ Some x
+found_here p [] i x none at e = cc
+found_here p (y ∷ xs) zero x none at e =
+    let same : y ≡ x = cc in
+    cond-true (p y) (Some y) (find p xs) (ap p same ∙ e) ∙ ap (λ (v : ℕ). Some v) same
+found_here p (y ∷ xs) (suc i) x none at e = elim (cases_Bool (p y)) [
+  | inl here ↦ absurd (some_none (sym (cond-true (p y) (Some y) (find p (take i xs)) here) ∙ none))
+  | inr apart ↦ cond-false (p y) (Some y) (find p xs) apart ∙ found_here p xs i x (sym (cond-false (p y) (Some y) (find p (take i xs)) apart) ∙ none) at e
+]
+
+pub none_more : (p : ℕ → Bool) (xs : List ℕ) (i x : ℕ) → find p (take i xs) ≡ None → slice_get xs i ≡ Some x → p x ≡ false → find p (take (suc i) xs) ≡ None
+none_more p [] i x none at e = cc
+none_more p (y ∷ xs) zero x none at e =
+    let same : y ≡ x = cc in
+    cond-false (p y) (Some y) None (ap p same ∙ e)
+none_more p (y ∷ xs) (suc i) x none at e = elim (cases_Bool (p y)) [
+  | inl here ↦ absurd (some_none (sym (cond-true (p y) (Some y) (find p (take i xs)) here) ∙ none))
+  | inr apart ↦ cond-false (p y) (Some y) (find p (take (suc i) xs)) apart ∙ none_more p xs i x (sym (cond-false (p y) (Some y) (find p (take i xs)) apart) ∙ none) at e
+]

@@ -1,0 +1,26 @@
+-- What `dis --partial` and `asm --partial` print.
+use Rattle.std.specs.Prelude.{ℕ, ◌≡◌, ◌++◌, List, Ok, codes, option_map, string_bytes}
+use Rattle.hex.specs.Hex.{encode_lower}
+use Rattle.elf.specs.Entry.{entry_of}
+use Rattle.command_line.specs.declared.tasks.Notation.{Notation}
+use Rattle.command_line.specs.declared.tasks.Notation.TheVariants.{Bytecode, Assembly as Texts, Object as Objects}
+use Rattle.partial.specs.Printing.{IsTextOf}
+use Rattle.partial.specs.Reading.{bytes_said}
+
+-- the text says these bytes, line by line
+abbrev pub AssemblesPartlyRaw : List ℕ → List ℕ → Type 0
+AssemblesPartlyRaw text bytes = bytes_said text ≡ Ok bytes
+
+-- and this is their line
+abbrev pub AssemblesPartly : List ℕ → List ℕ → Type 0
+AssemblesPartly text line = (bytes : List ℕ) × (bytes_said text ≡ Ok bytes) × (line ≡ encode_lower bytes ++ codes "\n")
+
+-- the file has these bytes of a program in its notation, be they instructions or not
+abbrev pub HasCode : Notation → List ℕ → List ℕ → Type 0
+HasCode Bytecode bytes code = code ≡ bytes
+HasCode Texts text code = bytes_said text ≡ Ok code
+HasCode (Objects entry) object code = entry_of object (option_map string_bytes entry) ≡ Ok code
+
+-- this is their text, which says them and no others
+abbrev pub DisassemblesPartly : Notation → List ℕ → List ℕ → Type 0
+DisassemblesPartly notation bytes text = (code : List ℕ) × HasCode notation bytes code × IsTextOf code text × (bytes_said text ≡ Ok code)

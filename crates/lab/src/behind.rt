@@ -1,0 +1,90 @@
+//! What comes behind a first file with which `draw` and `schedule` go on: the campaign's course is in the second one.
+ghost use Rattle.std.specs.Prelude.{IfErr, IfOk, IsSomeAnd, option_map};
+ghost use Rattle.lab.specs.Faults.{Stops};
+ghost use Rattle.lab.specs.Serving.{IsDrawnAs, IsDrawnBy, IsRetracedBy, IsToldLater};
+ghost use Rattle.lab.specs.declared.first_answer.FirstAnswer.TheVariants.{Draw, DrawRecorded, Retrace};
+
+use crate::diagramming::{diagrammed, record_diagrammed};
+use crate::failure::Failure;
+use crate::reading::read_second;
+use crate::scheduling::retraced;
+use crate::serving::scheduled;
+use crate::whys::{Traced, later};
+use round::Scenario;
+use std::alloc::Global;
+use streams::Source;
+
+/// The picture of the campaign by the schedule of the second file.
+pub(crate) fn draw_by<'a, R: Source>(
+    alloc: Global,
+    scenario: Scenario,
+    reported: bool,
+    file: &'a str,
+    second: Option<R>,
+) -> Result<Vec<u8>, Failure<'a>>
+    ensures drawn { IfOk result (λ text. IsDrawnBy (option_map R.bytes second) scenario text.items) }
+    ensures fault { IfErr result
+        (Stops (IsSomeAnd second R.fails) (IsToldLater reported file.entry.now (option_map R.bytes second) (Draw scenario)) file.entry.now) }
+{
+    let schedule = scheduled(alloc, reported, file, second)?;
+    match diagrammed(alloc, scenario, &schedule) {
+        Ok(picture) => Ok(picture),
+        Err(_) => Err(Failure::Memory),
+    }
+}
+
+/// The picture of the campaign as the chronicle in the second file tells it.
+pub(crate) fn draw_record<'a, R: Source>(
+    alloc: Global,
+    scenario: &Scenario,
+    reported: bool,
+    file: &'a str,
+    second: Option<R>,
+) -> Result<Vec<u8>, Failure<'a>>
+    ensures drawn { IfOk result (λ text. IsDrawnAs (option_map R.bytes second) scenario.now text.items) }
+    ensures fault { IfErr result
+        (Stops (IsSomeAnd second R.fails) (IsToldLater reported file.entry.now (option_map R.bytes second) (DrawRecorded scenario.now)) file.entry.now) }
+{
+    let bytes = read_second(alloc, file, second)?;
+    match record_diagrammed(alloc, scenario, bytes.as_slice()) {
+        Ok(picture) => Ok(picture),
+        Err(refusal) => {
+            Err(later(
+                alloc,
+                reported,
+                Traced::Nothing,
+                refusal,
+                file,
+                bytes.as_slice(),
+            ))
+        }
+    }
+}
+
+/// The schedule by which the campaign has the chronicle in the second file.
+pub(crate) fn retrace_of<'a, R: Source>(
+    alloc: Global,
+    scenario: &Scenario,
+    reported: bool,
+    file: &'a str,
+    second: Option<R>,
+) -> Result<Vec<u8>, Failure<'a>>
+    ensures retraced { IfOk result (λ text. IsRetracedBy (option_map R.bytes second) scenario.now text.items) }
+    ensures fault { IfErr result
+        (Stops (IsSomeAnd second R.fails) (IsToldLater reported file.entry.now (option_map R.bytes second) (Retrace scenario.now)) file.entry.now) }
+{
+    let bytes = read_second(alloc, file, second)?;
+    match retraced(alloc, scenario, bytes.as_slice()) {
+        Ok(lines) => Ok(lines),
+        Err(refusal) => {
+            Err(later(
+                alloc,
+                reported,
+                Traced::Nothing,
+                refusal,
+                file,
+                bytes.as_slice(),
+            ))
+        }
+    }
+}

@@ -1,0 +1,138 @@
+ghost use Rattle.std.specs.Prelude.{◌≡◌, ℕ, List, [], true, false, IfErr, IfOk, OnOk, string_bytes};
+ghost use Rattle.drawing.specs.Drawn.{DrawsTable};
+ghost use Rattle.lab.specs.Campaigns.{played};
+ghost use Rattle.lab.specs.Picturing.{IsTableIn, form_of, is_toml};
+ghost use Rattle.lab.specs.Refusals.{RefusesEither, RefusesNaming, RefusesScenario, RefusesTree};
+ghost use Rattle.lab.specs.Strangers.{KnowsAll};
+ghost use Rattle.retold.specs.Retold.{table_of};
+ghost use Rattle.scenario.specs.Told.{Tells};
+
+use crate::deciding::table_in;
+use crate::refusal::Refusal;
+use crate::strangers::know_all;
+use book::TableError;
+use command_line::Drawing;
+use drawing::{Form, Style, View, drawn};
+use retold::table;
+use round::Scenario;
+use std::alloc::{AllocError, Global};
+use world::{Schedule, play};
+
+/// What this general was told by the message table or, where the text is TOML, in the oral campaign that it tells, without a
+/// schedule; drawn so far, where these generals are named as traitors. Nothing where he is no lieutenant.
+///
+/// # Errors
+///
+/// What the table or the scenario refuses; the first who is named and is none of its generals; or want of memory.
+#[tactic(auto, using(crate::proofs::PicturingLemmas::of_table, crate::proofs::PicturingLemmas::of_campaign, crate::proofs::PicturingLemmas::no_table, crate::proofs::PicturingLemmas::no_campaign, crate::proofs::PicturingLemmas::known_in))]
+pub fn pictured(
+    alloc: Global,
+    text: &str,
+    general: u8,
+    traitors: &[u8],
+    drawing: Drawing,
+    view: View,
+) -> Result<String, Refusal>
+    ensures known { OnOk result (KnowsAll (is_toml text.now) text.now traitors.now) }
+    ensures drawn { IfOk result (λ picture. (table : List ℕ) × IsTableIn (is_toml text.now) text.now table
+        × DrawsTable table traitors.now view (form_of drawing) general (string_bytes picture)) }
+    ensures refused { IfErr result (RefusesTree traitors.now text.now) }
+{
+    let form = form(drawing);
+    if !is_toml(alloc, text)? {
+        return table_pictured(alloc, text, traitors, view, form, general);
+    }
+    let scenario = known_scenario(alloc, text, traitors)?;
+    Ok(campaign_pictured(alloc, scenario, traitors, view, form, general)?)
+}
+
+/// What he was told by the message table.
+#[tactic(auto, using(crate::proofs::StrangerLemmas::of_table, crate::proofs::StrangerLemmas::unread_table, crate::proofs::StrangerLemmas::strange_to_table))]
+fn table_pictured(
+    alloc: Global,
+    text: &str,
+    traitors: &[u8],
+    view: View,
+    form: Form,
+    general: u8,
+) -> Result<String, Refusal>
+    ensures known { OnOk result (KnowsAll false text.now traitors.now) }
+    ensures drawn { IfOk result (λ picture. DrawsTable text.now traitors.now view form general (string_bytes picture)) }
+    ensures refused { IfErr result (RefusesNaming traitors.now text.now) }
+{
+    know_all(table_in(alloc, text)?.generals(), traitors)?;
+    Ok(drawn(alloc, text, traitors, view, form, general)?)
+}
+
+/// The oral campaign that the text tells, of whose generals all are that are named.
+#[tactic(auto, using(crate::proofs::StrangerLemmas::of_scenario, crate::proofs::StrangerLemmas::unread_scenario, crate::proofs::StrangerLemmas::strange_to_scenario))]
+fn known_scenario(alloc: Global, text: &str, named: &[u8]) -> Result<Scenario, Refusal>
+    ensures known { OnOk result (KnowsAll true text.now named.now) }
+    ensures told { IfOk result (Tells text.now) }
+    ensures refused { IfErr result (RefusesEither true named.now text.now) }
+{
+    let scenario = scenario_in(alloc, text)?;
+    know_all(scenario.generals(), named)?;
+    Ok(scenario)
+}
+
+/// The oral campaign that the text tells.
+fn scenario_in(alloc: Global, text: &str) -> Result<Scenario, Refusal>
+    ensures told { IfOk result (Tells text.now) }
+    ensures refused { IfErr result (RefusesScenario text.now) }
+{
+    Ok(scenario::read(alloc, text)?)
+}
+
+/// Whether the text is TOML.
+fn is_toml(alloc: Global, text: &str) -> Result<bool, AllocError>
+    ensures { IfOk result (λ is. is ≡ is_toml text.now) }
+{
+    match toml::table_from_str(alloc, text) {
+        Ok(_) => Ok(true),
+        Err(error) => {
+            if error.is_memory() {
+                return Err(AllocError);
+            }
+            Ok(false)
+        }
+    }
+}
+
+/// What he was told in the campaign.
+#[tactic(auto, using(crate::proofs::CampaignLemmas::played_wholly, crate::proofs::PicturingLemmas::of_chronicle))]
+fn campaign_pictured(
+    alloc: Global,
+    scenario: Scenario,
+    traitors: &[u8],
+    view: View,
+    form: Form,
+    general: u8,
+) -> Result<String, AllocError>
+    ensures { IfOk result (λ picture. DrawsTable (table_of (played scenario [])) traitors.now view form general (string_bytes picture)) }
+{
+    scenario.recall();
+    let schedule = Schedule {
+        lines: Vec::new(alloc),
+    };
+    let chronicle = play(alloc, scenario, &schedule)?;
+    let text = table(alloc, &chronicle)?;
+    match drawn(alloc, text.as_str(), traitors, view, form, general) {
+        Ok(picture) => Ok(picture),
+        Err(TableError::Memory) => Err(AllocError),
+        // The table is one that `book` reads.
+        Err(TableError::At(_, _)) => unreachable!(),
+    }
+}
+
+/// The form of a drawing.
+fn form(drawing: Drawing) -> Form
+    ensures { result ≡ form_of drawing }
+{
+    match drawing {
+        Drawing::Boxes => Form::Lines(Style::Boxes),
+        Drawing::Ascii => Form::Lines(Style::Ascii),
+        Drawing::Graph => Form::Graph,
+        Drawing::Svg => Form::Svg,
+    }
+}

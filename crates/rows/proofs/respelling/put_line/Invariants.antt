@@ -1,0 +1,11 @@
+use Rattle.std.proofs.Common.{ℕ}
+use denote.Text.{Utf8}
+use denote.Shadow.{shadow}
+use Rattle.rows.proofs.respelling.put_line.Given as goal
+
+-- what stands before the next word is text
+abbrev pub invariant-loop-word : goal.invariant-loop-word
+invariant-loop-word l =
+    (goal.iterator-loop-word).can_next l.word-iterator ×
+    (goal.iterator-loop-word).is_finite l.word-iterator ×
+    shadow (Utf8 l.front)

@@ -1,0 +1,91 @@
+//! The programs of a scenario as they are written, of a text that may have faults.
+ghost use Rattle.std.specs.Prelude.{◌≡◌, option_map};
+ghost use Rattle.toml.specs.View.{view, items_view, table_view};
+ghost use Rattle.scenario.specs.Seen.{source_of};
+ghost use Rattle.scenario.specs.Sources.{is_general, is_number, members_of, source_among, source_by, source_in, text_in};
+
+use crate::keys::at;
+use crate::place::Name;
+use crate::programs::Written;
+use toml::{Table, Value};
+
+/// Whether the number is that of this general.
+fn is_number(number: i64, general: u8) -> bool
+    ensures { result ≡ is_number general number }
+{
+    match u64::try_from(number) {
+        Ok(number) => number == u64::from(general),
+        Err(_) => false,
+    }
+}
+
+/// Whether the value is the number of this general.
+fn is_general(value: Option<&Value>, general: u8) -> bool
+    ensures { result ≡ is_general general (option_map (λ v. view v.now) value.entry) }
+{
+    match value {
+        Some(value) => match value.as_integer() {
+            Some(number) => is_number(number, general),
+            None => false,
+        },
+        None => false,
+    }
+}
+
+/// The text of a value, if it is one.
+fn text_in(value: Option<&Value>) -> Option<&str>
+    ensures { option_map (λ t. t.now) result ≡ text_in (option_map (λ v. view v.now) value.entry) }
+{
+    match value {
+        Some(value) => value.as_str(),
+        None => None,
+    }
+}
+
+/// The program of a table.
+fn written_in(table: &Table) -> Option<Written<'_>>
+    ensures { option_map source_of result ≡ source_in (table_view table.now) }
+{
+    match text_in(at(table, Name::Asm)) {
+        Some(text) => Some(Written::Asm(text)),
+        None => match text_in(at(table, Name::Code)) {
+            Some(text) => Some(Written::Code(text)),
+            None => None,
+        },
+    }
+}
+
+/// The table, if it is one of this general.
+fn table_of(value: &Value, general: u8) -> Option<&Table>
+    ensures { option_map (λ t. table_view t.now) result ≡ members_of general (view value.now) }
+{
+    match value.as_table() {
+        Some(table) if is_general(at(table, Name::General), general) => Some(table),
+        _ => None,
+    }
+}
+
+/// That of the first of these tables which is of this general.
+fn written_among(values: &[Value], general: u8) -> Option<Written<'_>>
+    ensures { option_map source_of result ≡ source_among general (items_view values.now) }
+{
+    for index in 0..values.len() {
+        if let Some(table) = table_of(&values[index], general) {
+            return written_in(table);
+        }
+    }
+    None
+}
+
+/// The program of this general as the scenario's table has it: that of the first traitor's table with his number.
+pub fn written_by(table: &Table, general: u8) -> Option<Written<'_>>
+    ensures { option_map source_of result ≡ source_by general (table_view table.now) }
+{
+    match at(table, Name::Traitor) {
+        Some(value) => match value.as_array() {
+            Some(values) => written_among(values.as_slice(), general),
+            None => None,
+        },
+        None => None,
+    }
+}

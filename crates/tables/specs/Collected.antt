@@ -1,0 +1,25 @@
+-- The table of what is told at the places of a campaign, in the order in which it is written.
+use Rattle.std.specs.Prelude.{ℕ, List, [], ◌∷◌, Option, None, Some}
+use Rattle.combine.specs.declared.chosen.Rule.{Rule}
+use Rattle.label.specs.Oral.{Messages}
+use Rattle.book.specs.declared.message.Message.{Message}
+use Rattle.book.specs.Places.{Place, places}
+use Rattle.book.specs.Table.{MessageTable}
+
+-- the message of a place
+abbrev pub message : Place → ℕ → Message
+message z v = record { label = z.0; receiver = z.1; order = v }
+
+-- one message more, where an order was told
+abbrev pub told_more : Place → Option ℕ → List Message → List Message
+told_more z None ms = ms
+told_more z (Some v) ms = message z v ∷ ms
+
+-- what is told at these places
+abbrev pub messages_at : Messages → List Place → List Message
+messages_at M [] = []
+messages_at M (z ∷ zs) = told_more z (M z.0 z.1) (messages_at M zs)
+
+-- all that is told, of a campaign with these numbers
+abbrev pub collected : Messages → ℕ → ℕ → ℕ → Rule → MessageTable
+collected M n m c rule = record { generals = n; bound = m; commander = c; rule = rule; messages = messages_at M (places n m c) }

@@ -1,0 +1,152 @@
+-- What is told of the calls of a run that put no order: a line for each, with the reason.
+use Rattle.std.specs.Prelude.{ℕ, zero, suc, ◌-◌, ◌==◌, nat_lt, if◌then◌else◌, Bool, false, List, [], ◌∷◌, ◌++◌, flat_map, codes, decimal, length, slice_get, Option, Some, None, Result, Ok}
+use Rattle.insn.specs.declared.insn.Insn.{Insn}
+use Rattle.insn.specs.declared.insn.Insn.TheVariants as insn
+use Rattle.insn.specs.Program.{instruction_at}
+use Rattle.label.specs.declared.shape.Shape.{Shape}
+use Rattle.semantics.specs.declared.request.Helper.{Helper}
+use Rattle.semantics.specs.declared.request.Helper.TheVariants.{Send, SendRow, Sway, Honest}
+use Rattle.semantics.specs.declared.value.Value.{Value}
+use Rattle.semantics.specs.declared.value.Value.TheVariants.{Number}
+use Rattle.semantics.specs.Relay.{Relay, relayed}
+use Rattle.semantics.specs.State.{Cause, State, Outcome, Next, Ask, Exit, Trap, entry, value_at}
+use Rattle.semantics.specs.Outbox.{Choice, empty_outbox, places_set}
+use Rattle.semantics.specs.Call.{helper_of, honest_in, resumed, send_in, send_row_in, sway_in}
+use Rattle.semantics.specs.Execution.{step}
+use Rattle.board.specs.Board.{reply, next}
+use Rattle.tracing.specs.Trace.{Rest}
+use Rattle.tracing.specs.declared.reasons.Call.{Call}
+
+-- ---- the reason
+
+-- a label, its generals between dots; a dash where there is none on it
+abbrev pub dotted : List ℕ → List ℕ
+dotted [] = codes "-"
+dotted (g ∷ gs) = decimal g ++ flat_map (λ h. codes "." ++ decimal h) gs
+
+-- a rank that none of so many labels has
+abbrev pub past : ℕ → ℕ → List ℕ
+past rank labels =
+    if labels == 0 then codes "nothing is relayed in this round"
+    else codes "rank " ++ decimal rank ++ codes " is past the last, " ++ decimal (labels - 1)
+
+-- a receiver to whom no relay of such labels goes
+abbrev pub passed_over : ℕ → ℕ → List ℕ → List ℕ
+passed_over sender receiver such =
+    if receiver == sender then codes "general " ++ decimal receiver ++ codes " is the sender himself"
+    else codes "general " ++ decimal receiver ++ codes " stands on " ++ such
+
+abbrev pub unheard : Shape → ℕ → List ℕ → List ℕ
+unheard shape receiver such =
+    if nat_lt receiver shape.generals then passed_over shape.general receiver such else codes "there is no general " ++ decimal receiver
+
+-- of send: no label of that rank, or a receiver to whom that label does not go
+abbrev pub no_place : Relay → ℕ → ℕ → Option (List ℕ) → List ℕ
+no_place r rank receiver None = past rank (length (relayed r))
+no_place r rank receiver (Some label) = unheard r.shape receiver (codes "the label " ++ dotted label)
+
+-- of send_row: no label of that rank, no order, or a label that goes to nobody
+abbrev pub no_row : Relay → ℕ → ℕ → Option (List ℕ) → List ℕ
+no_row r rank orders None = past rank (length (relayed r))
+no_row r rank orders (Some label) = if orders == 0 then codes "no orders were given" else codes "nobody hears of the label " ++ dotted label
+
+-- of sway and honest, with so many labels: none of them, or a receiver to whom none goes
+abbrev pub no_label : Shape → ℕ → ℕ → List ℕ
+no_label shape receiver labels = if labels == 0 then codes "nothing is relayed in this round" else unheard shape receiver (codes "every label")
+
+-- ---- a call
+
+-- the number in a register
+abbrev pub number_in : Value → ℕ
+number_in (Number n) = n
+number_in _ = 0
+
+abbrev pub number_at : State → ℕ → ℕ
+number_at s r = number_in (value_at s.registers r)
+
+-- the call of a helper that an instruction is, with the numbers in r1, r2 and r3
+abbrev pub call_by : State → Option Helper → Option Call
+call_by s None = None
+call_by s (Some helper) = Some (record { unit = s.unit; helper = helper; first = number_at s 1; second = number_at s 2; third = number_at s 3 })
+
+abbrev pub call_at : State → Insn → Option Call
+call_at s (insn.Call number) = call_by s (helper_of number)
+call_at s _ = None
+
+-- the helpers that put orders, by their names in assembly
+abbrev pub name_of : Helper → List ℕ
+name_of Send = codes "send"
+name_of SendRow = codes "send_row"
+name_of Sway = codes "sway"
+name_of Honest = codes "honest"
+name_of _ = []
+
+-- why a call of such a helper puts nothing
+abbrev pub reason_by : Relay → ℕ → ℕ → ℕ → Helper → List ℕ
+reason_by r first second third Send = no_place r first second (slice_get (relayed r) first)
+reason_by r first second third SendRow = no_row r first third (slice_get (relayed r) first)
+reason_by r first second third Sway = no_label r.shape first (length (relayed r))
+reason_by r first second third Honest = no_label r.shape first (length (relayed r))
+reason_by r first second third _ = []
+
+abbrev pub reason_of : Relay → Call → List ℕ
+reason_of r call = reason_by r call.first call.second call.third call.helper
+
+abbrev pub note_of : Relay → Call → List ℕ
+note_of r call = codes "note: at " ++ decimal call.unit ++ codes ", " ++ name_of call.helper ++ codes " puts nothing: " ++ reason_of r call ++ codes "\n"
+
+-- the places that a call chooses, of those helpers that put orders
+abbrev pub chosen : List ℕ → State → Helper → Option (Result Choice Cause)
+chosen context s Send = Some (send_in s)
+chosen context s SendRow = Some (send_row_in context s)
+chosen context s Sway = Some (sway_in s)
+chosen context s Honest = Some (honest_in context s)
+chosen context s _ = None
+
+-- the line, where a call sets no place
+abbrev pub where_none : Relay → List ℕ → Option (Result Choice Cause) → List ℕ
+where_none r line (Some (Ok choice)) = if places_set r choice == 0 then line else []
+where_none r line _ = []
+
+-- what is told of a call, and of the instruction that stands at a state's unit
+abbrev pub slip : List ℕ → Relay → State → Option Call → List ℕ
+slip context r s None = []
+slip context r s (Some call) = where_none r (note_of r call) (chosen context s call.helper)
+
+abbrev pub slip_at : List ℕ → Relay → State → Option Insn → List ℕ
+slip_at context r s None = []
+slip_at context r s (Some i) = slip context r s (call_at s i)
+
+-- a call says in r0 that it set no place
+abbrev pub says_none : Helper → ℕ → Bool
+says_none Send r0 = r0 == 1
+says_none SendRow r0 = r0 == 0
+says_none Sway r0 = r0 == 0
+says_none Honest r0 = r0 == 0
+says_none _ r0 = false
+
+-- the line, where a call said so, and left this number there
+abbrev pub where_said : Relay → ℕ → Option Call → List ℕ
+where_said r r0 None = []
+where_said r r0 (Some call) = if says_none call.helper r0 then note_of r call else []
+
+-- ---- the run
+
+-- what follows a step, with a board of these words, which answers a request at once
+abbrev pub followed : Rest → List ℕ → Outcome → List ℕ
+followed rest words (Next t) = rest words t
+followed rest words (Ask request t) = rest (next words request) (resumed request (reply words request) t)
+followed rest words (Exit r0 t) = []
+followed rest words (Trap cause) = []
+
+abbrev pub slips_at : List Insn → List ℕ → Relay → Rest → List ℕ → State → List ℕ
+slips_at program context r rest words s = slip_at context r s (instruction_at program s.unit) ++ followed rest words (step program context r s)
+
+-- those of at most so many steps from a state on, with a board of these words
+unfoldable pub slips_from : List Insn → List ℕ → Relay → ℕ → List ℕ → State → List ℕ
+slips_from program context r zero words s = []
+slips_from program context r (suc k) words s = slips_at program context r (λ left t. slips_from program context r k left t) words s
+
+-- those of the whole run, with a board of these words: within as many steps as the program has instructions
+abbrev pub slips_on : List ℕ → List Insn → List ℕ → Relay → List ℕ
+slips_on words program context r = slips_from program context r (length program) words (entry (empty_outbox r))

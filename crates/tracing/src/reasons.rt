@@ -1,0 +1,201 @@
+//! Why a call puts nothing.
+ghost use Rattle.std.specs.Prelude.{◌≡◌, ◌<◌, ◌∷◌, ◌++◌, List, ℕ, Some, length, slice_get, string_bytes, IfOk, OnOk};
+ghost use Rattle.label.specs.Relay.{IsShape, relay};
+ghost use Rattle.semantics.specs.Relay.{relayed};
+ghost use Rattle.tracing.specs.Slips.{name_of, note_of, reason_of, dotted, no_label, no_place, no_row, passed_over, past, unheard};
+
+use helper::Helper;
+use label::{Shape, Space, unrank};
+use outbox::Outbox;
+use std::alloc::{AllocError, Global};
+
+/// A call of a helper: where it stands, and the numbers in r1, r2 and r3.
+#[derive(Clone, Copy)]
+pub struct Call {
+    pub unit: usize,
+    pub helper: Helper,
+    pub first: u64,
+    pub second: u64,
+    pub third: u64,
+}
+
+/// Adds the line of a call that puts nothing.
+pub fn put_note(
+    alloc: Global,
+    out: &mut String,
+    outbox: &Outbox,
+    call: Call,
+) -> Result<(), AllocError>
+    ensures { OnOk result (string_bytes out.new ≡ string_bytes out.old ++ note_of outbox.now.relay call) }
+{
+    let unit = call.unit;
+    let name = name_of(call.helper);
+    write!(out, "note: at {unit}, {name} puts nothing: ")?;
+    put_reason(alloc, out, outbox, call)?;
+    out.push_str("\n")
+}
+
+/// The name in assembly of a helper that puts orders.
+fn name_of(helper: Helper) -> &'static str
+    ensures { result.now ≡ name_of helper }
+{
+    match helper {
+        Helper::Send => "send",
+        Helper::SendRow => "send_row",
+        Helper::Sway => "sway",
+        Helper::Honest => "honest",
+        _ => "",
+    }
+}
+
+/// Adds why a call of such a helper puts nothing.
+fn put_reason(
+    alloc: Global,
+    out: &mut String,
+    outbox: &Outbox,
+    call: Call,
+) -> Result<(), AllocError>
+    ensures { OnOk result (string_bytes out.new ≡ string_bytes out.old ++ reason_of outbox.now.relay call) }
+{
+    match call.helper {
+        Helper::Send => put_no_place(alloc, out, outbox, call.first, call.second),
+        Helper::SendRow => put_no_row(alloc, out, outbox, call.first, call.third),
+        Helper::Sway | Helper::Honest => put_no_label(out, outbox, call.first),
+        _ => Ok(()),
+    }
+}
+
+/// Adds why `send` puts nothing, for a receiver of the label of that rank.
+fn put_no_place(
+    alloc: Global,
+    out: &mut String,
+    outbox: &Outbox,
+    rank: u64,
+    receiver: u64,
+) -> Result<(), AllocError>
+    ensures { OnOk result (string_bytes out.new ≡ string_bytes out.old ++ no_place outbox.now.relay rank receiver (slice_get (relayed outbox.now.relay) rank)) }
+{
+    let labels = outbox.labels();
+    if rank >= u64::from(labels) {
+        return put_past(out, rank, labels);
+    }
+    let label = label_text(alloc, outbox, rank as u32)?;
+    let such = format!(in alloc; "the label {label}")?;
+    put_unheard(out, outbox.shape(), receiver, such.as_str())
+}
+
+/// Adds why `send_row` puts nothing, with so many orders for the label of that rank.
+fn put_no_row(
+    alloc: Global,
+    out: &mut String,
+    outbox: &Outbox,
+    rank: u64,
+    orders: u64,
+) -> Result<(), AllocError>
+    ensures { OnOk result (string_bytes out.new ≡ string_bytes out.old ++ no_row outbox.now.relay rank orders (slice_get (relayed outbox.now.relay) rank)) }
+{
+    let labels = outbox.labels();
+    if rank >= u64::from(labels) {
+        return put_past(out, rank, labels);
+    }
+    if orders == 0 {
+        return out.push_str("no orders were given");
+    }
+    let label = label_text(alloc, outbox, rank as u32)?;
+    write!(out, "nobody hears of the label {label}")
+}
+
+/// Adds why `sway` and `honest` put nothing for a receiver.
+fn put_no_label(out: &mut String, outbox: &Outbox, receiver: u64) -> Result<(), AllocError>
+    ensures { OnOk result (string_bytes out.new ≡ string_bytes out.old ++ no_label outbox.now.relay.shape receiver (length (relayed outbox.now.relay))) }
+{
+    if outbox.labels() == 0 {
+        return out.push_str("nothing is relayed in this round");
+    }
+    put_unheard(out, outbox.shape(), receiver, "every label")
+}
+
+/// Adds that none of so many labels has the rank.
+fn put_past(out: &mut String, rank: u64, labels: u32) -> Result<(), AllocError>
+    ensures { OnOk result (string_bytes out.new ≡ string_bytes out.old ++ past rank labels) }
+{
+    if labels == 0 {
+        return out.push_str("nothing is relayed in this round");
+    }
+    let last = labels - 1;
+    write!(out, "rank {rank} is past the last, {last}")
+}
+
+/// Adds why no relay of such labels goes to a receiver.
+fn put_unheard(out: &mut String, shape: Shape, receiver: u64, such: &str) -> Result<(), AllocError>
+    ensures { OnOk result (string_bytes out.new ≡ string_bytes out.old ++ unheard shape receiver such.now) }
+{
+    if receiver < u64::from(shape.generals) {
+        return put_passed_over(out, shape.general, receiver, such);
+    }
+    write!(out, "there is no general {receiver}")
+}
+
+/// Adds why no relay of such labels goes to a general of the campaign.
+fn put_passed_over(
+    out: &mut String,
+    sender: u32,
+    receiver: u64,
+    such: &str,
+) -> Result<(), AllocError>
+    ensures { OnOk result (string_bytes out.new ≡ string_bytes out.old ++ passed_over sender receiver such.now) }
+{
+    if receiver == u64::from(sender) {
+        return write!(out, "general {receiver} is the sender himself");
+    }
+    write!(out, "general {receiver} stands on {such}")
+}
+
+/// The label of that rank that is relayed, as it is written.
+fn label_text(alloc: Global, outbox: &Outbox, rank: u32) -> Result<String, AllocError>
+    requires { rank < length (relayed outbox.now.relay) }
+    ensures { IfOk result (λ text. (label : List ℕ) → slice_get (relayed outbox.now.relay) rank ≡ Some label → string_bytes text ≡ dotted label) }
+{
+    relay_text(alloc, outbox.shape(), rank)
+}
+
+/// The label of that rank that a general relays, as it is written.
+fn relay_text(alloc: Global, shape: Shape, rank: u32) -> Result<String, AllocError>
+    requires shape { IsShape shape }
+    requires within { rank < length (relay shape) }
+    ensures { IfOk result (λ text. (label : List ℕ) → slice_get (relay shape) rank ≡ Some label → string_bytes text ≡ dotted label) }
+{
+    if shape.general == shape.commander {
+        return dotted(alloc, &[]);
+    }
+    let space = Space {
+        generals: shape.generals as u8,
+        commander: shape.commander as u8,
+        general: shape.general as u8,
+    };
+    match unrank(space, (shape.round - 1) as u8, rank) {
+        Ok(label) => dotted(alloc, label.generals()),
+        Err(_) => unreachable!(),
+    }
+}
+
+/// A label as it is written.
+fn dotted(alloc: Global, generals: &[u8]) -> Result<String, AllocError>
+    ensures { IfOk result (λ text. string_bytes text ≡ dotted generals.now) }
+{
+    match generals {
+        [] => String::from_str(alloc, "-"),
+        [first, rest @ ..] => joined(alloc, *first, rest),
+    }
+}
+
+/// A general, and those behind him, each behind a dot.
+fn joined(alloc: Global, first: u8, rest: &[u8]) -> Result<String, AllocError>
+    ensures { IfOk result (λ text. string_bytes text ≡ dotted (first ∷ rest.now)) }
+{
+    let mut text = format!(in alloc; "{first}")?;
+    for general in rest {
+        write!(text, ".{general}")?;
+    }
+    Ok(text)
+}

@@ -1,0 +1,182 @@
+//! The calls of a run that put nothing.
+ghost use Rattle.std.specs.Prelude.{◌≡◌, ◌<◌, ◌≤◌, ◌+◌, ◌++◌, ℕ, List, length, string_bytes, true, false, IfOk, OnOk};
+ghost use Rattle.insn.specs.declared.insn.Insn.{Insn as InsnValue};
+ghost use Rattle.label.specs.Relay.{IsShape};
+ghost use Rattle.semantics.specs.Relay.{oral};
+ghost use Rattle.semantics.specs.Call.{helper_of, resumed};
+ghost use Rattle.board.specs.Board.{reply, next};
+ghost use Rattle.machine.specs.Advance.{IsAskOfRun, IsOfRun};
+ghost use Rattle.tracing.specs.Trace.{Rest};
+ghost use Rattle.tracing.specs.Slips.{call_at, call_by, number_at, number_in, says_none, slips_at, slips_on, where_said};
+
+use crate::reads::numbered;
+use crate::reasons::{Call, put_note};
+use board::Board;
+use helper::{Helper, helper_of};
+use insn::Insn;
+use label::Shape;
+use machine::{Activation, Stop};
+use mem::Context;
+use outbox::Outbox;
+use semantics::{Request, Value};
+use std::alloc::{AllocError, Global};
+use verify::Verified;
+
+/// A line for each call of `send`, `send_row`, `sway` or `honest` that puts nothing, with the reason, of the run of a program
+/// to its exit, in this context and with an outbox of this relay. The board that it asks is its own, and begins with these
+/// words.
+///
+/// # Errors
+///
+/// `AllocError` where the memory for the outbox, an access or the lines is refused.
+pub fn slips(
+    alloc: Global,
+    verified: &Verified,
+    context: &Context,
+    shape: Shape,
+    words: [u64; 64],
+) -> Result<String, AllocError>
+    requires { IsShape shape }
+    ensures { IfOk result (λ text. string_bytes text ≡ slips_on words verified.now context.now (oral shape)) }
+{
+    let mut text = String::new(alloc);
+    let mut board = Board::new(alloc, words);
+    let mut activation = Activation::start(verified, context, Outbox::new(alloc, shape)?);
+    loop {
+        if go_on(
+            alloc,
+            &mut text,
+            verified,
+            context,
+            shape,
+            &mut activation,
+            &mut board,
+        )? {
+            return Ok(text);
+        }
+    }
+}
+
+/// Takes a step, and tells it where it is a call that puts nothing: whether the run has ended.
+fn go_on(
+    alloc: Global,
+    out: &mut String,
+    verified: &Verified,
+    context: &Context,
+    shape: Shape,
+    activation: &mut Activation,
+    board: &mut Board,
+) -> Result<bool, AllocError>
+    requires { IsOfRun verified.now context.now activation.old }
+    ensures fewer { activation.old.state.steps < length verified.now }
+    ensures relay { activation.new.relay ≡ activation.old.relay }
+    ensures on { IfOk result (λ ended. ended ≡ false → IsOfRun verified.now context.now activation.new) }
+    ensures counted { IfOk result (λ ended. ended ≡ false → activation.new.state.steps ≡ activation.old.state.steps + 1) }
+    ensures told { IfOk result (λ ended. ended ≡ false → (rest : Rest) →
+        string_bytes out.old ++ slips_at verified.now context.now activation.old.relay rest board.old.words activation.old.state
+        ≡ string_bytes out.new ++ rest board.new.words activation.new.state) }
+    ensures ended { IfOk result (λ ended. ended ≡ true → (rest : Rest) →
+        string_bytes out.old ++ slips_at verified.now context.now activation.old.relay rest board.old.words activation.old.state
+        ≡ string_bytes out.new) }
+{
+    let program = verified.program();
+    prove!((activation.steps() as usize) < program.len());
+    let Some(insn) = program.at(activation.unit()) else {
+        return Ok(true);
+    };
+    let call = call_at(activation, &insn);
+    let limit = activation.steps() + 1;
+    match activation.run(verified, context, limit) {
+        Stop::Limit => {
+            put_slip(alloc, out, activation, call)?;
+            Ok(false)
+        }
+        Stop::Asked(request) => {
+            answer(shape, request, activation, board)?;
+            Ok(false)
+        }
+        Stop::Exited(_) => Ok(true),
+    }
+}
+
+/// Has the board answer what was asked.
+fn answer(
+    shape: Shape,
+    request: Request,
+    activation: &mut Activation,
+    board: &mut Board,
+) -> Result<(), AllocError>
+    ensures relay { activation.new.relay ≡ activation.old.relay }
+    ensures state { OnOk result (activation.new.state ≡ resumed request (reply board.old.words request) activation.old.state) }
+    ensures words { OnOk result (board.new.words ≡ next board.old.words request) }
+    ensures of_run { OnOk result ((program : List InsnValue) (context : List ℕ) →
+        IsAskOfRun program context request activation.old → IsOfRun program context activation.new) }
+{
+    let reply = board.apply(shape.general, shape.round, request)?;
+    activation.resume(&request, &reply);
+    Ok(())
+}
+
+/// The number in a register.
+fn number_at(activation: &Activation, register: u8) -> u64
+    requires { register ≤ 10 }
+    ensures { result ≡ number_at activation.now.state register }
+{
+    match activation.value(numbered(register)) {
+        Value::Number(number) => number,
+        _ => 0,
+    }
+}
+
+/// The call of a helper that the instruction is.
+fn call_at(activation: &Activation, insn: &Insn) -> Option<Call>
+    ensures { result ≡ call_at activation.now.state insn.now }
+{
+    match insn {
+        Insn::Call { helper } => call_by(activation, helper_of(*helper)),
+        _ => None,
+    }
+}
+
+/// The call of this helper.
+fn call_by(activation: &Activation, helper: Option<Helper>) -> Option<Call>
+    ensures { result ≡ call_by activation.now.state helper }
+{
+    let helper = helper?;
+    Some(Call {
+        unit: activation.unit(),
+        helper,
+        first: number_at(activation, 1),
+        second: number_at(activation, 2),
+        third: number_at(activation, 3),
+    })
+}
+
+/// Whether the helper, with this in r0, says that it put nothing.
+fn says_none(helper: Helper, r0: u64) -> bool
+    ensures { result ≡ says_none helper r0 }
+{
+    match helper {
+        Helper::Send => r0 == 1,
+        Helper::SendRow | Helper::Sway | Helper::Honest => r0 == 0,
+        _ => false,
+    }
+}
+
+/// Adds the line of a call that was made, if it says that it put nothing.
+fn put_slip(
+    alloc: Global,
+    out: &mut String,
+    activation: &Activation,
+    call: Option<Call>,
+) -> Result<(), AllocError>
+    ensures { OnOk result (string_bytes out.new ≡ string_bytes out.old ++ where_said activation.now.relay (number_at activation.now.state 0) call) }
+{
+    let Some(call) = call else {
+        return Ok(());
+    };
+    if says_none(call.helper, number_at(activation, 0)) {
+        put_note(alloc, out, activation.outbox(), call)?;
+    }
+    Ok(())
+}

@@ -1,0 +1,58 @@
+//! The words of the board at first.
+ghost use Rattle.std.specs.Prelude.{◌≡◌, ◌≢◌, ◌≤◌, IfErr, length, replicate, option_map};
+ghost use Rattle.toml.specs.View.{view, items_view};
+ghost use Rattle.semantics.specs.Limits.{board_words};
+ghost use Rattle.trial.specs.Checks.{board, over, set_word, word, words};
+ghost use Rattle.trial.specs.Flaws.{Gives};
+ghost use Rattle.trial.specs.declared.fault.SettingError.TheVariants.{Memory};
+
+use crate::fault::{Fault, SettingError};
+use crate::keys::{elements, natural, whole};
+use crate::place::{Name, Place};
+use toml::Value;
+
+/// A word, 0 to 2^63 - 1.
+#[tactic(auto, unfolding(crate::specs::Checks::word))]
+fn word(place: Place, value: &Value) -> Result<u64, SettingError>
+    ensures value { Gives (λ n. n) result (word place (view value.now)) }
+    ensures fault { IfErr result (λ e. e ≢ Memory) }
+{
+    let integer = whole(place, value)?;
+    natural(Fault::Range, place, integer)
+}
+
+/// The words of a list, and 0 for those that are missing.
+fn listed(values: &[Value]) -> Result<[u64; 64], SettingError>
+    requires { length values.now ≤ board_words }
+    ensures gives { Gives (λ words. words) result (over set_word 0 (replicate board_words 0) (items_view values.now)) }
+    ensures fault { IfErr result (λ e. e ≢ Memory) }
+{
+    let mut words = [0; 64];
+    for index in 0..values.len() {
+        words[index] = word(Place::Word(index), &values[index])?;
+    }
+    Ok(words)
+}
+
+#[tactic(auto, unfolding(crate::specs::Checks::words), using(crate::proofs::Items::items_length_view))]
+fn words(values: &[Value]) -> Result<[u64; 64], SettingError>
+    ensures gives { Gives (λ words. words) result (words (items_view values.now)) }
+    ensures fault { IfErr result (λ e. e ≢ Memory) }
+{
+    if values.len() > 64 {
+        return Err(SettingError::At(Fault::Range, Place::Key(Name::Board)));
+    }
+    listed(values)
+}
+
+/// The words of the board at first, zeros where none is told.
+#[tactic(auto, unfolding(crate::specs::Checks::board))]
+pub fn board(value: Option<&Value>) -> Result<[u64; 64], SettingError>
+    ensures gives { Gives (λ words. words) result (board (option_map (λ v. view v.now) value.entry)) }
+    ensures fault { IfErr result (λ e. e ≢ Memory) }
+{
+    match value {
+        None => Ok([0; 64]),
+        Some(value) => words(elements(Place::Key(Name::Board), value)?),
+    }
+}

@@ -1,0 +1,8 @@
+use Rattle.std.proofs.Common.{◌≡◌, map, replicate}
+use Rattle.std.specs.String.{string_bytes}
+use Rattle.asm.specs.Places.{line_text}
+use Rattle.why.proofs.judged.all_at.Given as goal
+
+-- those of the units so far
+abbrev pub invariant-loop-unit : goal.invariant-loop-unit
+invariant-loop-unit l = map string_bytes l.places.items ≡ replicate l._unit (line_text l.number)

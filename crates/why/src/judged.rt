@@ -1,0 +1,188 @@
+//! What the verifier knows of a traitor's program that it refuses, at the lines of the scenario's own text.
+ghost use Rattle.std.specs.Prelude.{◌≡◌, ◌++◌, IfOk, codes, length, map, option_map, replicate, string_bytes, unwrap_or};
+ghost use Rattle.std.specs.Str.{IsUtf8};
+ghost use Rattle.toml.specs.Parse.{parse_document};
+ghost use Rattle.toml.specs.View.{table_view};
+ghost use Rattle.scenario.specs.Sources.{source_by};
+ghost use Rattle.asm.specs.Places.{AreWritten, line_text};
+ghost use Rattle.asm.specs.Program.{lines_of, nothing, read_on};
+ghost use Rattle.insn.specs.Program.{slots_of};
+ghost use Rattle.scenario.specs.Seen.{source_of};
+ghost use Rattle.why.specs.Judged.{ArePlaced, AreStated, IsExplained, IsExplainedBy, IsExplainedOf, IsJudged, judged_of, lines_before, pushed_down};
+ghost use Rattle.why.specs.Keys.{found_view};
+
+use crate::keys::{Found, value_end};
+use crate::lines::trimmed;
+use crate::report::behind;
+use crate::seated::{is_long, source_line};
+use explain::explanation_at;
+use insn::Program;
+use scenario::{ProgramFault, ScenarioError, Written, program, written_by};
+use std::alloc::{AllocError, Global};
+use toml::{Table, table_from_str};
+
+/// How many lines of the file stand before the first line of a text that goes on over lines from this one.
+fn lines_before(line: Found<'_>) -> u64
+    ensures { result ≡ lines_before (found_view line.entry) }
+{
+    let rest = behind(value_end(line.line), 3);
+    if trimmed(rest).len() == 0 {
+        line.number
+    } else {
+        line.number.saturating_sub(1)
+    }
+}
+
+/// The text behind so many empty lines.
+fn pushed_down(alloc: Global, lines: u64, text: &str) -> Result<String, AllocError>
+    ensures { IfOk result (λ pushed. string_bytes pushed ≡ pushed_down lines text.now) }
+{
+    let mut pushed = String::new(alloc);
+    for _line in 0..lines {
+        pushed.push_str("\n")?;
+    }
+    pushed.push_str(text)?;
+    Ok(pushed)
+}
+
+/// `line N`.
+fn line_text(alloc: Global, number: u64) -> Result<String, AllocError>
+    ensures { IfOk result (λ text. string_bytes text ≡ line_text number) }
+{
+    format!(in alloc; "line {number}")
+}
+
+/// The same place for each of so many units.
+fn all_at(alloc: Global, units: usize, number: u64) -> Result<Vec<String>, AllocError>
+    ensures { IfOk result (λ places. map string_bytes places.items ≡ replicate units (line_text number)) }
+{
+    let mut places = Vec::with_capacity(alloc, units)?;
+    for _unit in 0..units {
+        places.push(line_text(alloc, number)?)?;
+    }
+    Ok(places)
+}
+
+/// Where the units of a program stand that is written so, and whose key stands in this line.
+fn placed(
+    alloc: Global,
+    written: Written<'_>,
+    line: Option<Found<'_>>,
+    program: &Program,
+) -> Result<Vec<String>, AllocError>
+    ensures { IfOk result (λ places. ArePlaced (source_of written.entry) (option_map found_view line.entry) program.now (map string_bytes places.items)) }
+{
+    let Some(line) = line else {
+        return Ok(Vec::new(alloc));
+    };
+    match written {
+        Written::Asm(text) if is_long(value_end(line.line)) => {
+            let text = pushed_down(alloc, lines_before(line), text)?;
+            asm::places(alloc, text.as_str())
+        }
+        Written::Asm(_) | Written::Code(_) => all_at(alloc, program.units(), line.number),
+    }
+}
+
+/// How the units of a program that is written so are written.
+fn stated(alloc: Global, written: Written<'_>) -> Result<Vec<String>, AllocError>
+    ensures { IfOk result (λ statements. AreStated (source_of written.entry) (map string_bytes statements.items)) }
+{
+    match written {
+        Written::Asm(text) => asm::statements(alloc, text),
+        Written::Code(_) => Ok(Vec::new(alloc)),
+    }
+}
+
+/// What is known of a program that is written so, whose key stands in this line: an empty line and its explanation.
+fn explained_of(
+    alloc: Global,
+    general: u8,
+    written: Written<'_>,
+    line: Option<Found<'_>>,
+) -> Result<String, AllocError>
+    ensures { IfOk result (λ told. IsExplainedOf (source_of written.entry) (option_map found_view line.entry) (string_bytes told)) }
+{
+    let program = match program(alloc, general, written) {
+        Ok(program) => program,
+        Err(ScenarioError::Program(_, _)) => return Ok(String::new(alloc)),
+        Err(ScenarioError::Memory) => return Err(AllocError),
+        Err(ScenarioError::Toml) => unreachable!(),
+        Err(ScenarioError::Unknown(_, _)) => unreachable!(),
+        Err(ScenarioError::At(_, _)) => unreachable!(),
+    };
+    let places = placed(alloc, written, line, &program)?;
+    let statements = stated(alloc, written)?;
+    let lists = explain::Written {
+        places: places.as_slice(),
+        statements: statements.as_slice(),
+    };
+    let told = explanation_at(alloc, &program, &lists)?;
+    let told = told.as_str();
+    format!(in alloc; "\n{told}")
+}
+
+/// The same of a table, where it has this general's program.
+fn explained_in(
+    alloc: Global,
+    general: u8,
+    table: &Table,
+    line: Option<Found<'_>>,
+) -> Result<String, AllocError>
+    ensures { IfOk result (λ told. IsExplainedBy (source_by general (table_view table.now)) (option_map found_view line.entry) (string_bytes told)) }
+{
+    match written_by(table, general) {
+        Some(written) => explained_of(alloc, general, written, line),
+        None => Ok(String::new(alloc)),
+    }
+}
+
+/// The same of this general's program in the text of a scenario.
+fn explained(alloc: Global, text: &[u8], general: u8) -> Result<String, AllocError>
+    ensures { IfOk result (λ told. IsExplained text.now general (string_bytes told)) }
+{
+    let line = source_line(alloc, general, text)?;
+    let Ok(text) = str::from_utf8(text) else {
+        return Ok(String::new(alloc));
+    };
+    match table_from_str(alloc, text) {
+        Ok(table) => explained_in(alloc, general, &table, line),
+        Err(error) => {
+            if error.is_memory() {
+                return Err(AllocError);
+            }
+            Ok(String::new(alloc))
+        }
+    }
+}
+
+/// The general whose program the verifier refuses, where that is the error.
+fn judged_of(error: &ScenarioError) -> Option<u8>
+    ensures { result ≡ judged_of error.now }
+{
+    match error {
+        ScenarioError::Program(general, ProgramFault::Verifier(_, _)) => Some(*general),
+        ScenarioError::Program(_, ProgramFault::Asm(_, _)) => None,
+        ScenarioError::Program(_, ProgramFault::Hex) => None,
+        ScenarioError::Program(_, ProgramFault::Code(_, _)) => None,
+        ScenarioError::Toml => None,
+        ScenarioError::Unknown(_, _) => None,
+        ScenarioError::At(_, _) => None,
+        ScenarioError::Memory => None,
+    }
+}
+
+/// What stands behind the report of an error of a scenario with this text: of a program that the verifier refuses what it
+/// knows of it.
+pub(crate) fn judged(
+    alloc: Global,
+    text: &[u8],
+    error: &ScenarioError,
+) -> Result<String, AllocError>
+    ensures { IfOk result (λ behind. IsJudged text.now (judged_of error.now) (string_bytes behind)) }
+{
+    match judged_of(error) {
+        Some(general) => explained(alloc, text, general),
+        None => Ok(String::new(alloc)),
+    }
+}
