@@ -6,7 +6,7 @@
 
 _byzlab() {
     local words=("${COMP_WORDS[@]}") at=$COMP_CWORD script="prove --try" offered
-    local commands="check asm dis book table muster play audit explore tree draw schedule help"
+    local commands="check asm dis book table muster play audit explore tree draw page schedule help"
     # (behind --try stand the same words; it and prove are the script's)
     if [ "$at" -gt 1 ] && [ "${words[1]}" = --try ]; then
         words=("${words[0]}" "${words[@]:2}") at=$((at - 1)) script=
@@ -25,6 +25,7 @@ _byzlab() {
     *:table:-*) offered="--loyal --lie -h --help" ;;
     *:tree:-*) offered="--ascii --dot --svg --fold --of --traitors --depth -h --help" ;;
     *:draw:-*) offered="--schedule --chronicle -h --help" ;;
+    *:page:-*) offered="--schedule --chronicle -o -h --help" ;;
     *:schedule:-*) offered="-h --help" ;;
     *:explore:-*) offered="--most -h --help" ;;
     *:muster:-*) offered="--explain --json --of -h --help" ;;

@@ -1,6 +1,7 @@
 -- What a list of orders comes to, and whether an order stands in more than half of its places.
 use Rattle.std.proofs.Common.{ℕ, suc, ◌*◌, ◌<◌, ◌≤◌, ◌≡◌, ◌≢◌, Bool, true, false, cond, List, [], ◌∷◌, length, refl, sym, ap, ◌∙◌, arith, inl, inr, Option, Some, None}
-use Rattle.std.specs.Prelude.{◌==◌, ◌↔◌, unwrap_or, find, count_by}
+use Rattle.std.specs.Prelude.{◌==◌, ◌↔◌, ◌++◌, codes, unwrap_or, find, count_by}
+use Rattle.std.specs.Fmt.{decimal, digits}
 use Rattle.std.proofs.lemmas.Bool.{cases_Bool, cases_lt, cond-true, cond-false, ne_eqb, lt-ltb, ltb-true, true≢false}
 use Rattle.std.proofs.lemmas.List.Sums.{sum_by-cons}
 use Rattle.combine.specs.Chosen.{combined_by}
@@ -8,7 +9,7 @@ use Rattle.combine.specs.Laws.{majority_is_rule}
 use Rattle.combine.specs.Rule.{is_most, majority}
 use Rattle.label.specs.Oral.{om}
 use Rattle.book.specs.Decisions.{decision_of}
-use Rattle.book.specs.Explained.{decided, list_of}
+use Rattle.book.specs.Explained.{decided, list_of, majority_words}
 use Rattle.book.specs.Theorem.{ListsMean}
 use Rattle.book.specs.Table.{MessageTable}
 
@@ -57,6 +58,22 @@ most_missed xs v e less =
     (λ u some.
     let same : v ≡ u = e ∙ ap (λ (o : Option ℕ). unwrap_or o 0) some in
     absurd (true≢false (sym (find_passes (is_most xs) xs u some) ∙ (ap (is_most xs) (sym same) ∙ less))))
+
+-- how the list is told that has one
+pub found_words : (xs : List ℕ) (v : ℕ) → find (is_most xs) xs ≡ Some v → codes "majority " ++ decimal v ≡ majority_words (find (is_most xs) xs)
+found_words xs v found = sym (ap majority_words found)
+
+-- RETREAT is one digit
+retreat_digits : decimal 0 ≡ codes "0"
+unfolding digits
+retreat_digits = refl
+
+-- and the list that has none, which comes to RETREAT
+pub missed_words : (xs : List ℕ) (v : ℕ) → v ≡ majority xs → find (is_most xs) xs ≡ None → codes "no majority, so " ++ decimal v ≡ majority_words (find (is_most xs) xs)
+unfolding majority
+missed_words xs v e missed =
+    let retreat : v ≡ 0 = e ∙ ap (λ (o : Option ℕ). unwrap_or o 0) missed in
+    ap (λ (n : ℕ). codes "no majority, so " ++ decimal n) retreat ∙ (ap (λ digits. codes "no majority, so " ++ digits) retreat_digits ∙ sym (ap majority_words missed))
 
 majority_of : (xs : List ℕ) (u : ℕ) → find (is_most xs) xs ≡ Some u → majority xs ≡ u
 unfolding majority

@@ -1,6 +1,7 @@
 //! The lists that a lieutenant combines, label by label.
 ghost use Rattle.std.specs.Prelude.{◌≡◌, ◌≤◌, ◌+◌, ◌++◌, ◌∷◌, [], ℕ, List, true, length, IfOk, OnOk, None, string_bytes};
 ghost use Rattle.std.specs.Fmt.{decimal};
+ghost use Rattle.combine.specs.Chosen.{combined_by};
 ghost use Rattle.combine.specs.Rule.{is_most};
 ghost use Rattle.book.specs.Grammar.{is_place};
 ghost use Rattle.book.specs.Explained.{dotted, held, list_lines, list_words, outcome, part_words};
@@ -33,13 +34,21 @@ fn joined(alloc: Global, first: u8, rest: &[u8]) -> Result<String, AllocError>
     Ok(text)
 }
 
+/// Room for how a label of four generals begins: a number of two digits and a dot for each.
+const ROOM_AHEAD: usize = 12;
+
+/// Room for the parts of a list: eight labels of five generals, each of two digits, and an order of ten digits behind each.
+const ROOM_FOR_PARTS: usize = 216;
+
 /// How the labels begin that go on from one that is written so far, and then its last general.
 fn behind(alloc: Global, label: &Label, front: &str, last: u8) -> Result<String, AllocError>
     requires { front.now ++ decimal last ≡ dotted label.now }
     ensures { IfOk result (λ text. (other : ℕ) → string_bytes text ++ decimal other ≡ dotted (label.now ++ other ∷ [])) }
 {
     let _generals = label.len();
-    format!(in alloc; "{front}{last}.")
+    let mut text = String::with_capacity(alloc, ROOM_AHEAD)?;
+    write!(text, "{front}{last}.")?;
+    Ok(text)
 }
 
 /// Whether the order stands in more than half of the places.
@@ -50,18 +59,18 @@ fn is_most(orders: &[u32], order: u32) -> bool
     count > orders.len() - count
 }
 
-/// What a list comes to.
-fn outcome(alloc: Global, rule: Rule, orders: &[u32]) -> Result<String, AllocError>
-    ensures { IfOk result (λ text. string_bytes text ≡ outcome rule orders.now) }
+/// What a list comes to, but for the order that it does.
+fn outcome_words(rule: Rule, orders: &[u32], order: u32) -> &'static str
+    requires { order ≡ combined_by rule orders.now }
+    ensures { result.now ++ decimal order ≡ outcome rule orders.now }
 {
-    let order = rule.combine(orders);
     match rule {
-        Rule::Median => format!(in alloc; "median {order}"),
+        Rule::Median => "median ",
         Rule::Majority => {
             if is_most(orders, order) {
-                format!(in alloc; "majority {order}")
+                "majority "
             } else {
-                String::from_str(alloc, "no majority, so 0")
+                "no majority, so "
             }
         }
     }
@@ -88,12 +97,13 @@ fn push_silent_list(
     front: &str,
     last: u8,
     parts: &str,
-    outcome: &str,
+    words: &str,
+    order: u32,
 ) -> Result<(), AllocError>
-    ensures { (w : List ℕ) → front.now ++ decimal last ≡ dotted w → OnOk result (string_bytes lines.new ≡ string_bytes lines.old ++ list_words w None parts.now outcome.now) }
+    ensures { (w : List ℕ) → front.now ++ decimal last ≡ dotted w → OnOk result (string_bytes lines.new ≡ string_bytes lines.old ++ list_words w None parts.now (words.now ++ decimal order)) }
 {
     write!(lines, "{front}{last}: told ")?;
-    write!(lines, "nothing{parts}: {outcome}\n")
+    write!(lines, "nothing{parts}: {words}{order}\n")
 }
 
 /// Adds the line of a label, which is written so before its last general.
@@ -103,13 +113,14 @@ fn push_list(
     last: u8,
     told: Option<u32>,
     parts: &str,
-    outcome: &str,
+    words: &str,
+    order: u32,
 ) -> Result<(), AllocError>
-    ensures { (w : List ℕ) → front.now ++ decimal last ≡ dotted w → OnOk result (string_bytes lines.new ≡ string_bytes lines.old ++ list_words w told parts.now outcome.now) }
+    ensures { (w : List ℕ) → front.now ++ decimal last ≡ dotted w → OnOk result (string_bytes lines.new ≡ string_bytes lines.old ++ list_words w told parts.now (words.now ++ decimal order)) }
 {
     match told {
-        Some(order) => write!(lines, "{front}{last}: told {order}{parts}: {outcome}\n"),
-        None => push_silent_list(lines, front, last, parts, outcome),
+        Some(said) => write!(lines, "{front}{last}: told {said}{parts}: {words}{order}\n"),
+        None => push_silent_list(lines, front, last, parts, words, order),
     }
 }
 
@@ -136,7 +147,7 @@ pub(crate) fn push_lists<H: Heard>(
         return Ok(told);
     }
     let ahead = behind(alloc, label, front, last)?;
-    let mut parts = String::new(alloc);
+    let mut parts = String::with_capacity(alloc, ROOM_FOR_PARTS)?;
     let mut orders: ArrayVec<u32, 13> = ArrayVec::new();
     for other in 0..table.generals() {
         if other == general {
@@ -158,7 +169,9 @@ pub(crate) fn push_lists<H: Heard>(
             orders.push(held.unwrap_or(0));
         }
     }
-    let outcome = outcome(alloc, table.rule(), orders.as_slice())?;
-    push_list(lines, front, last, told, parts.as_str(), outcome.as_str())?;
-    Ok(Some(table.rule().combine(orders.as_slice())))
+    let rule = table.rule();
+    let order = rule.combine(orders.as_slice());
+    let words = outcome_words(rule, orders.as_slice(), order);
+    push_list(lines, front, last, told, parts.as_str(), words, order)?;
+    Ok(Some(order))
 }

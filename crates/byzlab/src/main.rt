@@ -20,6 +20,7 @@ use folder::FolderOf;
 use input::Input;
 use lab::{FileName, is_explained, reason};
 use neighbours::{Untaken, reads_scenario, with_files};
+use own_lines::refused;
 use progress::Progress;
 use std::env;
 use std::fmt::Display;
@@ -203,14 +204,30 @@ fn completed(rt: &HostRuntime, request: &Request, first: Input) -> io::Result<Op
         return Ok(None);
     };
     let folder = FolderOf { rt, scenario: name };
+    let own = bytes.clone()?;
     match with_files(rt.alloc(), bytes, &folder) {
-        Ok(bytes) => Ok(Some(Input::Text(Cursor::new(bytes)))),
+        Ok(bytes) => made(rt, request, own.as_slice(), bytes),
         Err(Untaken::Told { lines, kind }) => {
             tell_untaken(rt, request, lines.as_str(), kind)?;
             Ok(None)
         }
         Err(Untaken::Memory) => Err(io::Error::from(ErrorKind::OutOfMemory)),
     }
+}
+
+/// The bytes of a scenario in which the files stand that it names; none where it names some, and is refused, and an explanation
+/// is asked for, after what says so at its own lines and those of the files.
+fn made(
+    rt: &HostRuntime,
+    request: &Request,
+    own: &[u8],
+    bytes: Vec<u8>,
+) -> io::Result<Option<Input>> {
+    if let Some(lines) = refused(rt.alloc(), &request.task, own, bytes.as_slice())? {
+        turn_down(rt, request, lines.as_str())?;
+        return Ok(None);
+    }
+    Ok(Some(Input::Text(Cursor::new(bytes))))
 }
 
 /// Says that the task is not done, by this line.

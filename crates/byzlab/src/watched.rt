@@ -1,4 +1,5 @@
-ghost use Rattle.std.specs.Prelude.{◌≡◌};
+ghost use Rattle.std.specs.Prelude.{◌≡◌, IfErr, IfOk, None, Some};
+ghost use Rattle.std.specs.IoError.{error_kind};
 
 use std::io::{self, ErrorKind, Write};
 
@@ -11,21 +12,29 @@ pub struct Watched<W: Write + Drop> {
 
 impl<W: Write + Drop> Watched<W> {
     /// The stream, to which nothing was written yet.
-    pub fn new(stream: W) -> Watched<W> {
+    pub fn new(stream: W) -> Watched<W>
+        ensures stream { result.stream ≡ stream }
+        ensures fault { result.fault ≡ None }
+    {
         Watched {
             stream,
             fault: None,
         }
     }
 
-    /// How a write failed.
-    pub fn fault(&self) -> Option<ErrorKind> {
+    /// How the last write that failed did.
+    pub fn fault(&self) -> Option<ErrorKind>
+        ensures { result ≡ self.now.fault }
+    {
         self.fault
     }
 
     /// The same result, of which a fault is kept.
     fn kept<T>(&mut self, answer: io::Result<T>) -> io::Result<T>
-        ensures { result ≡ answer }
+        ensures answer { result ≡ answer }
+        ensures stream { self.new.stream ≡ self.old.stream }
+        ensures well { IfOk answer (λ _. self.new.fault ≡ self.old.fault) }
+        ensures failed { IfErr answer (λ error. self.new.fault ≡ Some (error_kind error)) }
     {
         if let Err(error) = &answer {
             self.fault = Some(error.kind());

@@ -14,6 +14,7 @@ use insn::{Insn, Program};
 use std::alloc::Global;
 
 /// The instruction that the fields and what stands behind them begin with.
+#[inline(always)]
 fn meaning(fields: Fields, behind: &[u8]) -> Result<Insn, Fault>
     ensures well_formed { IfOk result (λ i. IsInsn i) }
     ensures found { IfOk result (λ i. AreUnits (spelling i) fields behind.now) }
@@ -52,6 +53,7 @@ fn meaning(fields: Fields, behind: &[u8]) -> Result<Insn, Fault>
 /// # Errors
 ///
 /// The first fault of their first unit, or of the wide instruction that begins there.
+#[inline(always)]
 pub fn instruction(bytes: &[u8]) -> Result<Insn, Fault>
     requires { 8 ≤ length bytes.now }
     ensures well_formed { IfOk result (λ i. IsInsn i) }

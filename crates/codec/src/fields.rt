@@ -23,6 +23,7 @@ pub struct Fields {
 }
 
 /// The fields of the first eight bytes.
+#[inline(always)]
 pub fn read_fields(bytes: &[u8]) -> Fields
     requires { 8 ≤ length bytes.now }
     ensures { result ≡ fields_of bytes.now }

@@ -215,6 +215,7 @@ fn jump_register(width: Width, code: u8) -> Form
 
 /// What the opcode stands for: the low three bits are the class, in arithmetic and jumps the next is
 /// the source bit and the high four are the code (section 3.3).
+#[inline(always)]
 pub fn form_at(opcode: u8) -> Form
     ensures form { result ≡ form_of opcode }
     ensures opcode { IsOpcode result opcode }

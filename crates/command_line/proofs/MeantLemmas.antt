@@ -6,7 +6,7 @@ use Rattle.text.specs.Options.{◌>>=◌}
 use Rattle.clap.specs.Walk.{Text}
 use Rattle.command_line.specs.Asked.{has_filling, excludes, has_notation, has_tree, if_of, is_meant, reads, wants}
 use Rattle.command_line.specs.Generals.{count_in, depth_in, general_in, generals_in, order_in}
-use Rattle.command_line.specs.Told.{AreExplained, IsCourse, IsDrawing, IsFilling, IsMisused, IsNotation, NamesCount, NamesGeneral, Says, Told, are_two, campaigns, has, is_of, levels_in, named, of_one, of_traitors, programs, word_of}
+use Rattle.command_line.specs.Told.{AreExplained, IsCourse, IsDrawing, IsFilling, IsMisused, IsNotation, NamesCount, NamesGeneral, Says, Told, are_two, campaigns, coursed, has, is_of, levels_in, named, of_one, of_traitors, programs, word_of}
 use Rattle.command_line.specs.declared.tasks.Course.{Course}
 use Rattle.command_line.specs.declared.tasks.Course.TheVariants.{Scheduled, Recorded}
 use Rattle.command_line.specs.declared.tasks.Drawing.{Drawing}
@@ -17,7 +17,7 @@ use Rattle.command_line.specs.declared.tasks.Lieutenants.TheVariants.{All, One}
 use Rattle.command_line.specs.declared.tasks.Notation.{Notation}
 use Rattle.command_line.specs.declared.tasks.Notation.TheVariants.{Bytecode, Assembly, Object}
 use Rattle.command_line.specs.declared.tasks.Task.{Task}
-use Rattle.command_line.specs.declared.tasks.Task.TheVariants.{Check, Assemble, AssemblePartly, Disassemble, DisassemblePartly, Book, ExplainDecisions, Form, Play, Muster, Audit, Explore, Tree, Draw, Retrace}
+use Rattle.command_line.specs.declared.tasks.Task.TheVariants.{Check, Assemble, AssemblePartly, Disassemble, DisassemblePartly, Book, ExplainDecisions, Form, Play, Muster, Audit, Explore, Tree, Draw, Page, Retrace}
 use Rattle.command_line.specs.declared.errors.Misuse.{Misuse}
 use Rattle.command_line.specs.declared.errors.Misuse.TheVariants.{Traitors, Of, Lie, Loyal, Most, Depth, NobodyNamed, TwoDrawings, TwoNotations, UnitsOfParts, TwoCourses, EntryAlone, OfAlone, LieAlone}
 
@@ -113,6 +113,7 @@ says_meant told (Tree file general traitors drawing depth folded) says =
       tree_holds told general depth drawing says.2 says.4 says.5,
     ) refl)
 says_meant told (Draw scenario course) says = rw says.0 (rw (course_holds told course says.2) refl)
+says_meant told (Page scenario course target) says = rw says.0 (rw (course_holds told course says.2) refl)
 says_meant told (Retrace scenario chronicle) says = rw says.0 refl
 
 -- ---- a rule is broken
@@ -182,7 +183,7 @@ module _ (told : Told) where
   of_listing = if_of (codes "dis" ∷ []) told (excludes (codes "partial") (codes "units") told)
 
   abbrev of_course : Bool
-  of_course = if_of (codes "draw" ∷ []) told (excludes (codes "chronicle") (codes "schedule") told)
+  of_course = if_of coursed told (excludes (codes "chronicle") (codes "schedule") told)
 
   abbrev of_first : Bool
   of_first = of_program && of_naming && of_table && of_lieutenant && of_explanation && of_exploration && of_tree
@@ -190,8 +191,8 @@ module _ (told : Told) where
   listing_broken : is_of (codes "dis" ∷ []) told ≡ true → excludes (codes "partial") (codes "units") told ≡ false → is_meant told ≡ false
   listing_broken of fails = eighth_broken of_first of_listing of_course (broken (codes "dis" ∷ []) told (excludes (codes "partial") (codes "units") told) of fails)
 
-  course_broken : is_of (codes "draw" ∷ []) told ≡ true → excludes (codes "chronicle") (codes "schedule") told ≡ false → is_meant told ≡ false
-  course_broken of fails = ninth_broken of_first of_listing of_course (broken (codes "draw" ∷ []) told (excludes (codes "chronicle") (codes "schedule") told) of fails)
+  course_broken : is_of coursed told ≡ true → excludes (codes "chronicle") (codes "schedule") told ≡ false → is_meant told ≡ false
+  course_broken of fails = ninth_broken of_first of_listing of_course (broken coursed told (excludes (codes "chronicle") (codes "schedule") told) of fails)
 
   program_broken : is_of programs told ≡ true → has_notation told ≡ false → is_meant told ≡ false
   program_broken of fails = either_broken of_first of_listing of_course (first_broken of_program of_naming of_table of_lieutenant of_explanation of_exploration of_tree (broken programs told (has_notation told) of fails))

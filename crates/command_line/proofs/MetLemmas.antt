@@ -40,8 +40,8 @@ off known name apart = elim (cases_Bool (bytes_eq known name)) [
 pub no_other_task : (told : Told) → has_places told ≡ true
     → (told.name ≡ codes "check" → ⊥) → (told.name ≡ codes "asm" → ⊥) → (told.name ≡ codes "dis" → ⊥) → (told.name ≡ codes "book" → ⊥)
     → (told.name ≡ codes "table" → ⊥) → (told.name ≡ codes "muster" → ⊥) → (told.name ≡ codes "play" → ⊥) → (told.name ≡ codes "audit" → ⊥)
-    → (told.name ≡ codes "explore" → ⊥) → (told.name ≡ codes "tree" → ⊥) → (told.name ≡ codes "draw" → ⊥) → (told.name ≡ codes "schedule" → ⊥) → ⊥
-no_other_task told is check asm dis book table muster play audit explore tree draw schedule =
+    → (told.name ≡ codes "explore" → ⊥) → (told.name ≡ codes "tree" → ⊥) → (told.name ≡ codes "draw" → ⊥) → (told.name ≡ codes "page" → ⊥) → (told.name ≡ codes "schedule" → ⊥) → ⊥
+no_other_task told is check asm dis book table muster play audit explore tree draw page schedule =
     let bad : false ≡ true = rw (
       off (codes "check") told.name check,
       off (codes "asm") told.name asm,
@@ -54,5 +54,6 @@ no_other_task told is check asm dis book table muster play audit explore tree dr
       off (codes "explore") told.name explore,
       off (codes "tree") told.name tree,
       off (codes "draw") told.name draw,
+      off (codes "page") told.name page,
       off (codes "schedule") told.name schedule,
     ) at is in absurd cc

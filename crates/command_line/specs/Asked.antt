@@ -4,7 +4,7 @@ use Rattle.std.specs.Prelude.{codes, if◌then◌else◌, is_some, map, option_a
 use Rattle.std.specs.Borrow.{Bor}
 use Rattle.std.specs.Option.{option_map_or}
 use Rattle.command_line.specs.Generals.{count_in, depth_in, general_in, generals_in, order_in}
-use Rattle.command_line.specs.Told.{Told, are_two, campaigns, has, is_of, of_one, of_traitors, programs, word_of}
+use Rattle.command_line.specs.Told.{Told, are_two, campaigns, coursed, has, is_of, of_one, of_traitors, programs, word_of}
 use Rattle.command_line.specs.Usage.{Text, Usage, taken_in, value_at}
 use Rattle.command_line.specs.Usages.{usage_named}
 
@@ -61,7 +61,7 @@ is_meant told = if_of programs told (has_notation told)
     && if_of (codes "explore" ∷ []) told (reads count_in (codes "most") told)
     && if_of (codes "tree" ∷ []) told (has_tree told)
     && if_of (codes "dis" ∷ []) told (excludes (codes "partial") (codes "units") told)
-    && if_of (codes "draw" ∷ []) told (excludes (codes "chronicle") (codes "schedule") told)
+    && if_of coursed told (excludes (codes "chronicle") (codes "schedule") told)
 
 -- what the words ask for: what they spell, where that is no misuse
 abbrev pub asked : List Text → Option Told

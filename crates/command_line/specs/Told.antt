@@ -22,7 +22,7 @@ use Rattle.command_line.specs.declared.tasks.Request.{Request}
 use Rattle.command_line.specs.declared.tasks.Spelling.{Spelling}
 use Rattle.command_line.specs.declared.tasks.Spelling.TheVariants.{Hex, Raw}
 use Rattle.command_line.specs.declared.tasks.Task.{Task}
-use Rattle.command_line.specs.declared.tasks.Task.TheVariants.{Check, Assemble, AssemblePartly, Disassemble, DisassemblePartly, Book, ExplainDecisions, Form, Play, Muster, Audit, Explore, Tree, Draw, Retrace}
+use Rattle.command_line.specs.declared.tasks.Task.TheVariants.{Check, Assemble, AssemblePartly, Disassemble, DisassemblePartly, Book, ExplainDecisions, Form, Play, Muster, Audit, Explore, Tree, Draw, Page, Retrace}
 use Rattle.command_line.specs.declared.errors.Misuse.{Misuse}
 use Rattle.command_line.specs.declared.errors.Misuse.TheVariants.{Traitors, Of, Lie, Loyal, Most, Depth, NobodyNamed, TwoDrawings, TwoNotations, UnitsOfParts, TwoCourses, EntryAlone, OfAlone, LieAlone}
 use Rattle.command_line.specs.declared.errors.TaskError.{TaskError}
@@ -56,6 +56,10 @@ of_one = codes "tree" ∷ campaigns
 
 abbrev pub of_traitors : List Text
 of_traitors = codes "book" ∷ codes "tree" ∷ []
+
+-- those whose campaign takes a course
+abbrev pub coursed : List Text
+coursed = codes "draw" ∷ codes "page" ∷ []
 
 -- ---- what the words say of a part of a task
 
@@ -161,6 +165,9 @@ Says told (Tree file general traitors drawing depth folded) = (told.name ≡ cod
     × (levels_in (word_of (codes "depth") told) ≡ Some depth) × (has (codes "fold") told ≡ folded)
 Says told (Draw scenario course) = (told.name ≡ codes "draw")
     × (word_of (codes "SCENARIO") told ≡ Some (string_bytes scenario)) × IsCourse told course
+Says told (Page scenario course target) = (told.name ≡ codes "page")
+    × (word_of (codes "SCENARIO") told ≡ Some (string_bytes scenario)) × IsCourse told course
+    × (word_of (codes "target") told ≡ option_map string_bytes target)
 Says told (Retrace scenario chronicle) = (told.name ≡ codes "schedule")
     × (word_of (codes "SCENARIO") told ≡ Some (string_bytes scenario))
     × (word_of (codes "CHRONICLE") told ≡ Some (string_bytes chronicle))
@@ -186,20 +193,26 @@ file_of (Audit scenario chronicle explained) = Some (string_bytes scenario)
 file_of (Explore scenario most) = Some (string_bytes scenario)
 file_of (Tree file general traitors drawing depth folded) = Some (string_bytes file)
 file_of (Draw scenario course) = Some (string_bytes scenario)
+file_of (Page scenario course target) = Some (string_bytes scenario)
 file_of (Retrace scenario chronicle) = Some (string_bytes scenario)
+
+abbrev pub course_file : Course → Option Text
+course_file (Scheduled schedule) = option_map string_bytes schedule
+course_file (Recorded chronicle) = Some (string_bytes chronicle)
 
 abbrev pub second_of : Task → Option Text
 second_of (Check file notation context explained traced) = option_map string_bytes context
 second_of (Play scenario schedule account explained) = option_map string_bytes schedule
 second_of (Audit scenario chronicle explained) = Some (string_bytes chronicle)
-second_of (Draw scenario (Scheduled schedule)) = option_map string_bytes schedule
-second_of (Draw scenario (Recorded chronicle)) = Some (string_bytes chronicle)
+second_of (Draw scenario course) = course_file course
+second_of (Page scenario course target) = course_file course
 second_of (Retrace scenario chronicle) = Some (string_bytes chronicle)
 second_of _ = None
 
 abbrev pub target_of : Task → Option Text
 target_of (Assemble file spelling target explained) = option_map string_bytes target
 target_of (AssemblePartly file spelling target explained) = option_map string_bytes target
+target_of (Page scenario course target) = option_map string_bytes target
 target_of _ = None
 
 -- ---- refusals
@@ -229,7 +242,7 @@ IsMisused told TwoDrawings = (is_of (codes "tree" ∷ []) told ≡ true)
     × (are_two (has (codes "ascii") told) (has (codes "dot") told) (has (codes "svg") told) ≡ true)
 IsMisused told TwoNotations = (is_of programs told ≡ true) × (has (codes "asm") told ≡ true) × (has (codes "elf") told ≡ true)
 IsMisused told UnitsOfParts = (is_of (codes "dis" ∷ []) told ≡ true) × (has (codes "units") told ≡ true) × (has (codes "partial") told ≡ true)
-IsMisused told TwoCourses = (is_of (codes "draw" ∷ []) told ≡ true)
+IsMisused told TwoCourses = (is_of coursed told ≡ true)
     × (has (codes "schedule") told ≡ true) × (has (codes "chronicle") told ≡ true)
 IsMisused told EntryAlone = (is_of programs told ≡ true) × (has (codes "entry") told ≡ true) × (has (codes "elf") told ≡ false)
 IsMisused told OfAlone = (is_of campaigns told ≡ true) × (has (codes "of") told ≡ true) × (has (codes "explain") told ≡ false)

@@ -73,11 +73,18 @@ tree = record {
 abbrev pub draw : Usage
 draw = record { name = codes "draw"; places = codes "SCENARIO" ∷ []; flags = option (codes "schedule") ∷ option (codes "chronicle") ∷ [] }
 
+abbrev pub page : Usage
+page = record {
+  name = codes "page";
+  places = codes "SCENARIO" ∷ [];
+  flags = option (codes "schedule") ∷ option (codes "chronicle") ∷ letter (codes "target") 111 ∷ [];
+}
+
 abbrev pub schedule : Usage
 schedule = record { name = codes "schedule"; places = codes "SCENARIO" ∷ codes "CHRONICLE" ∷ []; flags = [] }
 
 abbrev pub usages : List Usage
-usages = check ∷ asm ∷ dis ∷ book ∷ table ∷ muster ∷ play ∷ audit ∷ explore ∷ tree ∷ draw ∷ schedule ∷ []
+usages = check ∷ asm ∷ dis ∷ book ∷ table ∷ muster ∷ play ∷ audit ∷ explore ∷ tree ∷ draw ∷ page ∷ schedule ∷ []
 
 abbrev pub usage_named : Text → Option Usage
 usage_named name = find (λ usage. bytes_eq usage.name name) usages

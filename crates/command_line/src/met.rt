@@ -3,7 +3,7 @@ ghost use Rattle.clap.specs.Words.{subcommand_rows_of};
 ghost use Rattle.command_line.specs.Lab.{is_given, task_met};
 ghost use Rattle.command_line.specs.Told.{IsDrawing, levels_in, named};
 ghost use Rattle.command_line.specs.Met.{has_places, told_by};
-ghost use Rattle.command_line.specs.Told.{AreExplained, Asks, IsCourse, IsErrorOf, IsFilling, IsNotation, NamesCount, NamesGeneral, Says, campaigns, has, is_of, is_raw, is_table, programs, word_of};
+ghost use Rattle.command_line.specs.Told.{AreExplained, Asks, IsCourse, IsErrorOf, IsFilling, IsNotation, NamesCount, NamesGeneral, Says, campaigns, coursed, has, is_of, is_raw, is_table, programs, word_of};
 
 use crate::errors::{Misuse, TaskError};
 use crate::generals::{GeneralsError, count, depth, general, generals, order};
@@ -99,6 +99,7 @@ impl<'m, 'a> Met<'m, 'a> {
             "explore" => self.explore(alloc),
             "tree" => self.tree(alloc),
             "draw" => self.draw(alloc),
+            "page" => self.page(alloc),
             "schedule" => self.retrace(alloc),
             _ => unreachable!(),
         }
@@ -401,9 +402,23 @@ impl<'m, 'a> Met<'m, 'a> {
         })
     }
 
+    /// The task of `page`.
+    fn page(self, alloc: Global) -> Result<Task, TaskError>
+        requires name { self.name.now ≡ codes "page" }
+        requires scenario { has (codes "SCENARIO") (told_by self) ≡ true }
+        ensures task { IfOk result (Says (told_by self.entry)) }
+        ensures refused { IfErr result (IsErrorOf (told_by self.entry)) }
+    {
+        Ok(Task::Page {
+            scenario: self.required(alloc, "SCENARIO")?,
+            course: self.course(alloc)?,
+            target: self.optional(alloc, "target")?,
+        })
+    }
+
     /// Which course a campaign takes.
     fn course(self, alloc: Global) -> Result<Course, TaskError>
-        requires { is_of (codes "draw" ∷ []) (told_by self) ≡ true }
+        requires { is_of coursed (told_by self) ≡ true }
         ensures course { IfOk result (IsCourse (told_by self.entry)) }
         ensures refused { IfErr result (IsErrorOf (told_by self.entry)) }
     {

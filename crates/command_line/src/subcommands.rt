@@ -34,6 +34,25 @@ const CHRONICLE: Place<'static> = Place {
     help: "What `play` or `muster` has printed of this campaign",
 };
 
+const SCHEDULED: Flag<'static> = Flag::Option {
+    name: "schedule",
+    value: "FILE",
+    help: "The order of the turns; without it each round is punctual",
+};
+
+const RECORDED: Flag<'static> = Flag::Option {
+    name: "chronicle",
+    value: "FILE",
+    help: "Tells what this chronicle tells",
+};
+
+const PAGE_TARGET: Flag<'static> = Flag::Letter {
+    name: "target",
+    letter: 'o',
+    value: "FILE",
+    help: "Writes to this file, once the page is whole",
+};
+
 pub(crate) const CHECK: Subcommand<'static> = Subcommand {
     name: "check",
     about: "Verifies a program and runs it",
@@ -228,11 +247,7 @@ pub(crate) const PLAY: Subcommand<'static> = Subcommand {
             name: "verdicts",
             help: VERDICTS,
         },
-        Flag::Option {
-            name: "schedule",
-            value: "FILE",
-            help: "The order of the turns; without it each round is punctual",
-        },
+        SCHEDULED,
         Flag::Option {
             name: "of",
             value: "G",
@@ -324,17 +339,20 @@ const DRAW: Subcommand<'static> = Subcommand {
     about: "Draws a campaign as a space-time diagram in SVG",
     places: &[SCENARIO],
     flags: &[
-        Flag::Option {
-            name: "schedule",
-            value: "FILE",
-            help: "The order of the turns; without it each round is punctual",
-        },
+        SCHEDULED,
         Flag::Option {
             name: "chronicle",
             value: "FILE",
             help: "Draws what this chronicle tells",
         },
     ],
+};
+
+const PAGE: Subcommand<'static> = Subcommand {
+    name: "page",
+    about: "Tells a campaign as one page of HTML",
+    places: &[SCENARIO],
+    flags: &[SCHEDULED, RECORDED, PAGE_TARGET],
 };
 
 const SCHEDULE: Subcommand<'static> = Subcommand {
@@ -346,5 +364,5 @@ const SCHEDULE: Subcommand<'static> = Subcommand {
 
 /// All subcommands, as help lists them.
 pub(crate) const SUBCOMMANDS: &[Subcommand<'static>] = &[
-    CHECK, ASM, DIS, BOOK, TABLE, MUSTER, PLAY, AUDIT, EXPLORE, TREE, DRAW, SCHEDULE,
+    CHECK, ASM, DIS, BOOK, TABLE, MUSTER, PLAY, AUDIT, EXPLORE, TREE, DRAW, PAGE, SCHEDULE,
 ];

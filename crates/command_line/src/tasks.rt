@@ -99,6 +99,12 @@ pub enum Task {
         scenario: String,
         course: Course,
     },
+    /// Tell a campaign that takes this course as a page of HTML, and write it to another file where one is named.
+    Page {
+        scenario: String,
+        course: Course,
+        target: Option<String>,
+    },
     /// Print the schedule by which a campaign has a chronicle.
     Retrace {
         scenario: String,
@@ -174,6 +180,21 @@ pub enum Lieutenants {
     One(u8),
 }
 
+impl Course {
+    ghost use Rattle.std.specs.Prelude.{◌≡◌, option_map};
+    ghost use Rattle.command_line.specs.Told.{course_file};
+
+    /// The name of the file that tells the course, where there is one.
+    fn file(&self) -> Option<&str>
+        ensures { option_map (λ file. file.now) result ≡ course_file self.now }
+    {
+        match self {
+            Course::Scheduled(schedule) => schedule.as_deref(),
+            Course::Recorded(chronicle) => Some(chronicle.as_str()),
+        }
+    }
+}
+
 impl Task {
     ghost use Rattle.std.specs.Prelude.{◌≡◌, option_map};
     ghost use Rattle.command_line.specs.Told.{file_of, second_of, target_of};
@@ -196,6 +217,7 @@ impl Task {
             | Task::Explore { scenario: file, .. }
             | Task::Tree { file, .. }
             | Task::Draw { scenario: file, .. }
+            | Task::Page { scenario: file, .. }
             | Task::Retrace { scenario: file, .. } => Some(file.as_str()),
             Task::Form { .. } => None,
         }
@@ -211,14 +233,7 @@ impl Task {
             Task::Audit { chronicle, .. } | Task::Retrace { chronicle, .. } => {
                 Some(chronicle.as_str())
             }
-            Task::Draw {
-                course: Course::Scheduled(schedule),
-                ..
-            } => schedule.as_deref(),
-            Task::Draw {
-                course: Course::Recorded(chronicle),
-                ..
-            } => Some(chronicle.as_str()),
+            Task::Draw { course, .. } | Task::Page { course, .. } => course.file(),
             _ => None,
         }
     }
@@ -230,6 +245,7 @@ impl Task {
         match self {
             Task::Assemble { target, .. } => target.as_deref(),
             Task::AssemblePartly { target, .. } => target.as_deref(),
+            Task::Page { target, .. } => target.as_deref(),
             _ => None,
         }
     }

@@ -6,6 +6,7 @@ use Rattle.command_line.specs.Told.{file_of}
 use Rattle.command_line.specs.declared.tasks.Request.{Request}
 use Rattle.command_line.specs.declared.tasks.Task.{Task}
 use Rattle.command_line.specs.declared.tasks.Task.TheVariants.{Audit}
+use Rattle.label.specs.declared.shape.Shape.{Shape}
 use Rattle.json_lines.specs.Labels.{at_first}
 use Rattle.json_lines.specs.Lines.{json_text, object_line, with_file}
 use Rattle.json_lines.specs.Objects.{line_object}
@@ -34,15 +35,15 @@ outcome text = unwrap_or (find is_verdict (lines_of text)) (before feed text)
 abbrev pub named_line : List ℕ → List ℕ → Option (List ℕ)
 named_line name line = option_map (λ told. told ++ codes ": " ++ line ++ 10 ∷ []) (shown name)
 
--- an answer's text: as it is, as JSON, as one line, as one line of JSON
-abbrev pub answer_by : Bool → Bool → List ℕ → List ℕ → Option (List ℕ)
-answer_by false false name text = Some text
-answer_by true false name text = Some (json_text text)
-answer_by false true name text = named_line name (outcome text)
-answer_by true true name text = Some (object_line (with_file name (line_object at_first (outcome text))))
+-- an answer's text, which may tell of a trial in such a place: as it is, as JSON, as one line, as one line of JSON
+abbrev pub answer_by : Bool → Bool → List ℕ → Option Shape → List ℕ → Option (List ℕ)
+answer_by false false name place text = Some text
+answer_by true false name place text = Some (json_text place text)
+answer_by false true name place text = named_line name (outcome text)
+answer_by true true name place text = Some (object_line (with_file name (line_object at_first (outcome text))))
 
-abbrev pub answer_as : Request → List ℕ → Option (List ℕ)
-answer_as request text = answer_by request.json request.verdicts (judged request.task) text
+abbrev pub answer_as : Request → Option Shape → List ℕ → Option (List ℕ)
+answer_as request place text = answer_by request.json request.verdicts (judged request.task) place text
 
 -- a refusal's text: as it is, as an object, as one line, as an object with the file
 abbrev pub refusal_by : Bool → Bool → List ℕ → List ℕ → Option (List ℕ)

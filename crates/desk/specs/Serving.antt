@@ -3,14 +3,16 @@ use Rattle.std.specs.Prelude.{ℕ, ◌≡◌, ◌⊎◌, List, Option, IfSome, c
 use Rattle.std.specs.Io.KnownBytes.{Appends}
 use Rattle.command_line.specs.declared.tasks.Request.{Request}
 use Rattle.lab.specs.Faults.{Prevents, fault_text, status_of}
-use Rattle.lab.specs.Serving.{Files, IsAnswer, Tells}
+use Rattle.label.specs.declared.shape.Shape.{Shape}
+use Rattle.lab.specs.Serving.{Files, IsPlacedAnswer, Tells}
 use Rattle.lab.specs.declared.failure.Failure.{Failure}
 use Rattle.streams.specs.Writing.{AppendsFront}
 use Rattle.desk.specs.Printing.{answer_as, refusal_as}
 
 -- the output has grown by the task's whole answer on the files, in the form that is asked for
 abbrev pub IsShown : Request → Files → Option (List ℕ) → Option (List ℕ) → Type 0
-IsShown request files old new = (text : List ℕ) × IsAnswer request.task files text × IfSome (answer_as request text) (Appends old new)
+IsShown request files old new =
+    (text : List ℕ) × ((place : Option Shape) × IsPlacedAnswer request.task files text place × IfSome (answer_as request place text) (Appends old new))
 
 -- the output failed on this, of which at most a beginning was written, and a line says so
 abbrev pub IsUnwritten : Type 0 → (List ℕ → Type 0) → Option (List ℕ) → Option (List ℕ) → Option (List ℕ) → Type 0
@@ -24,7 +26,7 @@ IsRefusalShown quiet unwritten tells request old new text =
 -- the output failed on the task's answer, in the form that is asked for
 abbrev pub IsAnswerUnwritten : Type 0 → (List ℕ → Type 0) → Request → Files → Option (List ℕ) → Option (List ℕ) → Type 0
 IsAnswerUnwritten unwritten tells request files old new =
-    (text : List ℕ) × IsAnswer request.task files text × IsUnwritten unwritten tells (answer_as request text) old new
+    (text : List ℕ) × ((place : Option Shape) × IsPlacedAnswer request.task files text place × IsUnwritten unwritten tells (answer_as request place text) old new)
 
 -- the task has no answer, and why stands so, where it is known how that is told; it is not want of memory
 abbrev pub IsPrevented : Type 0 → Type 0 → (List ℕ → Type 0) → Request → Files → Type 0

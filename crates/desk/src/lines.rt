@@ -4,6 +4,7 @@ ghost use Rattle.desk.specs.Printing.{answer_as, named_line, refusal_as};
 
 use crate::outcome::{first_line, judged, outcome};
 use command_line::Request;
+use label::Shape;
 use std::alloc::{AllocError, Global};
 use streams::FileName;
 
@@ -18,18 +19,19 @@ fn named_line(alloc: Global, name: &str, line: &[u8]) -> Result<Vec<u8>, AllocEr
     Ok(lines)
 }
 
-/// An answer's text in the form that is asked for.
+/// An answer's text in the form that is asked for, of a trial in this place, if it tells of one.
 pub(crate) fn answer_lines(
     alloc: Global,
     request: &Request,
+    place: Option<Shape>,
     text: &[u8],
 ) -> Result<Vec<u8>, AllocError>
-    ensures { IfOk result (λ all. IfSome (answer_as request.now text.now) (λ known. all.items ≡ known)) }
+    ensures { IfOk result (λ all. IfSome (answer_as request.now place text.now) (λ known. all.items ≡ known)) }
 {
     let name = judged(&request.task);
     match (request.json, request.verdicts) {
         (false, false) => text.to_vec(alloc),
-        (true, false) => json_lines::answer(alloc, text),
+        (true, false) => json_lines::answer(alloc, place, text),
         (false, true) => named_line(alloc, name, outcome(text)),
         (true, true) => json_lines::answer_of(alloc, name, outcome(text)),
     }

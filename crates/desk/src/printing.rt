@@ -7,6 +7,7 @@ ghost use Rattle.desk.specs.Serving.{IsRefusalShown, IsUnwritten};
 
 use crate::lines::{answer_lines, refusal_lines};
 use command_line::Request;
+use label::Shape;
 use std::alloc::Global;
 use streams::Output;
 
@@ -28,22 +29,23 @@ fn unwritten<F: Output>(fault: &mut F) -> u8
     1
 }
 
-/// Prints an answer. The result is the exit status.
+/// Prints an answer, which may tell of a trial in such a place. The result is the exit status.
 pub(crate) fn show_answer<O: Output, F: Output>(
     alloc: Global,
     request: &Request,
+    place: Option<Shape>,
     text: &[u8],
     out: &mut O,
     fault: &mut F,
 ) -> u8
     ensures status { (result ≡ 0) ⊎ ((result ≡ 1) ⊎ (result ≡ 3)) }
-    ensures done { result ≡ 0 → IfSome (answer_as request.now text.now) (Appends (O.contents out.old) (O.contents out.new)) }
+    ensures done { result ≡ 0 → IfSome (answer_as request.now place text.now) (Appends (O.contents out.old) (O.contents out.new)) }
     ensures quiet { result ≡ 0 → fault.new ≡ fault.old }
-    ensures unwritten { result ≡ 1 → IsUnwritten (O.fails out.old) (Tells (F.fails fault.old) (F.contents fault.old) (F.contents fault.new)) (answer_as request.now text.now) (O.contents out.old) (O.contents out.new) }
+    ensures unwritten { result ≡ 1 → IsUnwritten (O.fails out.old) (Tells (F.fails fault.old) (F.contents fault.old) (F.contents fault.new)) (answer_as request.now place text.now) (O.contents out.old) (O.contents out.new) }
     ensures unprinted { result ≡ 3 → out.new ≡ out.old }
     ensures memory { result ≡ 3 → Tells (F.fails fault.old) (F.contents fault.old) (F.contents fault.new) (codes "out of memory") }
 {
-    let Ok(lines) = answer_lines(alloc, request, text) else {
+    let Ok(lines) = answer_lines(alloc, request, place, text) else {
         return lacking(fault);
     };
     match out.put(lines.as_slice()) {

@@ -7,7 +7,7 @@ ghost use Rattle.desk.specs.Serving.{IsAnswerUnwritten, IsPrevented, IsRefusalSh
 
 use crate::printing::{lacking, show_answer, show_refusal};
 use command_line::Request;
-use lab::Failure;
+use lab::{Answer, Failure};
 use std::alloc::Global;
 use std::fmt::Display;
 use std::sync::Wait;
@@ -23,6 +23,7 @@ fn is_shaped(request: &Request) -> bool
 
 /// Does what is asked for, as `lab::serve` does the task; where JSON or one line is asked for, the answer or the refusal is
 /// printed so, on `out`. The result is the exit status: 0 done, 1 refused or a fault of a file, 3 want of memory.
+#[tactic(auto, using(crate::proofs::ShownLemmas::shown_plainly))]
 pub fn serve<T, R, O, F>(
     rt: &T,
     alloc: Global,
@@ -62,8 +63,11 @@ where
     if !is_shaped(request) {
         return lab::serve(rt, alloc, task, first, second, out, fault);
     }
-    match lab::answered(rt, alloc, task, first, second) {
-        Ok(text) => show_answer(alloc, request, text.as_slice(), out, fault),
+    match lab::placed(rt, alloc, task, first, second) {
+        Ok(answer) => {
+            let Answer { text, place } = answer;
+            show_answer(alloc, request, place, text.as_slice(), out, fault)
+        }
         Err(Failure::Memory) => lacking(fault),
         Err(failure) => shown(alloc, request, failure, out, fault),
     }

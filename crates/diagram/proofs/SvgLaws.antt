@@ -150,7 +150,7 @@ obeyed_text None = bare_text (codes "The commander is a traitor, whom nobody has
 
 bound_text : (b : Bool) → IsText (bound_words b)
 bound_text true = bare_text (codes "The bound holds: there are few enough traitors.") refl
-bound_text false = bare_text (codes "The bound does not hold: there are too many traitors, and nothing was promised.") refl
+bound_text false = bare_text (codes "The bound does not hold, by too few generals or too many traitors: no promise.") refl
 
 campaign_text : (n m c order : ℕ) → IsText (campaign_words n m c order)
 unfolding campaign_words

@@ -48,7 +48,7 @@ obeyed_words None = codes "The commander is a traitor, whom nobody has to obey."
 
 abbrev pub bound_words : Bool → List ℕ
 bound_words true = codes "The bound holds: there are few enough traitors."
-bound_words false = codes "The bound does not hold: there are too many traitors, and nothing was promised."
+bound_words false = codes "The bound does not hold, by too few generals or too many traitors: no promise."
 
 abbrev pub verdict_lines : Verdict → List ℕ
 verdict_lines v =

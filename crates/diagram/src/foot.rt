@@ -151,6 +151,6 @@ fn bound_words(bound: bool) -> &'static str
     if bound {
         "The bound holds: there are few enough traitors."
     } else {
-        "The bound does not hold: there are too many traitors, and nothing was promised."
+        "The bound does not hold, by too few generals or too many traitors: no promise."
     }
 }

@@ -15,3 +15,4 @@ pub use facts::strokes;
 pub use laws::diagrams_are_elements;
 pub use stroke::Stroke;
 pub use svg::campaign_svg;
+pub use words::put_access_words;

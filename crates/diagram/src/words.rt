@@ -181,7 +181,11 @@ fn put_all(out: &mut String, words: &[u64]) -> Result<(), AllocError>
 }
 
 /// Adds who asked what of the board, and its answer.
-pub(crate) fn put_access_words(out: &mut String, access: &Access) -> Result<(), AllocError>
+///
+/// # Errors
+///
+/// No memory for the text.
+pub fn put_access_words(out: &mut String, access: &Access) -> Result<(), AllocError>
     ensures { OnOk result (string_bytes out.new ≡ string_bytes out.old ++ access_words access.now) }
 {
     put_general(out, access.general)?;

@@ -1,6 +1,6 @@
 -- No line tells a float.
 use Rattle.std.proofs.Common.{◌≡◌, ℕ, Bool, true, false, List, [], ◌∷◌, Option, None, Some, Ordering, Less, Equal, Greater, option_map, option_and_then, bytes_eq, codes, refl}
-use Rattle.std.specs.Prelude.{if◌then◌else◌, ◌||◌, ◌==◌, length}
+use Rattle.std.specs.Prelude.{if◌then◌else◌, ◌||◌, ◌==◌, length, slice_get}
 use Rattle.std.specs.Str.Lossy.{utf8_lossy}
 use Rattle.std.specs.Cmp.Lexicographic.{slice_cmp}
 use Rattle.std.specs.Ordering.{match_ordering, nat_cmp}
@@ -10,11 +10,11 @@ use Rattle.text.specs.Parts.{before, lines_of, pieces}
 use Rattle.text.specs.Stop.{dot, feed, space}
 use Rattle.json_lines.specs.declared.held.Held.{Held}
 use Rattle.json_lines.specs.declared.shape.Within.{Within}
-use Rattle.json_lines.specs.declared.shape.Within.TheVariants.{Nothing, Round, Letter}
+use Rattle.json_lines.specs.declared.shape.Within.TheVariants.{Nothing, Round, Letter, Outbox}
 use Rattle.json_lines.specs.Labels.{label_of, number_at, numbers, placed, with_label, with_number}
 use Rattle.json_lines.specs.Lines.{with_file}
 use Rattle.json_lines.specs.Objects.{called, first_by, first_shaped, line_object, or, shaped, told_by, unshaped, with_mark, with_name}
-use Rattle.json_lines.specs.Refusals.{behind_stop, class_of, fault_object, refusal_object, refused_object, reported, sentence_of, with_sentence, with_text}
+use Rattle.json_lines.specs.Refusals.{behind_stop, class_of, fault_object, namer, namer_of, refusal_object, refused_object, reported, sentence_of, with_namer, with_sentence, with_text}
 use Rattle.json_lines.specs.Shapes.{Row, shapes}
 use Rattle.json_lines.specs.Told.{Word, all, joined, number_of, place_of, places, small, told, yes_no_of}
 
@@ -147,6 +147,7 @@ placed_clean Letter h ms b =
     let inner = with_number (codes "round") h.round ms in
     label_clean (option_and_then (label_of h) (number_at (codes "rank") ms)) (with_number (codes "general") h.general inner)
     (within_clean (codes "general") h.general inner (within_clean (codes "round") h.round ms b))
+placed_clean Outbox h ms b = label_clean (option_and_then (label_of h) (number_at (codes "rank") ms)) ms b
 
 first_step : (place : Within) (h : Held) (o rest : Option Members) → HaveClean o → HaveClean rest → HaveClean (first_by (option_map (λ ms. placed place h ms) o) rest)
 first_step place h None rest a b = b
@@ -173,6 +174,10 @@ sentence_clean : (o : Option (List ℕ)) (ms : Members) → NoFloat ms → NoFlo
 sentence_clean None ms b = b
 sentence_clean (Some s) ms b = text_clean (codes "sentence") s ms b
 
+namer_clean : (o : Option (List ℕ)) (ms : Members) → NoFloat ms → NoFloat (with_namer o ms)
+namer_clean None ms b = b
+namer_clean (Some key) ms b = text_clean (codes "named_by") key ms b
+
 refused_clean : (told : List ℕ) (lines : List (List ℕ)) → NoFloat (refused_object told lines)
 refused_clean told lines =
     let code = before space told in
@@ -181,7 +186,8 @@ refused_clean told lines =
     let classed = put (codes "class") (string (class_of code)) placed_at in
     let first : NoFloat coded = text_clean (codes "code") code (called (codes "refused")) refl in
     let second : NoFloat placed_at = text_clean (codes "place") (behind_stop space told) coded first in
-    sentence_clean (sentence_of code lines) classed (put_clean (codes "class") (string (class_of code)) placed_at refl second)
+    sentence_clean (sentence_of code lines) (with_namer (namer_of code lines) classed)
+    (namer_clean (namer_of code lines) classed (put_clean (codes "class") (string (class_of code)) placed_at refl second))
 
 fault_clean : (told : List ℕ) (lines : List (List ℕ)) → NoFloat (fault_object told lines)
 fault_clean told lines =
@@ -189,7 +195,9 @@ fault_clean told lines =
     let place = with_text (codes "place") (behind_stop space told) what in
     let first : NoFloat what = text_clean (codes "fault") (before space told) (called (codes "fault")) refl in
     let classed = put (codes "class") (string (codes "unreadable")) place in
-    sentence_clean (reported lines) classed (put_clean (codes "class") (string (codes "unreadable")) place refl (text_clean (codes "place") (behind_stop space told) what first))
+    let by = option_and_then namer (slice_get lines 0) in
+    sentence_clean (reported lines) (with_namer by classed)
+    (namer_clean by classed (put_clean (codes "class") (string (codes "unreadable")) place refl (text_clean (codes "place") (behind_stop space told) what first)))
 
 unshaped_clean : (line : List ℕ) → NoFloat (unshaped line)
 unshaped_clean line = put_clean (codes "text") (string (utf8_lossy line)) (called (codes "text")) refl refl

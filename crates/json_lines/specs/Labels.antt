@@ -1,4 +1,4 @@
--- Where a line of a chronicle stands, and the label of a row (own).
+-- Where a line stands, and the label of a rank (own).
 use Rattle.std.specs.Prelude.{ℕ, ◌==◌, ◌&&◌, Bool, nat_le, nat_lt, if◌then◌else◌, List, [], ◌∷◌, Option, None, Some, option_and_then, slice_get, unwrap_or, codes}
 use Rattle.label.specs.declared.shape.Shape.{Shape}
 use Rattle.label.specs.Relay.{relay}
@@ -6,7 +6,7 @@ use Rattle.serde_json.specs.Data.{number, unsigned, array, Items, no_items, item
 use Rattle.serde_json.specs.Find.{get_member, as_number, as_u64}
 use Rattle.json_lines.specs.declared.held.Held.{Held}
 use Rattle.json_lines.specs.declared.shape.Within.{Within}
-use Rattle.json_lines.specs.declared.shape.Within.TheVariants.{Nothing, Round, Letter}
+use Rattle.json_lines.specs.declared.shape.Within.TheVariants.{Nothing, Round, Letter, Outbox}
 
 -- the number at a name
 abbrev pub number_at : List ℕ → Members → Option ℕ
@@ -15,6 +15,11 @@ number_at name ms = option_and_then as_u64 (option_and_then as_number (get_membe
 -- nothing is known before the first line
 abbrev pub at_first : Held
 at_first = record { generals = 0; commander = 0; round = 0; general = 0 }
+
+-- but where a program was tried, if the text tells of that: whose relay it was
+abbrev pub held_by : Option Shape → Held
+held_by None = at_first
+held_by (Some s) = record { generals = s.generals; commander = s.commander; round = s.round; general = s.general }
 
 -- what is known behind a line: the numbers that it tells by these names
 abbrev pub heard : Held → Members → Held
@@ -25,7 +30,7 @@ heard h ms = record {
   general = unwrap_or (number_at (codes "general") ms) h.general;
 }
 
--- the relay of the general whose letter is told
+-- the relay of the general whose letter or outbox is told
 abbrev pub shape_of : Held → Shape
 shape_of h = record { generals = h.generals; commander = h.commander; general = h.general; round = h.round }
 
@@ -53,10 +58,11 @@ with_label (Some w) ms = put (codes "label") (array (numbers w)) ms
 abbrev pub with_number : List ℕ → ℕ → Members → Members
 with_number name n ms = put name (number (unsigned n)) ms
 
--- a line with where it stands: in a round, or in a general's letter, where a rank has its label
+-- a line with where it stands: in a round, or in a general's letter, where a rank has its label, as it has in an outbox
 abbrev pub placed : Within → Held → Members → Members
 placed Nothing h ms = ms
 placed Round h ms = with_number (codes "round") h.round ms
 placed Letter h ms =
     with_label (option_and_then (label_of h) (number_at (codes "rank") ms))
     (with_number (codes "general") h.general (with_number (codes "round") h.round ms))
+placed Outbox h ms = with_label (option_and_then (label_of h) (number_at (codes "rank") ms)) ms

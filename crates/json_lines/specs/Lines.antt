@@ -1,10 +1,11 @@
 -- A text as JSON Lines: an object on each line (RFC 8259; jsonlines.org).
-use Rattle.std.specs.Prelude.{ℕ, List, [], ◌∷◌, ◌++◌, codes}
+use Rattle.std.specs.Prelude.{ℕ, List, [], ◌∷◌, ◌++◌, Option, codes}
+use Rattle.label.specs.declared.shape.Shape.{Shape}
 use Rattle.serde_json.specs.Data.{Members, object, put, string}
 use Rattle.serde_json.specs.Written.{compact_text}
 use Rattle.text.specs.Parts.{lines_of}
 use Rattle.json_lines.specs.declared.held.Held.{Held}
-use Rattle.json_lines.specs.Labels.{at_first, heard}
+use Rattle.json_lines.specs.Labels.{heard, held_by}
 use Rattle.json_lines.specs.Objects.{line_object}
 
 -- the line of an object
@@ -20,9 +21,9 @@ abbrev pub object_lines : List Members → List ℕ
 object_lines [] = []
 object_lines (ms ∷ more) = object_line ms ++ object_lines more
 
--- a text as JSON Lines
-abbrev pub json_text : List ℕ → List ℕ
-json_text text = object_lines (objects at_first (lines_of text))
+-- a text as JSON Lines, which may tell of a trial in such a place
+abbrev pub json_text : Option Shape → List ℕ → List ℕ
+json_text place text = object_lines (objects (held_by place) (lines_of text))
 
 -- an object with the name of its file
 abbrev pub with_file : List ℕ → Members → Members

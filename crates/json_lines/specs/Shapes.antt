@@ -4,7 +4,7 @@ use Rattle.text.specs.Parts.{pieces}
 use Rattle.text.specs.Stop.{space}
 use Rattle.json_lines.specs.declared.shape.Shape.{Shape}
 use Rattle.json_lines.specs.declared.shape.Within.{Within}
-use Rattle.json_lines.specs.declared.shape.Within.TheVariants.{Nothing, Round, Letter}
+use Rattle.json_lines.specs.declared.shape.Within.TheVariants.{Nothing, Round, Letter, Outbox}
 
 -- what such a line is called, its words with their names, what holds of it or does not, and where it stands
 pub record Row : Type 0 where
@@ -53,7 +53,7 @@ shapes =
     ∷ plain (codes "sound") (codes "sound") (codes "-") Nothing
     ∷ plain (codes "accepted") (codes "accepted N instructions N units") (codes "- instructions - units -") Nothing
     ∷ plain (codes "run") (codes "r0 N steps N") (codes "- r0 - steps") Nothing
-    ∷ plain (codes "put") (codes "put N N N") (codes "- rank receiver order") Nothing
+    ∷ plain (codes "put") (codes "put N N N") (codes "- rank receiver order") Outbox
     ∷ plain (codes "word") (codes "word N N") (codes "- slot value") Nothing
     ∷ plain (codes "table") (codes "generals N bound N commander N") (codes "- generals - bound - commander") Nothing
     ∷ plain (codes "table") (codes "generals N bound N commander N rule majority") (codes "- generals - bound - commander - rule") Nothing

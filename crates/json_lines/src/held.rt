@@ -1,8 +1,9 @@
-//! Where a line of a chronicle stands.
+//! Where a line stands.
 ghost use Rattle.std.specs.Prelude.{◌≡◌};
 ghost use Rattle.serde_json.specs.View.{members_view};
-ghost use Rattle.json_lines.specs.Labels.{at_first, heard, number_at};
+ghost use Rattle.json_lines.specs.Labels.{at_first, heard, held_by, number_at};
 
+use label::Shape;
 use serde_json::{Map, Value};
 
 /// What is known of the campaign and of the letter in which a line stands, by the lines before: each 0 until one has told it.
@@ -35,6 +36,21 @@ impl Held {
             commander: 0,
             round: 0,
             general: 0,
+        }
+    }
+
+    /// Before the first line of a text that tells of a trial in this place, if it tells of one.
+    pub(crate) fn by(place: Option<Shape>) -> Held
+        ensures { result ≡ held_by place }
+    {
+        match place {
+            None => Held::at_first(),
+            Some(shape) => Held {
+                generals: u64::from(shape.generals),
+                commander: u64::from(shape.commander),
+                round: u64::from(shape.round),
+                general: u64::from(shape.general),
+            },
         }
     }
 

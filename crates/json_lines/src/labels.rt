@@ -1,5 +1,5 @@
-//! The label of a row.
-ghost use Rattle.std.specs.Prelude.{◌≡◌, ◌==◌, false, true, IfOk, OnOk, slice_get};
+//! The label of a rank.
+ghost use Rattle.std.specs.Prelude.{◌≡◌, ◌==◌, false, true, IfOk, OnOk, option_and_then, slice_get};
 ghost use Rattle.label.specs.Relay.{IsShape, relay};
 ghost use Rattle.serde_json.specs.View.{items_view, members_view};
 ghost use Rattle.json_lines.specs.Labels.{is_possible, label_of, numbers, own_label, placed, shape_of, with_label};
@@ -102,6 +102,21 @@ fn put_label(
     put_relayed(alloc, object, relayed(held, rank))
 }
 
+/// Puts the label of this rank, if there is one.
+fn put_label_of(
+    alloc: Global,
+    object: &mut Map<String, Value>,
+    held: Held,
+    rank: Option<u64>,
+) -> Result<(), AllocError>
+    ensures { OnOk result (members_view object.new.entries ≡ with_label (option_and_then (label_of held) rank) (members_view object.old.entries)) }
+{
+    match rank {
+        Some(rank) => put_label(alloc, object, held, rank),
+        None => Ok(()),
+    }
+}
+
 /// Puts where a line stands.
 pub(crate) fn put_place(
     alloc: Global,
@@ -118,10 +133,11 @@ pub(crate) fn put_place(
             let rank = number_at(object, "rank");
             put(object, alloc, "round", Value::from(held.round))?;
             put(object, alloc, "general", Value::from(held.general))?;
-            match rank {
-                Some(rank) => put_label(alloc, object, held, rank),
-                None => Ok(()),
-            }
+            put_label_of(alloc, object, held, rank)
+        }
+        Within::Outbox => {
+            let rank = number_at(object, "rank");
+            put_label_of(alloc, object, held, rank)
         }
     }
 }

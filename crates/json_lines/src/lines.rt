@@ -7,6 +7,7 @@ ghost use Rattle.json_lines.specs.Lines.{json_text, object_line};
 
 use crate::held::Held;
 use crate::objects::line_object;
+use label::Shape;
 use serde_json::{Map, Value};
 use std::alloc::{AllocError, Global};
 use text::line;
@@ -27,16 +28,17 @@ pub(crate) fn push_object(
 }
 
 /// A text as JSON Lines: an object for each of its lines, whose members are the line's words by their names. What a line
-/// tells of the campaign and of the letter in which it stands is told with the lines behind it.
+/// tells of the campaign and of the letter in which it stands is told with the lines behind it; of a text that tells of a trial
+/// the place is given in which the program was tried.
 ///
 /// # Errors
 ///
 /// `AllocError` where memory is refused.
-pub fn answer(alloc: Global, text: &[u8]) -> Result<Vec<u8>, AllocError>
-    ensures { IfOk result (λ lines. lines.items ≡ json_text text.now) }
+pub fn answer(alloc: Global, place: Option<Shape>, text: &[u8]) -> Result<Vec<u8>, AllocError>
+    ensures { IfOk result (λ lines. lines.items ≡ json_text place text.now) }
 {
     let mut out = Vec::new(alloc);
-    let mut held = Held::at_first();
+    let mut held = Held::by(place);
     let mut rest = text;
     while let Some((first, behind)) = line(rest) {
         let object = line_object(alloc, held, first)?;

@@ -1,9 +1,9 @@
 //! A refusal, or a fault of a file, as an object.
-ghost use Rattle.std.specs.Prelude.{◌≡◌, IfNone, IfOk, IfSome, OnOk, drop, false, option_map, slice_get, true};
+ghost use Rattle.std.specs.Prelude.{◌≡◌, IfNone, IfOk, IfSome, OnOk, drop, false, option_and_then, option_map, slice_get, true};
 ghost use Rattle.serde_json.specs.View.{members_view};
 ghost use Rattle.text.specs.Parts.{before, lines_of};
 ghost use Rattle.json_lines.specs.Lines.{object_line};
-ghost use Rattle.json_lines.specs.Refusals.{behind_stop, class_of, fault_object, is_reported, is_unsafe, is_why, refusal_object, refused_object, reported, said, sentence_of, why, with_sentence, with_text};
+ghost use Rattle.json_lines.specs.Refusals.{behind_stop, class_of, fault_object, is_reported, is_unsafe, is_why, namer, namer_behind, namer_of, refusal_object, refused_object, reported, said, second_of, sentence_of, why, with_namer, with_sentence, with_text};
 
 use crate::lines::push_object;
 use crate::objects::{called, unshaped};
@@ -119,6 +119,67 @@ fn sentence_of<'a>(code: &[u8], lines: &'a [u8]) -> Option<&'a [u8]>
     }
 }
 
+/// The second of the lines.
+fn second_of(lines: &[u8]) -> Option<&[u8]>
+    ensures { option_map (λ l. l.now) result ≡ second_of (lines_of lines.now) }
+{
+    let (_, behind) = line(lines)?;
+    first_of(behind)
+}
+
+/// What stands here behind the words that say where a file is named, if they stand here.
+fn namer_behind(words: &[u8]) -> Option<&[u8]>
+    ensures { option_map (λ k. k.now) result ≡ namer_behind words.now }
+{
+    words.strip_prefix(b" is named by ")
+}
+
+/// Where a file is named, as the last such words of a line say.
+fn namer(line: &[u8]) -> Option<&[u8]>
+    ensures { option_map (λ k. k.now) result ≡ namer line.now }
+{
+    let mut last = None;
+    let mut rest = line;
+    while let [_, behind @ ..] = rest {
+        if let Some(key) = namer_behind(rest) {
+            last = Some(key);
+        }
+        rest = behind;
+    }
+    last
+}
+
+/// Where the object is named that is refused by this code, if the lines say it.
+fn namer_of<'a>(code: &[u8], lines: &'a [u8]) -> Option<&'a [u8]>
+    ensures { option_map (λ k. k.now) result ≡ namer_of code.now (lines_of lines.now) }
+{
+    match code {
+        [first, ..] if *first == b'O' => namer(second_of(lines)?),
+        _ => None,
+    }
+}
+
+/// Where the file is named that has a fault, if the lines say it.
+fn namer_of_fault(lines: &[u8]) -> Option<&[u8]>
+    ensures { option_map (λ k. k.now) result ≡ option_and_then namer (slice_get (lines_of lines.now) 0) }
+{
+    namer(first_of(lines)?)
+}
+
+/// Puts where a file is named, if that is said.
+fn put_namer(
+    alloc: Global,
+    object: &mut Map<String, Value>,
+    key: Option<&[u8]>,
+) -> Result<(), AllocError>
+    ensures { OnOk result (members_view object.new.entries ≡ with_namer (option_map (λ k. k.now) key.entry) (members_view object.old.entries)) }
+{
+    match key {
+        Some(key) => put_text(alloc, object, "named_by", key),
+        None => Ok(()),
+    }
+}
+
 /// Puts a sentence, if there is one.
 fn put_sentence(
     alloc: Global,
@@ -145,7 +206,7 @@ fn put_text(
     put(object, alloc, name, spelled(alloc, text)?)
 }
 
-/// The object of a refusal: its code and place, and why, by the lines behind its own.
+/// The object of a refusal: its code and place, and by the lines behind its own where an object is named, and why.
 fn refused(alloc: Global, told: &[u8], lines: &[u8]) -> Result<Map<String, Value>, AllocError>
     ensures { IfOk result (λ object. members_view object.entries ≡ refused_object told.now (lines_of lines.now)) }
 {
@@ -159,11 +220,12 @@ fn refused(alloc: Global, told: &[u8], lines: &[u8]) -> Result<Map<String, Value
         "class",
         Value::try_from_str(alloc, class_of(code))?,
     )?;
+    put_namer(alloc, &mut object, namer_of(code, lines))?;
     put_sentence(alloc, &mut object, sentence_of(code, lines))?;
     Ok(object)
 }
 
-/// The object of a fault of a file, with the report behind it.
+/// The object of a fault of a file: with where it is named, and the report behind it.
 fn fault(alloc: Global, told: &[u8], lines: &[u8]) -> Result<Map<String, Value>, AllocError>
     ensures { IfOk result (λ object. members_view object.entries ≡ fault_object told.now (lines_of lines.now)) }
 {
@@ -177,6 +239,7 @@ fn fault(alloc: Global, told: &[u8], lines: &[u8]) -> Result<Map<String, Value>,
         "class",
         Value::try_from_str(alloc, "unreadable")?,
     )?;
+    put_namer(alloc, &mut object, namer_of_fault(lines))?;
     put_sentence(alloc, &mut object, reported(lines))?;
     Ok(object)
 }
@@ -199,7 +262,7 @@ pub(crate) fn refusal_object(alloc: Global, text: &[u8]) -> Result<Map<String, V
 
 /// What is said where a task is not done, as a line of JSON: of a refusal its code, its place, whether the file is malformed or
 /// its program unsafe, and why; of a fault of a file what it is, as its place the file, and why. The sentence that says why is
-/// there where the lines behind the first have it.
+/// there where the lines behind the first have it, and so is where a scenario names the file.
 ///
 /// # Errors
 ///

@@ -11,6 +11,8 @@ pub(crate) enum Within {
     Round,
     /// In a letter of a round.
     Letter,
+    /// In an outbox, of which a rank has its label.
+    Outbox,
 }
 
 /// A shape of lines.
@@ -305,7 +307,7 @@ const SHAPES: &[Shape] = &[
         ],
         mark: "",
         holds: false,
-        within: Within::Nothing,
+        within: Within::Outbox,
     },
     Shape {
         line: "word",

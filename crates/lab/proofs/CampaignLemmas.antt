@@ -19,6 +19,7 @@ use Rattle.world.specs.Lists.{listed, names_in, replayed}
 use Rattle.world.specs.Replay.{replay_of}
 use Rattle.world.specs.World.{oral_kind}
 use Rattle.world.specs.Schedules.{lines_by}
+use Rattle.signed.specs.Explained.{signed_explained}
 use Rattle.signed.specs.Kind.{signed_kind}
 use Rattle.signed.specs.Promises.{AgreeUnderSignedBound, AreSafeThroughout, AreWhole, IsSignedVerdictOn}
 use Rattle.trace.specs.SignedAudit.{IsSoundSignedText, signed_chronicle_told}
@@ -78,6 +79,13 @@ is_audited s explained bytes c front text sound is lines behind =
 pub alone : (c : Chronicle) (front : List ℕ) → IsFollowed None c front front
 alone c front = ([], sym (append-nil front), refl)
 
+-- the same of a signed campaign
+pub signed_alone : (c : Chronicle) (front : List ℕ) → front ≡ front ++ signed_behind None c
+signed_alone c front = sym (append-nil front)
+
+pub signed_followed : (who : Lieutenants) (c : Chronicle) (front lines text : List ℕ) → lines ≡ signed_explained c (asked who) → text ≡ front ++ 10 ∷ lines → text ≡ front ++ signed_behind (Some who) c
+signed_followed who c front lines text explains is = is ∙ ap (λ (xs : List ℕ). front ++ 10 ∷ xs) explains
+
 -- an empty line and an explanation
 pub followed : (who : Lieutenants) (c : Chronicle) (front lines text : List ℕ) → Explains c (asked who) lines → text ≡ front ++ 10 ∷ lines → IsFollowed (Some who) c front text
 followed who c front lines text explains is = (10 ∷ lines, is, (lines, refl, explains))
@@ -87,9 +95,9 @@ pub is_signed_played : (s : Scenario) (schedule : List (List Repeat)) (explained
     → IsComplete signed_kind s (listed s (lines_by schedule))
     → AreSafeThroughout s (listed s (lines_by schedule)) → AreWhole s chronicle.accesses chronicle.letters
     → AgreeUnderSignedBound s chronicle.decisions → IsSignedVerdictOn s chronicle.decisions chronicle.verdict → IsWellUnderBound chronicle.verdict
-    → front ≡ signed_text chronicle → text ≡ front ++ signed_behind explained → IsSignedPlayed s schedule explained text
+    → front ≡ signed_text chronicle → text ≡ front ++ signed_behind explained chronicle → IsSignedPlayed s schedule explained text
 is_signed_played s schedule explained chronicle front text listed complete safe whole agree verdict well told behind = record {
-  told = behind ∙ ap (λ (f : List ℕ). f ++ signed_behind explained) (told ∙ ap signed_text listed);
+  told = behind ∙ (ap (λ (f : List ℕ). f ++ signed_behind explained chronicle) told ∙ ap (λ (c : Chronicle). signed_text c ++ signed_behind explained c) listed);
   complete = complete;
   safe = safe;
   whole = subst (λ (c : Chronicle). AreWhole s c.accesses c.letters) listed whole;
@@ -99,11 +107,11 @@ is_signed_played s schedule explained chronicle front text listed complete safe 
 }
 
 -- the lines of its audit
-pub is_signed_audited : (s : Scenario) (explained : Option Lieutenants) (bytes : List ℕ) (verdict : Verdict) (front text : List ℕ) → IsSoundSignedText s bytes → verdict ≡ (signed_chronicle_told s bytes).verdict
-    → front ≡ sound_lines verdict → text ≡ front ++ signed_behind explained → IsSignedAudited s explained bytes text
-is_signed_audited s explained bytes verdict front text sound is lines behind = record {
+pub is_signed_audited : (s : Scenario) (explained : Option Lieutenants) (bytes : List ℕ) (c : Chronicle) (front text : List ℕ) → IsSoundSignedText s bytes → c ≡ signed_chronicle_told s bytes
+    → front ≡ sound_lines c.verdict → text ≡ front ++ signed_behind explained c → IsSignedAudited s explained bytes text
+is_signed_audited s explained bytes c front text sound is lines behind = record {
   sound = sound;
-  told = behind ∙ ap (λ (f : List ℕ). f ++ signed_behind explained) (lines ∙ ap sound_lines is);
+  told = behind ∙ (ap (λ (f : List ℕ). f ++ signed_behind explained c) lines ∙ ap (λ (x : Chronicle). sound_lines x.verdict ++ signed_behind explained x) is);
 }
 
 -- an empty line and lines behind a text

@@ -1,14 +1,15 @@
 -- What is known of a task's two files.
 use Rattle.std.proofs.Common.{ℕ, ◌≡◌, ◌∙◌, List, [], ap, inr, refl, subst, sym}
 use Rattle.std.specs.Borrow.{Bor}
-use Rattle.std.specs.Prelude.{Bool, true, false, Option, None, Some, Ok, option_map, unwrap_or}
+use Rattle.std.specs.declared.alloc.Global.{Global}
+use Rattle.std.specs.Prelude.{Bool, true, false, Option, None, Some, Ok, String, option_map, string_bytes, unwrap_or}
 use Rattle.insn.specs.declared.insn.Insn.{Insn}
 use Rattle.command_line.specs.Told.{file_of, second_of}
 use Rattle.command_line.specs.declared.tasks.Account.{Account}
 use Rattle.command_line.specs.declared.tasks.Course.TheVariants.{Scheduled, Recorded}
 use Rattle.command_line.specs.declared.tasks.Lieutenants.{Lieutenants}
 use Rattle.command_line.specs.declared.tasks.Task.{Task}
-use Rattle.command_line.specs.declared.tasks.Task.TheVariants.{Check, Assemble, AssemblePartly, Disassemble, DisassemblePartly, Book, ExplainDecisions, Form, Play, Muster, Audit, Explore, Tree, Draw, Retrace}
+use Rattle.command_line.specs.declared.tasks.Task.TheVariants.{Check, Assemble, AssemblePartly, Disassemble, DisassemblePartly, Book, ExplainDecisions, Form, Play, Muster, Audit, Explore, Tree, Draw, Page, Retrace}
 use Rattle.round.specs.Scenario.{Scenario}
 use Rattle.scenario.specs.declared.messages.Campaign.{Campaign}
 use Rattle.world.specs.declared.schedule.Repeat.{Repeat}
@@ -16,11 +17,12 @@ use Rattle.trace.specs.Schedules.{schedule_told}
 use Rattle.lab.specs.Answers.{ComesTo, GoesOn, IsTriedBy, Prints}
 use Rattle.lab.specs.Hints.{explained_in, if_asked}
 use Rattle.lab.specs.Whys.{is_explained}
-use Rattle.lab.specs.Campaigns.{IsAudited, IsMustered, IsPlayed}
+use Rattle.lab.specs.Campaigns.{IsAudited, IsMustered, IsPlayed, played}
 use Rattle.lab.specs.Diagrams.{IsRecordDrawn}
 use Rattle.lab.specs.Faults.{Prevents, Stops}
+use Rattle.lab.specs.Pages.{IsPage, IsRecordTold}
 use Rattle.lab.specs.Retracing.{IsScheduleFor}
-use Rattle.lab.specs.Serving.{AreSecond, AreSecondBytes, Files, IsAnswer, IsAuditOf, IsDrawnAs, IsDrawnBy, IsPlayedBy, IsRetracedBy, IsScheduleOf, IsToldLater, IsTrialOf, first_name, second_name}
+use Rattle.lab.specs.Serving.{AreSecond, AreSecondBytes, Files, IsAnswer, IsAuditOf, IsDrawnAs, IsDrawnBy, IsPagedAs, IsPagedBy, IsPlayedBy, IsRetracedBy, IsScheduleOf, IsToldLater, IsTrialOf, first_name, second_name}
 use Rattle.streams.specs.Reading.{AreBytes}
 use Rattle.lab.specs.declared.failure.Failure.{Failure}
 use Rattle.lab.specs.declared.first_answer.FirstAnswer.{FirstAnswer}
@@ -45,7 +47,7 @@ answered_alone task files first text are prints =
     let some = some_second files.second in (first, are, (some.0, some.1, prints some.0))
 
 -- bytes of the second file
-second_bytes : (known : Option (Option (List ℕ))) (bytes : List ℕ) → AreSecondBytes known bytes → (second : Option (List ℕ)) × AreSecond known second × (bytes ≡ unwrap_or second [])
+pub second_bytes : (known : Option (Option (List ℕ))) (bytes : List ℕ) → AreSecondBytes known bytes → (second : Option (List ℕ)) × AreSecond known second × (bytes ≡ unwrap_or second [])
 second_bytes None bytes are = (None, refl, are)
 second_bytes (Some known) bytes are = (Some bytes, are, refl)
 
@@ -70,6 +72,8 @@ answered_played (Explore scenario most) files first text s told why are comes by
 answered_played (Tree file general marked drawing depth folded) files first text s told why are comes by = absurd comes
 answered_played (Draw scenario (Scheduled listing)) files first text s told why are comes by = absurd comes
 answered_played (Draw scenario (Recorded listing)) files first text s told why are comes by = absurd comes
+answered_played (Page scenario (Scheduled listing) target) files first text s told why are comes by = absurd comes
+answered_played (Page scenario (Recorded listing) target) files first text s told why are comes by = absurd comes
 answered_played (Retrace scenario chronicle) files first text s told why are comes by = absurd comes
 
 -- an answer of threads
@@ -92,6 +96,8 @@ answered_mustered (Explore scenario most) files first text s why are comes muste
 answered_mustered (Tree file general marked drawing depth folded) files first text s why are comes mustered = absurd comes
 answered_mustered (Draw scenario (Scheduled listing)) files first text s why are comes mustered = absurd comes
 answered_mustered (Draw scenario (Recorded listing)) files first text s why are comes mustered = absurd comes
+answered_mustered (Page scenario (Scheduled listing) target) files first text s why are comes mustered = absurd comes
+answered_mustered (Page scenario (Recorded listing) target) files first text s why are comes mustered = absurd comes
 answered_mustered (Retrace scenario chronicle) files first text s why are comes mustered = absurd comes
 
 -- an answer on the second file
@@ -116,6 +122,8 @@ answered_audited (Explore scenario most) files first text s why are comes audit 
 answered_audited (Tree file general marked drawing depth folded) files first text s why are comes audit = absurd comes
 answered_audited (Draw scenario (Scheduled listing)) files first text s why are comes audit = absurd comes
 answered_audited (Draw scenario (Recorded listing)) files first text s why are comes audit = absurd comes
+answered_audited (Page scenario (Scheduled listing) target) files first text s why are comes audit = absurd comes
+answered_audited (Page scenario (Recorded listing) target) files first text s why are comes audit = absurd comes
 answered_audited (Retrace scenario chronicle) files first text s why are comes audit = absurd comes
 
 -- an answer in the second file's setting
@@ -144,6 +152,8 @@ answered_tried (Explore scenario most) files first text program steps are comes 
 answered_tried (Tree file general marked drawing depth folded) files first text program steps are comes tried = absurd comes
 answered_tried (Draw scenario (Scheduled listing)) files first text program steps are comes tried = absurd comes
 answered_tried (Draw scenario (Recorded listing)) files first text program steps are comes tried = absurd comes
+answered_tried (Page scenario (Scheduled listing) target) files first text program steps are comes tried = absurd comes
+answered_tried (Page scenario (Recorded listing) target) files first text program steps are comes tried = absurd comes
 answered_tried (Retrace scenario chronicle) files first text program steps are comes tried = absurd comes
 
 -- a picture by the second file's schedule
@@ -166,6 +176,8 @@ answered_drawn (Tree file general marked drawing depth folded) files first text 
 answered_drawn (Draw scenario (Scheduled listing)) files first text s are comes (schedule, listed, drawn) =
     (first, are, (listed.0, listed.1, (s, comes, (schedule, listed.2, drawn))))
 answered_drawn (Draw scenario (Recorded listing)) files first text s are comes by = absurd comes
+answered_drawn (Page scenario (Scheduled listing) target) files first text s are comes by = absurd comes
+answered_drawn (Page scenario (Recorded listing) target) files first text s are comes by = absurd comes
 answered_drawn (Retrace scenario chronicle) files first text s are comes by = absurd comes
 
 -- a picture of the second file's chronicle
@@ -189,7 +201,59 @@ answered_recorded (Draw scenario (Scheduled listing)) files first text s are com
 answered_recorded (Draw scenario (Recorded listing)) files first text s are comes (bytes, known, drawn) =
     let second = second_bytes files.second bytes known in
     (first, are, (second.0, second.1, (s, comes, subst (λ (own : List ℕ). IsRecordDrawn s own text) second.2 drawn)))
+answered_recorded (Page scenario (Scheduled listing) target) files first text s are comes by = absurd comes
+answered_recorded (Page scenario (Recorded listing) target) files first text s are comes by = absurd comes
 answered_recorded (Retrace scenario chronicle) files first text s are comes by = absurd comes
+
+-- a page by the second file's schedule
+pub answered_paged : (task : Task) (files : Files) (first page : List ℕ) (s : Scenario) (text : String Global) → AreBytes files.first first
+    → ComesTo task first (answer.Page s text) → IsPagedBy files.second s (string_bytes text) page → IsAnswer task files page
+answered_paged (Check file notation None explained traced) files first page s text are comes by = absurd comes
+answered_paged (Check file notation (Some context) explained traced) files first page s text are comes by = absurd comes
+answered_paged (Assemble file spelling target explained) files first page s text are comes by = absurd comes
+answered_paged (AssemblePartly file spelling target explained) files first page s text are comes by = absurd comes
+answered_paged (Disassemble file notation units explained) files first page s text are comes by = absurd comes
+answered_paged (DisassemblePartly file notation explained) files first page s text are comes by = absurd comes
+answered_paged (Book file) files first page s text are comes by = absurd comes
+answered_paged (ExplainDecisions file traitors) files first page s text are comes by = absurd comes
+answered_paged (Form n m c filling) files first page s text are comes by = absurd comes
+answered_paged (Play scenario listing account explained) files first page s text are comes by = absurd comes
+answered_paged (Muster scenario explained) files first page s text are comes by = absurd comes
+answered_paged (Audit scenario chronicle explained) files first page s text are comes by = absurd comes
+answered_paged (Explore scenario most) files first page s text are comes by = absurd comes
+answered_paged (Tree file general marked drawing depth folded) files first page s text are comes by = absurd comes
+answered_paged (Draw scenario (Scheduled listing)) files first page s text are comes by = absurd comes
+answered_paged (Draw scenario (Recorded listing)) files first page s text are comes by = absurd comes
+answered_paged (Page scenario (Scheduled listing) target) files first page s text are comes (schedule, listed, paged) =
+    (first, are, (listed.0, listed.1, (s, comes.0, (schedule, listed.2, subst (λ (own : List ℕ). IsPage own (played s schedule) page) comes.1 paged))))
+answered_paged (Page scenario (Recorded listing) target) files first page s text are comes by = absurd comes
+answered_paged (Retrace scenario chronicle) files first page s text are comes by = absurd comes
+
+-- a page of the second file's chronicle
+pub answered_page_recorded : (task : Task) (files : Files) (first page : List ℕ) (s : Scenario) (text : String Global) → AreBytes files.first first
+    → ComesTo task first (answer.PageRecorded s text) → IsPagedAs files.second s (string_bytes text) page → IsAnswer task files page
+answered_page_recorded (Check file notation None explained traced) files first page s text are comes by = absurd comes
+answered_page_recorded (Check file notation (Some context) explained traced) files first page s text are comes by = absurd comes
+answered_page_recorded (Assemble file spelling target explained) files first page s text are comes by = absurd comes
+answered_page_recorded (AssemblePartly file spelling target explained) files first page s text are comes by = absurd comes
+answered_page_recorded (Disassemble file notation units explained) files first page s text are comes by = absurd comes
+answered_page_recorded (DisassemblePartly file notation explained) files first page s text are comes by = absurd comes
+answered_page_recorded (Book file) files first page s text are comes by = absurd comes
+answered_page_recorded (ExplainDecisions file traitors) files first page s text are comes by = absurd comes
+answered_page_recorded (Form n m c filling) files first page s text are comes by = absurd comes
+answered_page_recorded (Play scenario listing account explained) files first page s text are comes by = absurd comes
+answered_page_recorded (Muster scenario explained) files first page s text are comes by = absurd comes
+answered_page_recorded (Audit scenario chronicle explained) files first page s text are comes by = absurd comes
+answered_page_recorded (Explore scenario most) files first page s text are comes by = absurd comes
+answered_page_recorded (Tree file general marked drawing depth folded) files first page s text are comes by = absurd comes
+answered_page_recorded (Draw scenario (Scheduled listing)) files first page s text are comes by = absurd comes
+answered_page_recorded (Draw scenario (Recorded listing)) files first page s text are comes by = absurd comes
+answered_page_recorded (Page scenario (Scheduled listing) target) files first page s text are comes by = absurd comes
+answered_page_recorded (Page scenario (Recorded listing) target) files first page s text are comes (bytes, known, paged) =
+    let second = second_bytes files.second bytes known in
+    let own : IsRecordTold s first bytes page = subst (λ (words : List ℕ). IsRecordTold s words bytes page) comes.1 paged in
+    (first, are, (second.0, second.1, (s, comes.0, subst (λ (all : List ℕ). IsRecordTold s first all page) second.2 own)))
+answered_page_recorded (Retrace scenario chronicle) files first page s text are comes by = absurd comes
 
 -- the schedule of the second file's chronicle
 pub answered_retraced : (task : Task) (files : Files) (first text : List ℕ) (s : Scenario) → AreBytes files.first first
@@ -210,6 +274,8 @@ answered_retraced (Explore scenario most) files first text s are comes by = absu
 answered_retraced (Tree file general marked drawing depth folded) files first text s are comes by = absurd comes
 answered_retraced (Draw scenario (Scheduled listing)) files first text s are comes by = absurd comes
 answered_retraced (Draw scenario (Recorded listing)) files first text s are comes by = absurd comes
+answered_retraced (Page scenario (Scheduled listing) target) files first text s are comes by = absurd comes
+answered_retraced (Page scenario (Recorded listing) target) files first text s are comes by = absurd comes
 answered_retraced (Retrace scenario chronicle) files first text s are comes (bytes, known, retraced) =
     let second = second_bytes files.second bytes known in
     (first, are, (second.0, second.1, (s, comes, subst (λ (own : List ℕ). IsScheduleFor s own text) second.2 retraced)))

@@ -1,5 +1,5 @@
 -- A first file that is refused.
-use Rattle.std.proofs.Common.{ℕ, ◌≡◌, ◌≢◌, Bool, List, inl, inr, refl, subst, sym, true, false}
+use Rattle.std.proofs.Common.{ℕ, ◌≡◌, ◌≢◌, Bool, List, ◌∷◌, inl, inr, refl, subst, sym, true, false}
 use Rattle.std.specs.Borrow.{Bor}
 use Rattle.std.specs.declared.alloc.Global.{Global}
 use Rattle.std.specs.Prelude.{Option, None, Some, IfSome, String, string_bytes}
@@ -74,6 +74,7 @@ asks (task.Audit scenario chronicle explained) notation is = absurd cc
 asks (task.Explore scenario most) notation is = absurd cc
 asks (task.Tree file general marked drawing depth folded) notation is = absurd cc
 asks (task.Draw scenario course) notation is = absurd cc
+asks (task.Page scenario course target) notation is = absurd cc
 asks (task.Retrace scenario chronicle) notation is = absurd cc
 
 pub explained_first : (task : Task) (notation : Notation) (known : Option (List ℕ)) (bytes : List ℕ) (refusal : Refusal) (text : String Global) → AreBytes known bytes
@@ -191,13 +192,15 @@ not_judged (task.Disassemble file own units explained) bytes (Verifier fault) re
 not_judged (task.DisassemblePartly file own explained) bytes (Verifier fault) refuses is none = absurd (no_parts own bytes fault refuses)
 not_judged (task.Book file) bytes (Verifier fault) refuses is none = absurd refuses
 not_judged (task.ExplainDecisions file traitors) bytes (Verifier fault) refuses is none = absurd refuses
-not_judged (task.Form n m c filling) bytes (Verifier fault) refuses is none = absurd refuses
+not_judged (task.Form n m c None) bytes (Verifier fault) refuses is none = absurd refuses
+not_judged (task.Form n m c (Some filling)) bytes (Verifier fault) refuses is none = absurd refuses
 not_judged (task.Play scenario schedule account explained) bytes (Verifier fault) refuses is none = absurd (no_campaign (is_chronicle account) bytes fault refuses)
 not_judged (task.Muster scenario explained) bytes (Verifier fault) refuses is none = absurd refuses
 not_judged (task.Audit scenario chronicle explained) bytes (Verifier fault) refuses is none = absurd (no_campaign true bytes fault refuses)
 not_judged (task.Explore scenario most) bytes (Verifier fault) refuses is none = absurd refuses
-not_judged (task.Tree file general marked drawing depth folded) bytes (Verifier fault) refuses is none = absurd (no_tree (is_toml bytes) marked.items bytes fault refuses)
+not_judged (task.Tree file general marked drawing depth folded) bytes (Verifier fault) refuses is none = absurd (no_tree (is_toml bytes) (general ∷ marked.items) bytes fault refuses)
 not_judged (task.Draw scenario course) bytes (Verifier fault) refuses is none = absurd refuses
+not_judged (task.Page scenario course target) bytes (Verifier fault) refuses is none = absurd refuses
 not_judged (task.Retrace scenario chronicle) bytes (Verifier fault) refuses is none = absurd refuses
 not_judged task bytes (Codec error) refuses is none = tt
 not_judged task bytes (Object fault) refuses is none = tt
@@ -284,6 +287,7 @@ checks_in (task.Audit scenario chronicle explained) notation bytes refusal is re
 checks_in (task.Explore scenario most) notation bytes refusal is refuses = absurd cc
 checks_in (task.Tree file general marked drawing depth folded) notation bytes refusal is refuses = absurd cc
 checks_in (task.Draw scenario course) notation bytes refusal is refuses = absurd cc
+checks_in (task.Page scenario course target) notation bytes refusal is refuses = absurd cc
 checks_in (task.Retrace scenario chronicle) notation bytes refusal is refuses = absurd cc
 
 -- it cannot be told, since the file has no program

@@ -7,7 +7,9 @@ pub mod ReadLemmas
 pub mod RefusalLemmas
 pub mod ScheduleLemmas
 pub mod DiagramLemmas
+pub mod PageLemmas
 pub mod PartLemmas
 pub mod PicturingLemmas
 pub mod FirstLemmas
 pub mod StrangerLemmas
+pub mod PlaceLemmas

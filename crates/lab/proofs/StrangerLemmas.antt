@@ -1,13 +1,14 @@
 -- Generals who are named, by what is read of a text.
 use Rattle.std.proofs.Common.{ℕ, zero, suc, ◌≡◌, ◌∙◌, Bool, true, false, List, [], ◌∷◌, take, ap, inl, inr, refl, sym, subst}
-use Rattle.std.specs.Prelude.{None, Ok, Some, find, slice_get}
+use Rattle.std.specs.Prelude.{None, Ok, Option, Some, find, slice_get}
 use Rattle.std.proofs.lemmas.Bool.{cases_Bool, cond-false, cond-true}
 use Rattle.book.specs.Grammar.{table_told}
 use Rattle.book.specs.Table.{MessageTable}
 use Rattle.round.specs.Scenario.{Scenario as Campaign}
 use Rattle.scenario.specs.Told.{Tells}
-use Rattle.lab.specs.Refusals.{RefusesEither, RefusesNaming, RefusesScenario, RefusesTable}
-use Rattle.lab.specs.Strangers.{HasGenerals, IsStranger, KnowsAll, stranger_among}
+use Rattle.tables.specs.Numbers.{HasGenerals as AreNumbersOf}
+use Rattle.lab.specs.Refusals.{RefusesEither, RefusesFilled, RefusesForm, RefusesNaming, RefusesScenario, RefusesTable}
+use Rattle.lab.specs.Strangers.{HasGenerals, IsStranger, KnowsAll, KnowsLiar, liars, stranger_among}
 use Rattle.lab.specs.declared.refusal.Refusal.{Refusal}
 use Rattle.lab.specs.declared.refusal.Refusal.TheVariants.{Codec, Object, Verifier, Assembly, Table, Scenario, Setting, Trace, Threads, Stranger, NotText, Memory}
 
@@ -72,6 +73,40 @@ strange_to_scenario text named s (Threads error) tells strange = absurd strange
 strange_to_scenario text named s (Stranger g n) tells strange = ((s, tells, sym strange.0), subst (λ (n : ℕ). stranger_among n named ≡ Some g) (sym strange.0) strange.1)
 strange_to_scenario text named s NotText tells strange = absurd strange
 strange_to_scenario text named s Memory tells strange = absurd strange
+
+-- ---- the liar of a table that is filled in
+
+pub of_numbers : (n m c : List ℕ) (liar : Option ℕ) (generals : ℕ) → AreNumbersOf n m c generals → stranger_among generals (liars liar) ≡ None → KnowsLiar n m c liar
+of_numbers n m c liar generals are none = (generals, are, none)
+
+pub unfilled : (n m c : List ℕ) (liar : Option ℕ) (refusal : Refusal) → RefusesForm n m c refusal → RefusesFilled n m c liar refusal
+unfilled n m c liar (Codec error) refuses = refuses
+unfilled n m c liar (Object fault) refuses = refuses
+unfilled n m c liar (Verifier fault) refuses = refuses
+unfilled n m c liar (Assembly error) refuses = refuses
+unfilled n m c liar (Table error) refuses = refuses
+unfilled n m c liar (Scenario error) refuses = refuses
+unfilled n m c liar (Setting error) refuses = refuses
+unfilled n m c liar (Trace error) refuses = refuses
+unfilled n m c liar (Threads error) refuses = refuses
+unfilled n m c liar (Stranger g all) refuses = absurd refuses
+unfilled n m c liar NotText refuses = refuses
+unfilled n m c liar Memory refuses = refuses
+
+pub strange_liar : (n m c : List ℕ) (liar : Option ℕ) (generals : ℕ) (refusal : Refusal) → AreNumbersOf n m c generals → IsStranger generals (liars liar) refusal → RefusesFilled n m c liar refusal
+strange_liar n m c liar generals (Codec error) are strange = absurd strange
+strange_liar n m c liar generals (Object fault) are strange = absurd strange
+strange_liar n m c liar generals (Verifier fault) are strange = absurd strange
+strange_liar n m c liar generals (Assembly error) are strange = absurd strange
+strange_liar n m c liar generals (Table error) are strange = absurd strange
+strange_liar n m c liar generals (Scenario error) are strange = absurd strange
+strange_liar n m c liar generals (Setting error) are strange = absurd strange
+strange_liar n m c liar generals (Trace error) are strange = absurd strange
+strange_liar n m c liar generals (Threads error) are strange = absurd strange
+strange_liar n m c liar generals (Stranger g all) are strange =
+    (subst (λ (k : ℕ). AreNumbersOf n m c k) (sym strange.0) are, subst (λ (k : ℕ). stranger_among k (liars liar) ≡ Some g) (sym strange.0) strange.1)
+strange_liar n m c liar generals NotText are strange = absurd strange
+strange_liar n m c liar generals Memory are strange = absurd strange
 
 -- ---- the first that is a stranger
 

@@ -1,7 +1,9 @@
 -- What a task prints on files of some bytes.
-use Rattle.std.specs.Prelude.{ℕ, ◌≡◌, ◌++◌, Bool, true, false, List, [], Option, None, Some, codes, length, string_bytes, unwrap_or}
+use Rattle.std.specs.Prelude.{ℕ, ◌≡◌, ◌++◌, Bool, true, false, List, [], ◌∷◌, Option, None, Some, String, codes, length, map, string_bytes, unwrap_or}
+use Rattle.std.specs.declared.alloc.Global.{Global}
 use Rattle.insn.specs.declared.insn.Insn.{Insn}
 use Rattle.insn.specs.Program.{slots_of}
+use Rattle.label.specs.declared.shape.Shape.{Shape}
 use Rattle.semantics.specs.Relay.{oral}
 use Rattle.semantics.specs.Run.{IsSound}
 use Rattle.codec.specs.Spelling.{program_bytes}
@@ -10,7 +12,7 @@ use Rattle.asm.specs.Printing.{text_of, unit_lines}
 use Rattle.command_line.specs.declared.tasks.Notation.{Notation}
 use Rattle.command_line.specs.declared.tasks.Spelling.TheVariants.{Hex, Raw}
 use Rattle.command_line.specs.declared.tasks.Task.{Task}
-use Rattle.command_line.specs.declared.tasks.Task.TheVariants.{Check, Assemble, AssemblePartly, Disassemble, DisassemblePartly, Book, ExplainDecisions, Form, Play, Muster, Audit, Explore, Tree, Draw, Retrace}
+use Rattle.command_line.specs.declared.tasks.Task.TheVariants.{Check, Assemble, AssemblePartly, Disassemble, DisassemblePartly, Book, ExplainDecisions, Form, Play, Muster, Audit, Explore, Tree, Draw, Page, Retrace}
 use Rattle.command_line.specs.declared.tasks.Course.TheVariants.{Scheduled, Recorded}
 use Rattle.scenario.specs.Told.{Tells, TellsAny}
 use Rattle.tables.specs.Answers.{DecidesTable, ExplainsTable, IsFilled, IsFormOf}
@@ -21,14 +23,15 @@ use Rattle.trial.specs.Trial.{Ending, trial_in}
 use Rattle.tracing.specs.Slips.{slips_on}
 use Rattle.tracing.specs.Trace.{trace_on}
 use Rattle.lab.specs.Exploring.{Explores}
-use Rattle.lab.specs.Hints.{HasProgram, IsBehind, if_asked}
+use Rattle.lab.specs.Hints.{ArePlaces, HasProgram, IsBehind, if_asked}
 use Rattle.lab.specs.Campaigns.{Audits, Musters, Plays, TellsCampaign, is_chronicle}
 use Rattle.lab.specs.Diagrams.{Draws}
 use Rattle.lab.specs.Lines.{checked_lines, hex_line}
 use Rattle.lab.specs.Parts.{AssemblesPartly, AssemblesPartlyRaw, DisassemblesPartly}
 use Rattle.lab.specs.Picturing.{Pictures, is_toml}
+use Rattle.lab.specs.Pages.{TellsPage}
 use Rattle.lab.specs.Retracing.{Retraces}
-use Rattle.lab.specs.Strangers.{KnowsAll}
+use Rattle.lab.specs.Strangers.{KnowsAll, KnowsLiar}
 use Rattle.lab.specs.declared.checking.Checked.{Checked}
 use Rattle.lab.specs.declared.first_answer.FirstAnswer.{FirstAnswer}
 use Rattle.lab.specs.declared.first_answer.FirstAnswer.TheVariants as answer
@@ -57,17 +60,25 @@ IsChecked notation explained traced bytes text =
     × ((checked : Checked) × IsRun program checked
     × IsBehind (if_asked explained notation) bytes program (checked_lines checked ++ steps_behind traced program bench) text)
 
--- behind the explanation of a program that is run in this setting: a note for each of its calls that puts nothing
-abbrev pub slips_behind : Option Notation → List Insn → Setting → List ℕ
-slips_behind None program s = []
-slips_behind (Some notation) program s = slips_on s.board program (context_in s) (oral s.shape)
+-- behind what is told of the program that a file has and which is run in this setting, where an explanation is asked for: a note for each of
+-- its calls that puts nothing, with the place of its unit
+abbrev pub AreSlipsBehind : Option Notation → List ℕ → List Insn → Setting → List ℕ → List ℕ → Type 0
+AreSlipsBehind None bytes program s told text = text ≡ told
+AreSlipsBehind (Some notation) bytes program s told text =
+    (places : List (String Global)) × ArePlaces notation bytes (map string_bytes places)
+    × (text ≡ told ++ slips_on places s.board program (context_in s) (oral s.shape))
 
 -- the text has the lines of the program's trial in this setting; behind them its steps, where they are asked for; and where it is, the
 -- explanation of the program that a file of these bytes has, and a note for each call that puts nothing
 abbrev pub IsTriedIn : Setting → Bool → Option Notation → List ℕ → List Insn → List ℕ → Type 0
 IsTriedIn s traced asked bytes program text =
     (lines : List ℕ) × IsTried program s lines
-    × ((told : List ℕ) × IsBehind asked bytes program (lines ++ steps_behind traced program s) told × (text ≡ told ++ slips_behind asked program s))
+    × ((told : List ℕ) × IsBehind asked bytes program (lines ++ steps_behind traced program s) told × AreSlipsBehind asked bytes program s told text)
+
+-- it is of the setting that a second file tells, in which this is whose relay it was
+abbrev pub IsTriedAt : Shape → Bool → Option Notation → List ℕ → List ℕ → List Insn → List ℕ → Type 0
+IsTriedAt shape traced asked first second program text =
+    (s : Setting) × TellsSetting second s × (shape ≡ s.shape) × IsTriedIn s traced asked first program text
 
 -- it is of the setting that a second file tells
 abbrev pub IsTriedBy : Bool → Option Notation → List ℕ → List ℕ → List Insn → List ℕ → Type 0
@@ -113,14 +124,17 @@ Prints (DisassemblePartly file notation explained) first second text = Disassemb
 Prints (Book file) first second text = DecidesTable first text
 Prints (ExplainDecisions file traitors) first second text = KnowsAll false first traitors.items × ExplainsTable first traitors.items text
 Prints (Form n m c None) first second text = IsFormOf (string_bytes n) (string_bytes m) (string_bytes c) text
-Prints (Form n m c (Some filling)) first second text = IsFilled (string_bytes n) (string_bytes m) (string_bytes c) filling.order filling.liar text
+Prints (Form n m c (Some filling)) first second text =
+    KnowsLiar (string_bytes n) (string_bytes m) (string_bytes c) filling.liar
+    × IsFilled (string_bytes n) (string_bytes m) (string_bytes c) filling.order filling.liar text
 Prints (Play scenario schedule account explained) first second text = Plays account explained first second text
 Prints (Muster scenario explained) first second text = Musters explained first text
 Prints (Audit scenario chronicle explained) first second text = Audits explained first second text
 Prints (Explore scenario most) first second text = Explores most first text
 Prints (Tree file general traitors drawing depth folded) first second text =
-    KnowsAll (is_toml first) first traitors.items × Pictures general traitors.items drawing depth folded first text
+    KnowsAll (is_toml first) first (general ∷ traitors.items) × Pictures general traitors.items drawing depth folded first text
 Prints (Draw scenario course) first second text = Draws course first second text
+Prints (Page scenario course target) first second text = TellsPage course first second text
 Prints (Retrace scenario chronicle) first second text = Retraces first second text
 
 -- the task goes on with this behind its first file: a program to try, with its steps or without them, or a campaign
@@ -134,6 +148,8 @@ GoesOn (Audit scenario chronicle explained) first (answer.Audit c why) =
     TellsAny first c × (why ≡ explained)
 GoesOn (Draw scenario (Scheduled file)) first (answer.Draw s) = Tells first s
 GoesOn (Draw scenario (Recorded file)) first (answer.DrawRecorded s) = Tells first s
+GoesOn (Page scenario (Scheduled file) target) first (answer.Page s text) = Tells first s × (string_bytes text ≡ first)
+GoesOn (Page scenario (Recorded file) target) first (answer.PageRecorded s text) = Tells first s × (string_bytes text ≡ first)
 GoesOn (Retrace scenario chronicle) first (answer.Retrace s) = Tells first s
 GoesOn _ first _ = ⊥
 
@@ -142,3 +158,14 @@ abbrev pub ComesTo : Task → List ℕ → FirstAnswer → Type 0
 ComesTo task first (answer.Text text) = (second : Option (List ℕ)) → Prints task first second (string_bytes text)
 ComesTo task first (answer.Bytes bytes) = (second : Option (List ℕ)) → Prints task first second bytes.items
 ComesTo task first more = GoesOn task first more
+
+-- the notation of the program that the task tries in the setting of its second file, and whether its steps are told
+abbrev pub trial_of : Task → Option (Notation × Bool)
+trial_of (Check file notation (Some context) explained traced) = Some (notation, traced)
+trial_of _ = None
+
+-- whose relay it is in which the task tries a program: that of the setting which its second file tells
+abbrev pub IsPlace : Task → Option (List ℕ) → Option Shape → Type 0
+IsPlace (Check file notation (Some context) explained traced) second place =
+    (s : Setting) × TellsSetting (unwrap_or second []) s × (place ≡ Some s.shape)
+IsPlace _ second place = place ≡ None

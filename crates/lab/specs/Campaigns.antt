@@ -1,5 +1,5 @@
 -- What is printed of a campaign.
-use Rattle.std.specs.Prelude.{ℕ, suc, ◌≡◌, Bool, true, false, List, [], ◌∷◌, ◌++◌, Option, None, Some, Ok, codes, unwrap_or}
+use Rattle.std.specs.Prelude.{ℕ, suc, ◌≡◌, Bool, true, false, List, [], ◌∷◌, ◌++◌, Option, None, Some, Ok, unwrap_or}
 use Rattle.board.specs.Board.{IsLegal}
 use Rattle.command_line.specs.declared.tasks.Account.{Account}
 use Rattle.command_line.specs.declared.tasks.Account.TheVariants as accounts
@@ -22,6 +22,7 @@ use Rattle.scenario.specs.declared.messages.Campaign.TheVariants.{Oral, Signed}
 use Rattle.signed.specs.Kind.{signed_kind}
 use Rattle.signed.specs.Kind as signed
 use Rattle.signed.specs.Chronicle.{signed_chronicle_of}
+use Rattle.signed.specs.Explained.{signed_explained}
 use Rattle.signed.specs.Promises.{AgreeUnderSignedBound, AreSafeThroughout, AreWhole, IsSignedVerdictOn}
 use Rattle.trace.specs.Names.{chronicle_told}
 use Rattle.trace.specs.Laws.{IsSoundText}
@@ -67,16 +68,16 @@ pub record IsOralPlayed (s : Scenario) (schedule : List (List Repeat)) (account 
   pub verdict : IsVerdictOn s (played s schedule).decisions (played s schedule).verdict
   pub well : IsWellUnderBound (played s schedule).verdict
 
--- behind a signed campaign's text stands, where an explanation is asked for, an empty line, and that there is none
-abbrev pub signed_behind : Option Lieutenants → List ℕ
-signed_behind None = []
-signed_behind (Some who) = codes "\nthe decisions of a signed campaign are not explained\n"
+-- behind a signed campaign's text stands, where it is asked for, an empty line, and how the decisions come about
+abbrev pub signed_behind : Option Lieutenants → Chronicle → List ℕ
+signed_behind None c = []
+signed_behind (Some who) c = 10 ∷ signed_explained c (asked who)
 
--- the text is that of the signed campaign's chronicle, with that sentence where it is asked for, and so of a complete run, in which no activation traps or takes more
+-- the text is that of the signed campaign's chronicle, and behind it the explanation, and so of a complete run, in which no activation traps or takes more
 -- steps than its program has instructions, and whose letters are whole; its decisions agree for at most m traitors among n at
 -- least m + 2 generals, and its verdict means what it says
 pub record IsSignedPlayed (s : Scenario) (schedule : List (List Repeat)) (explained : Option Lieutenants) (text : List ℕ) : Type 0 where
-  pub told : text ≡ signed_text (signed_played s schedule) ++ signed_behind explained
+  pub told : text ≡ signed_text (signed_played s schedule) ++ signed_behind explained (signed_played s schedule)
   pub complete : generic.IsComplete signed_kind s (listed s (lines_by schedule))
   pub safe : AreSafeThroughout s (listed s (lines_by schedule))
   pub whole : AreWhole s (signed_played s schedule).accesses (signed_played s schedule).letters
@@ -135,7 +136,7 @@ pub record IsOralAudited (s : Scenario) (explained : Option Lieutenants) (bytes 
 -- those of the signed one
 pub record IsSignedAudited (s : Scenario) (explained : Option Lieutenants) (bytes text : List ℕ) : Type 0 where
   pub sound : IsSoundSignedText s bytes
-  pub told : text ≡ sound_lines (signed_chronicle_told s bytes).verdict ++ signed_behind explained
+  pub told : text ≡ sound_lines (signed_chronicle_told s bytes).verdict ++ signed_behind explained (signed_chronicle_told s bytes)
 
 -- the bytes are the text of a chronicle of the campaign, and the lines say so and give the verdict of its replay, and behind them the explanation
 abbrev pub IsAudited : Campaign → Option Lieutenants → List ℕ → List ℕ → Type 0

@@ -6,6 +6,7 @@ pub mod Faults
 pub mod Whys
 pub mod Hints
 pub mod Lines
+pub mod Pages
 pub mod Parts
 pub mod Picturing
 pub mod Reading

@@ -1,5 +1,5 @@
 -- Why a task does not take a file of some bytes.
-use Rattle.std.specs.Prelude.{ℕ, ◌≡◌, ◌≢◌, ◌⊎◌, ◌/◌, ◌%◌, Bool, true, false, List, Option, Some, Ok, Err, length, option_map, string_bytes}
+use Rattle.std.specs.Prelude.{ℕ, ◌≡◌, ◌≢◌, ◌⊎◌, ◌/◌, ◌%◌, Bool, true, false, List, ◌∷◌, Option, Some, None, Ok, Err, length, option_map, string_bytes}
 use Rattle.std.specs.Str.{IsUtf8}
 use Rattle.insn.specs.declared.insn.Insn.{Insn}
 use Rattle.codec.specs.Program.{IsFirstFault, SpellsProgram}
@@ -37,12 +37,12 @@ use Rattle.verify.specs.Judgement.{judged}
 use Rattle.command_line.specs.declared.tasks.Notation.{Notation}
 use Rattle.command_line.specs.declared.tasks.Notation.TheVariants as notation
 use Rattle.command_line.specs.declared.tasks.Task.{Task}
-use Rattle.command_line.specs.declared.tasks.Task.TheVariants.{Check, Assemble, AssemblePartly, Disassemble, DisassemblePartly, Book, ExplainDecisions, Form, Play, Muster, Audit, Explore, Tree, Draw, Retrace}
+use Rattle.command_line.specs.declared.tasks.Task.TheVariants.{Check, Assemble, AssemblePartly, Disassemble, DisassemblePartly, Book, ExplainDecisions, Form, Play, Muster, Audit, Explore, Tree, Draw, Page, Retrace}
 use Rattle.partial.specs.Reading.{bytes_said}
-use Rattle.tables.specs.Numbers.{numbers_in}
+use Rattle.tables.specs.Numbers.{HasGenerals as AreNumbersOf, numbers_in}
 use Rattle.lab.specs.Campaigns.{is_chronicle}
 use Rattle.lab.specs.Picturing.{is_toml}
-use Rattle.lab.specs.Strangers.{HasGenerals, stranger_among}
+use Rattle.lab.specs.Strangers.{HasGenerals, liars, stranger_among}
 use Rattle.lab.specs.declared.refusal.Refusal.{Refusal}
 use Rattle.lab.specs.declared.refusal.Refusal.TheVariants.{Codec, Object, Verifier, Assembly, Table, Scenario, Setting, Trace, Threads, Stranger, NotText, Memory}
 
@@ -120,6 +120,11 @@ abbrev pub RefusesForm : List ℕ → List ℕ → List ℕ → Refusal → Type
 RefusesForm n m c (Table error) = opened (numbers_in n m c) ≡ Err error
 RefusesForm n m c Memory = Unit {0}
 RefusesForm n m c _ = ⊥
+
+-- the same of a table that is filled in, or its liar is none of so many generals
+abbrev pub RefusesFilled : List ℕ → List ℕ → List ℕ → Option ℕ → Refusal → Type 0
+RefusesFilled n m c liar (Stranger general generals) = AreNumbersOf n m c generals × (stranger_among generals (liars liar) ≡ Some general)
+RefusesFilled n m c liar refusal = RefusesForm n m c refusal
 
 -- the text tells no table, by this first fault
 abbrev pub RefusesTable : List ℕ → Refusal → Type 0
@@ -243,11 +248,13 @@ Refuses (Disassemble file notation units explained) bytes refusal = RefusesNotat
 Refuses (DisassemblePartly file notation explained) bytes refusal = RefusesParts notation bytes refusal
 Refuses (Book file) bytes refusal = RefusesText RefusesTable bytes refusal
 Refuses (ExplainDecisions file traitors) bytes refusal = RefusesText (RefusesNaming traitors.items) bytes refusal
-Refuses (Form n m c filling) bytes refusal = RefusesForm (string_bytes n) (string_bytes m) (string_bytes c) refusal
+Refuses (Form n m c None) bytes refusal = RefusesForm (string_bytes n) (string_bytes m) (string_bytes c) refusal
+Refuses (Form n m c (Some filling)) bytes refusal = RefusesFilled (string_bytes n) (string_bytes m) (string_bytes c) filling.liar refusal
 Refuses (Play scenario schedule account explained) bytes refusal = RefusesText (RefusesAsked (is_chronicle account)) bytes refusal
 Refuses (Muster scenario explained) bytes refusal = RefusesText RefusesScenario bytes refusal
 Refuses (Audit scenario chronicle explained) bytes refusal = RefusesText RefusesCampaign bytes refusal
 Refuses (Explore scenario most) bytes refusal = RefusesText RefusesScenario bytes refusal
-Refuses (Tree file general traitors drawing depth folded) bytes refusal = RefusesText (RefusesTree traitors.items) bytes refusal
+Refuses (Tree file general traitors drawing depth folded) bytes refusal = RefusesText (RefusesTree (general ∷ traitors.items)) bytes refusal
 Refuses (Draw scenario course) bytes refusal = RefusesText RefusesScenario bytes refusal
+Refuses (Page scenario course target) bytes refusal = RefusesText RefusesScenario bytes refusal
 Refuses (Retrace scenario chronicle) bytes refusal = RefusesText RefusesScenario bytes refusal

@@ -7,6 +7,7 @@ use Rattle.command_line.specs.declared.tasks.Lieutenants.{Lieutenants}
 use Rattle.command_line.specs.declared.tasks.Notation.{Notation}
 use Rattle.command_line.specs.declared.tasks.Task.{Task}
 use Rattle.insn.specs.declared.insn.Insn.{Insn}
+use Rattle.label.specs.declared.shape.Shape.{Shape}
 use Rattle.round.specs.Scenario.{Scenario}
 use Rattle.scenario.specs.declared.messages.Campaign.{Campaign}
 use Rattle.scenario.specs.declared.messages.Campaign.TheVariants.{Oral}
@@ -15,9 +16,10 @@ use Rattle.lab.specs.declared.refusal.Refusal.{Refusal}
 use Rattle.lab.specs.declared.refusal.Refusal.TheVariants.{NotText, Memory}
 use Rattle.lab.specs.declared.first_answer.FirstAnswer.{FirstAnswer}
 use Rattle.lab.specs.declared.first_answer.FirstAnswer.TheVariants as answer
-use Rattle.lab.specs.Answers.{GoesOn, IsTriedBy, Prints}
+use Rattle.lab.specs.Answers.{GoesOn, IsPlace, IsTriedAt, IsTriedBy, Prints}
 use Rattle.lab.specs.Campaigns.{IsAudited, IsPlayed, IsSchedule, played}
 use Rattle.lab.specs.Diagrams.{IsDiagram, IsRecordDrawn}
+use Rattle.lab.specs.Pages.{IsPage, IsRecordTold}
 use Rattle.lab.specs.Retracing.{IsScheduleFor}
 use Rattle.streams.specs.Names.{shown}
 use Rattle.streams.specs.Reading.{AreBytes}
@@ -79,6 +81,14 @@ IsDrawnBy known s picture = (schedule : List (List Repeat)) × IsScheduleOf know
 abbrev pub IsDrawnAs : Option (Option (List ℕ)) → Scenario → List ℕ → Type 0
 IsDrawnAs known s picture = (bytes : List ℕ) × AreSecondBytes known bytes × IsRecordDrawn s bytes picture
 
+-- the page is that of the campaign, whose scenario this text tells, by the second file's schedule
+abbrev pub IsPagedBy : Option (Option (List ℕ)) → Scenario → List ℕ → List ℕ → Type 0
+IsPagedBy known s text page = (schedule : List (List Repeat)) × IsScheduleOf known schedule × IsPage text (played s schedule) page
+
+-- that of the campaign as the second file tells it
+abbrev pub IsPagedAs : Option (Option (List ℕ)) → Scenario → List ℕ → List ℕ → Type 0
+IsPagedAs known s text page = (bytes : List ℕ) × AreSecondBytes known bytes × IsRecordTold s text bytes page
+
 -- the lines are those of a schedule by which the campaign has the second file's chronicle
 abbrev pub IsRetracedBy : Option (Option (List ℕ)) → Scenario → List ℕ → Type 0
 IsRetracedBy known s lines = (bytes : List ℕ) × AreSecondBytes known bytes × IsScheduleFor s bytes lines
@@ -86,6 +96,17 @@ IsRetracedBy known s lines = (bytes : List ℕ) × AreSecondBytes known bytes ×
 -- the text is what is told of the program's trial in the second file's setting
 abbrev pub IsTrialOf : Option (Option (List ℕ)) → Bool → Option Notation → List ℕ → List Insn → List ℕ → Type 0
 IsTrialOf known traced asked first program text = (bytes : List ℕ) × AreSecondBytes known bytes × IsTriedBy traced asked first bytes program text
+
+-- the task prints this text on the files, and tries a program in this place, if it tries one
+abbrev pub IsPlacedAnswer : Task → Files → List ℕ → Option Shape → Type 0
+IsPlacedAnswer task files text place =
+    (first : List ℕ) × AreBytes files.first first
+    × ((second : Option (List ℕ)) × AreSecond files.second second × Prints task first second text × IsPlace task second place)
+
+-- the text is what is told of the program's trial in the second file's setting, and the place is whose relay it was
+abbrev pub IsTrialAt : Option (Option (List ℕ)) → Bool → Option Notation → List ℕ → List Insn → List ℕ → Option Shape → Type 0
+IsTrialAt known traced asked first program text place =
+    (bytes : List ℕ) × AreSecondBytes known bytes × ((shape : Shape) × IsTriedAt shape traced asked first bytes program text × (place ≡ Some shape))
 
 -- the task has an answer on the files, with which it stands so
 abbrev pub HasAnswer : (List ℕ → Type 0) → Task → Files → Type 0
@@ -132,6 +153,8 @@ IsRefusedLater (answer.Muster s explained) known refusal = IsUnmustered refusal
 IsRefusedLater (answer.Audit c explained) known refusal = IsChronicleRefused c known refusal
 IsRefusedLater (answer.Draw s) known refusal = IsScheduleRefused known refusal
 IsRefusedLater (answer.DrawRecorded s) known refusal = IsChronicleRefused (Oral s) known refusal
+IsRefusedLater (answer.Page s text) known refusal = IsScheduleRefused known refusal
+IsRefusedLater (answer.PageRecorded s text) known refusal = IsChronicleRefused (Oral s) known refusal
 IsRefusedLater (answer.Retrace s) known refusal = IsChronicleRefused (Oral s) known refusal
 IsRefusedLater _ known refusal = ⊥
 

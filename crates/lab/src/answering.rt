@@ -11,7 +11,7 @@ use crate::first_answer::FirstAnswer;
 use crate::forming::{filled, formed};
 use crate::parts::{assembled_partly, assembled_partly_raw, disassembled_partly};
 use crate::picturing::pictured;
-use crate::playing::{any_campaign, asked_campaign, campaign};
+use crate::playing::{any_campaign, asked_campaign, campaign, campaign_with_text};
 use crate::refusal::Refusal;
 use crate::steps::with_steps;
 use crate::texts::as_text;
@@ -144,6 +144,20 @@ pub fn answer(alloc: Global, task: &Task, bytes: &[u8]) -> Result<FirstAnswer, R
             course: Course::Recorded(_),
             ..
         } => Ok(FirstAnswer::DrawRecorded(campaign(alloc, bytes)?)),
+        Task::Page {
+            course: Course::Scheduled(_),
+            ..
+        } => {
+            let (scenario, text) = campaign_with_text(alloc, bytes)?;
+            Ok(FirstAnswer::Page(scenario, text))
+        }
+        Task::Page {
+            course: Course::Recorded(_),
+            ..
+        } => {
+            let (scenario, text) = campaign_with_text(alloc, bytes)?;
+            Ok(FirstAnswer::PageRecorded(scenario, text))
+        }
         Task::Retrace { .. } => Ok(FirstAnswer::Retrace(campaign(alloc, bytes)?)),
     }
 }

@@ -4,18 +4,18 @@ ghost use Rattle.lab.specs.Campaigns.{IsAudited, IsSignedAudited};
 ghost use Rattle.lab.specs.Lines.{sound_lines};
 ghost use Rattle.lab.specs.Refusals.{RefusesChronicle, RefusesText};
 
-use crate::playing::{unexplained, with_decisions};
+use crate::playing::{with_decisions, with_signed_decisions};
 use crate::refusal::Refusal;
 use crate::texts::as_text;
 use command_line::Lieutenants;
 use round::Scenario;
 use scenario::Campaign;
 use std::alloc::{AllocError, Global};
-use trace::{Latch, check_signed, sound_chronicle, write_verdict};
+use trace::{Latch, sound_chronicle, sound_signed_chronicle, write_verdict};
 use world::Verdict;
 
 /// The audit of the bytes: that they are the text of a chronicle of the campaign, and the verdict on it; behind them how
-/// these decisions come about, which of a signed one is not told.
+/// these decisions come about.
 ///
 /// # Errors
 ///
@@ -63,8 +63,9 @@ fn signed_audited(
     ensures audited { IfOk result (λ text. IsSignedAudited scenario.now explained bytes.now text.items) }
     ensures refused { IfErr result (RefusesText (RefusesChronicle (Signed scenario.now)) bytes.now) }
 {
-    let verdict = check_signed(alloc, scenario, as_text(bytes)?)?;
-    Ok(unexplained(sound_text(alloc, verdict)?, explained)?)
+    let chronicle = sound_signed_chronicle(alloc, scenario, as_text(bytes)?)?;
+    let front = sound_text(alloc, chronicle.verdict())?;
+    Ok(with_signed_decisions(alloc, front, &chronicle, explained)?)
 }
 
 /// A line that all is sound, and the verdict's.

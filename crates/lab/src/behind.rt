@@ -1,11 +1,12 @@
-//! What comes behind a first file with which `draw` and `schedule` go on: the campaign's course is in the second one.
-ghost use Rattle.std.specs.Prelude.{IfErr, IfOk, IsSomeAnd, option_map};
+//! What comes behind a first file with which `draw`, `page` and `schedule` go on: the campaign's course is in the second one.
+ghost use Rattle.std.specs.Prelude.{IfErr, IfOk, IsSomeAnd, option_map, string_bytes};
 ghost use Rattle.lab.specs.Faults.{Stops};
-ghost use Rattle.lab.specs.Serving.{IsDrawnAs, IsDrawnBy, IsRetracedBy, IsToldLater};
-ghost use Rattle.lab.specs.declared.first_answer.FirstAnswer.TheVariants.{Draw, DrawRecorded, Retrace};
+ghost use Rattle.lab.specs.Serving.{IsDrawnAs, IsDrawnBy, IsPagedAs, IsPagedBy, IsRetracedBy, IsToldLater};
+ghost use Rattle.lab.specs.declared.first_answer.FirstAnswer.TheVariants.{Draw, DrawRecorded, Page, PageRecorded, Retrace};
 
 use crate::diagramming::{diagrammed, record_diagrammed};
 use crate::failure::Failure;
+use crate::paging::{paged, record_paged};
 use crate::reading::read_second;
 use crate::scheduling::retraced;
 use crate::serving::scheduled;
@@ -48,6 +49,55 @@ pub(crate) fn draw_record<'a, R: Source>(
     let bytes = read_second(alloc, file, second)?;
     match record_diagrammed(alloc, scenario, bytes.as_slice()) {
         Ok(picture) => Ok(picture),
+        Err(refusal) => {
+            Err(later(
+                alloc,
+                reported,
+                Traced::Nothing,
+                refusal,
+                file,
+                bytes.as_slice(),
+            ))
+        }
+    }
+}
+
+/// The page of the campaign, whose scenario this text tells, by the schedule of the second file.
+pub(crate) fn page_by<'a, R: Source>(
+    alloc: Global,
+    scenario: Scenario,
+    text: String,
+    reported: bool,
+    file: &'a str,
+    second: Option<R>,
+) -> Result<Vec<u8>, Failure<'a>>
+    ensures told { IfOk result (λ page. IsPagedBy (option_map R.bytes second) scenario (string_bytes text) page.items) }
+    ensures fault { IfErr result
+        (Stops (IsSomeAnd second R.fails) (IsToldLater reported file.entry.now (option_map R.bytes second) (Page scenario text)) file.entry.now) }
+{
+    let schedule = scheduled(alloc, reported, file, second)?;
+    match paged(alloc, text.as_str(), scenario, &schedule) {
+        Ok(page) => Ok(page),
+        Err(_) => Err(Failure::Memory),
+    }
+}
+
+/// The page of the campaign, whose scenario this text tells, as the chronicle in the second file tells it.
+pub(crate) fn page_record<'a, R: Source>(
+    alloc: Global,
+    scenario: Scenario,
+    text: String,
+    reported: bool,
+    file: &'a str,
+    second: Option<R>,
+) -> Result<Vec<u8>, Failure<'a>>
+    ensures told { IfOk result (λ page. IsPagedAs (option_map R.bytes second) scenario (string_bytes text) page.items) }
+    ensures fault { IfErr result
+        (Stops (IsSomeAnd second R.fails) (IsToldLater reported file.entry.now (option_map R.bytes second) (PageRecorded scenario text)) file.entry.now) }
+{
+    let bytes = read_second(alloc, file, second)?;
+    match record_paged(alloc, text.as_str(), &scenario, bytes.as_slice()) {
+        Ok(page) => Ok(page),
         Err(refusal) => {
             Err(later(
                 alloc,

@@ -22,6 +22,10 @@ pub enum FirstAnswer {
     Draw(Scenario),
     /// An oral campaign to draw as the chronicle that the second file may be tells it.
     DrawRecorded(Scenario),
+    /// An oral campaign to tell as a page, by the schedule of the second file, and its scenario's text.
+    Page(Scenario, String),
+    /// An oral campaign to tell as a page, as the chronicle that the second file may be tells it, and its scenario's text.
+    PageRecorded(Scenario, String),
     /// An oral campaign of whose chronicle, which the second file may be, a schedule is to be told.
     Retrace(Scenario),
 }

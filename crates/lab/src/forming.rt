@@ -1,8 +1,10 @@
-ghost use Rattle.std.specs.Prelude.{IfOk, IfErr, string_bytes};
+ghost use Rattle.std.specs.Prelude.{IfOk, IfErr, OnOk, string_bytes};
 ghost use Rattle.tables.specs.Answers.{IsFilled, IsFormOf};
-ghost use Rattle.lab.specs.Refusals.{RefusesForm};
+ghost use Rattle.lab.specs.Refusals.{RefusesFilled, RefusesForm};
+ghost use Rattle.lab.specs.Strangers.{KnowsLiar};
 
 use crate::refusal::Refusal;
+use crate::strangers::know_all;
 use command_line::Filling;
 use std::alloc::Global;
 
@@ -27,7 +29,8 @@ pub fn formed(
 ///
 /// # Errors
 ///
-/// What the first line of a table is refused for that has them, or want of memory.
+/// What the first line of a table is refused for that has them; a liar who is none of its generals; or want of memory.
+#[tactic(auto, using(crate::proofs::StrangerLemmas::unfilled))]
 pub fn filled(
     alloc: Global,
     generals: &str,
@@ -35,9 +38,24 @@ pub fn filled(
     commander: &str,
     filling: Filling,
 ) -> Result<String, Refusal>
+    ensures known { OnOk result (KnowsLiar generals.now bound.now commander.now filling.liar) }
     ensures filled { IfOk result (λ text. IsFilled generals.now bound.now commander.now filling.order filling.liar (string_bytes text)) }
-    ensures refused { IfErr result (RefusesForm generals.now bound.now commander.now) }
+    ensures refused { IfErr result (RefusesFilled generals.now bound.now commander.now filling.liar) }
 {
     let Filling { order, liar } = filling;
+    know_liar(generals, bound, commander, liar)?;
     Ok(tables::filled(alloc, generals, bound, commander, order, liar)?)
+}
+
+/// Makes sure that the words are numbers of a campaign, and the liar one of its generals.
+#[tactic(auto, using(crate::proofs::StrangerLemmas::unfilled, crate::proofs::StrangerLemmas::of_numbers, crate::proofs::StrangerLemmas::strange_liar))]
+fn know_liar(generals: &str, bound: &str, commander: &str, liar: Option<u8>) -> Result<(), Refusal>
+    ensures known { OnOk result (KnowsLiar generals.now bound.now commander.now liar) }
+    ensures refused { IfErr result (RefusesFilled generals.now bound.now commander.now liar) }
+{
+    let all = tables::generals_in(generals, bound, commander)?;
+    match liar {
+        Some(liar) => know_all(all, &[liar]),
+        None => know_all(all, &[]),
+    }
 }

@@ -1,4 +1,4 @@
-ghost use Rattle.std.specs.Prelude.{◌≡◌, ℕ, List, [], true, false, IfErr, IfOk, OnOk, string_bytes};
+ghost use Rattle.std.specs.Prelude.{◌≡◌, ◌∷◌, ℕ, List, [], true, false, IfErr, IfOk, OnOk, string_bytes};
 ghost use Rattle.drawing.specs.Drawn.{DrawsTable};
 ghost use Rattle.lab.specs.Campaigns.{played};
 ghost use Rattle.lab.specs.Picturing.{IsTableIn, form_of, is_toml};
@@ -9,7 +9,7 @@ ghost use Rattle.scenario.specs.Told.{Tells};
 
 use crate::deciding::table_in;
 use crate::refusal::Refusal;
-use crate::strangers::know_all;
+use crate::strangers::know_each;
 use book::TableError;
 use command_line::Drawing;
 use drawing::{Form, Style, View, drawn};
@@ -19,11 +19,11 @@ use std::alloc::{AllocError, Global};
 use world::{Schedule, play};
 
 /// What this general was told by the message table or, where the text is TOML, in the oral campaign that it tells, without a
-/// schedule; drawn so far, where these generals are named as traitors. Nothing where he is no lieutenant.
+/// schedule; drawn so far, where these generals are named as traitors. Nothing where he is the commander.
 ///
 /// # Errors
 ///
-/// What the table or the scenario refuses; the first who is named and is none of its generals; or want of memory.
+/// What the table or the scenario refuses; he, or else the first who is named, if that is none of its generals; or want of memory.
 #[tactic(auto, using(crate::proofs::PicturingLemmas::of_table, crate::proofs::PicturingLemmas::of_campaign, crate::proofs::PicturingLemmas::no_table, crate::proofs::PicturingLemmas::no_campaign, crate::proofs::PicturingLemmas::known_in))]
 pub fn pictured(
     alloc: Global,
@@ -33,16 +33,16 @@ pub fn pictured(
     drawing: Drawing,
     view: View,
 ) -> Result<String, Refusal>
-    ensures known { OnOk result (KnowsAll (is_toml text.now) text.now traitors.now) }
+    ensures known { OnOk result (KnowsAll (is_toml text.now) text.now (general ∷ traitors.now)) }
     ensures drawn { IfOk result (λ picture. (table : List ℕ) × IsTableIn (is_toml text.now) text.now table
         × DrawsTable table traitors.now view (form_of drawing) general (string_bytes picture)) }
-    ensures refused { IfErr result (RefusesTree traitors.now text.now) }
+    ensures refused { IfErr result (RefusesTree (general ∷ traitors.now) text.now) }
 {
     let form = form(drawing);
     if !is_toml(alloc, text)? {
         return table_pictured(alloc, text, traitors, view, form, general);
     }
-    let scenario = known_scenario(alloc, text, traitors)?;
+    let scenario = known_scenario(alloc, text, general, traitors)?;
     Ok(campaign_pictured(alloc, scenario, traitors, view, form, general)?)
 }
 
@@ -56,23 +56,28 @@ fn table_pictured(
     form: Form,
     general: u8,
 ) -> Result<String, Refusal>
-    ensures known { OnOk result (KnowsAll false text.now traitors.now) }
+    ensures known { OnOk result (KnowsAll false text.now (general ∷ traitors.now)) }
     ensures drawn { IfOk result (λ picture. DrawsTable text.now traitors.now view form general (string_bytes picture)) }
-    ensures refused { IfErr result (RefusesNaming traitors.now text.now) }
+    ensures refused { IfErr result (RefusesNaming (general ∷ traitors.now) text.now) }
 {
-    know_all(table_in(alloc, text)?.generals(), traitors)?;
+    know_each(table_in(alloc, text)?.generals(), general, traitors)?;
     Ok(drawn(alloc, text, traitors, view, form, general)?)
 }
 
 /// The oral campaign that the text tells, of whose generals all are that are named.
 #[tactic(auto, using(crate::proofs::StrangerLemmas::of_scenario, crate::proofs::StrangerLemmas::unread_scenario, crate::proofs::StrangerLemmas::strange_to_scenario))]
-fn known_scenario(alloc: Global, text: &str, named: &[u8]) -> Result<Scenario, Refusal>
-    ensures known { OnOk result (KnowsAll true text.now named.now) }
+fn known_scenario(
+    alloc: Global,
+    text: &str,
+    general: u8,
+    others: &[u8],
+) -> Result<Scenario, Refusal>
+    ensures known { OnOk result (KnowsAll true text.now (general ∷ others.now)) }
     ensures told { IfOk result (Tells text.now) }
-    ensures refused { IfErr result (RefusesEither true named.now text.now) }
+    ensures refused { IfErr result (RefusesEither true (general ∷ others.now) text.now) }
 {
     let scenario = scenario_in(alloc, text)?;
-    know_all(scenario.generals(), named)?;
+    know_each(scenario.generals(), general, others)?;
     Ok(scenario)
 }
 

@@ -1,4 +1,4 @@
-ghost use Rattle.std.specs.Prelude.{◌≡◌, ◌<◌, ◌++◌, ◌∷◌, ℕ, List, length, IfOk, IfErr, Ok, Some};
+ghost use Rattle.std.specs.Prelude.{◌≡◌, ◌<◌, ◌++◌, ◌∷◌, ℕ, List, length, IfOk, IfErr, Ok, Some, string_bytes};
 ghost use Rattle.scenario.specs.Told.{Tells, TellsAny};
 ghost use Rattle.trace.specs.Schedules.{schedule_told};
 ghost use Rattle.trace.specs.SignedText.{signed_text};
@@ -17,7 +17,7 @@ use command_line::{Account, Lieutenants};
 use retold::table;
 use round::Scenario;
 use scenario::Campaign;
-use signed::{SignedChronicle, play_signed};
+use signed::{SignedChronicle, explain_signed, play_signed};
 use std::alloc::{AllocError, Global};
 use streams::may_begin_text;
 use trace::{
@@ -111,7 +111,7 @@ fn too_long(front: &[u8]) -> Refusal
 }
 
 /// The text of the campaign by a schedule: this account of it, of a signed one its chronicle, and behind it how these
-/// decisions come about, which of a signed one is not told. All of it is in memory, some bytes for each word and access that it tells.
+/// decisions come about. All of it is in memory, some bytes for each word and access that it tells.
 ///
 /// # Errors
 ///
@@ -174,7 +174,17 @@ fn signed_played(
 {
     let chronicle = play_signed(alloc, scenario, schedule)?;
     let front = signed_chronicle_text(alloc, &chronicle)?;
-    unexplained(front, explained)
+    with_signed_decisions(alloc, front, &chronicle, explained)
+}
+
+/// The oral campaign that the bytes tell, and their text.
+pub(crate) fn campaign_with_text(alloc: Global, bytes: &[u8]) -> Result<(Scenario, String), Refusal>
+    ensures told { IfOk result (λ both. Tells bytes.now both.0 × (string_bytes both.1 ≡ bytes.now)) }
+    ensures refused { IfErr result (RefusesText RefusesScenario bytes.now) }
+{
+    let scenario = campaign(alloc, bytes)?;
+    let text = String::from_str(alloc, as_text(bytes)?)?;
+    Ok((scenario, text))
 }
 
 /// The text of an oral campaign's chronicle.
@@ -217,26 +227,21 @@ pub(crate) fn with_decisions(
     with_lines(front, lines.as_str())
 }
 
-/// The text of a signed campaign and, if an explanation is asked for, that there is none.
-pub(crate) fn unexplained(
+/// The same of a signed campaign.
+#[tactic(auto, using(crate::proofs::CampaignLemmas::signed_alone, crate::proofs::CampaignLemmas::signed_followed))]
+pub(crate) fn with_signed_decisions(
+    alloc: Global,
     front: Vec<u8>,
+    chronicle: &SignedChronicle,
     explained: Option<Lieutenants>,
 ) -> Result<Vec<u8>, AllocError>
-    ensures { IfOk result (λ text. text.items ≡ front.items ++ signed_behind explained) }
+    ensures { IfOk result (λ text. text.items ≡ front.items ++ signed_behind explained chronicle.now) }
 {
-    let mut text = front;
-    text.extend_from_slice(signed_behind(explained).as_bytes())?;
-    Ok(text)
-}
-
-/// What stands behind a signed campaign's text.
-fn signed_behind(explained: Option<Lieutenants>) -> &'static str
-    ensures { result.now ≡ signed_behind explained }
-{
-    match explained {
-        None => "",
-        Some(_) => "\nthe decisions of a signed campaign are not explained\n",
-    }
+    let Some(who) = explained else {
+        return Ok(front);
+    };
+    let lines = explain_signed(alloc, chronicle, asked(who))?;
+    with_lines(front, lines.as_str())
 }
 
 /// The general who is asked for; none where all are.

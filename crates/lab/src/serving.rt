@@ -9,15 +9,15 @@ ghost use Rattle.streams.specs.Writing.{AppendsFront};
 
 use crate::answering::answer;
 use crate::auditing::audited;
-use crate::behind::{draw_by, draw_record, retrace_of};
-use crate::explaining::{explained_in, refused};
+use crate::behind::{draw_by, draw_record, page_by, page_record, retrace_of};
+use crate::explaining::refused;
 use crate::failure::Failure;
 use crate::first_answer::FirstAnswer;
 use crate::mustering::mustered;
+use crate::placing::trial_at;
 use crate::playing::{played, schedule_of};
 use crate::reading::{read_first, read_schedule, read_second};
 use crate::refusal::Refusal;
-use crate::trying::tried_by;
 use crate::whys::{Traced, is_explained, later};
 use command_line::{Account, Lieutenants, Task};
 use scenario::Campaign;
@@ -145,6 +145,12 @@ where
         Ok(FirstAnswer::DrawRecorded(scenario)) => {
             draw_record(alloc, &scenario, reported, file, second)
         }
+        Ok(FirstAnswer::Page(scenario, text)) => {
+            page_by(alloc, scenario, text, reported, file, second)
+        }
+        Ok(FirstAnswer::PageRecorded(scenario, text)) => {
+            page_record(alloc, scenario, text, reported, file, second)
+        }
         Ok(FirstAnswer::Retrace(scenario)) => {
             retrace_of(alloc, &scenario, reported, file, second)
         }
@@ -168,6 +174,7 @@ fn mustered_text<'a>(
 }
 
 /// What is told of the program's trial in the setting of the second file.
+#[tactic(auto, using(crate::proofs::PlaceLemmas::of_place))]
 fn trial_of<'a, R: Source>(
     alloc: Global,
     task: &Task,
@@ -181,24 +188,9 @@ fn trial_of<'a, R: Source>(
     ensures fault { IfErr result
         (Stops (IsSomeAnd second R.fails) (IsToldLater (is_explained task.now) file.entry.now (option_map R.bytes second) (Trial program.now traced)) file.entry.now) }
 {
-    let bytes = read_second(alloc, file, second)?;
-    match tried_by(
-        alloc,
-        program,
-        traced,
-        explained_in(task),
-        first,
-        bytes.as_slice(),
-    ) {
-        Ok(text) => Ok(text.into_bytes()),
-        Err(refusal) => Err(later(
-            alloc,
-            is_explained(task),
-            Traced::Nothing,
-            refusal,
-            file,
-            bytes.as_slice(),
-        )),
+    match trial_at(alloc, task, first, program, traced, file, second) {
+        Ok(answer) => Ok(answer.text),
+        Err(failure) => Err(failure),
     }
 }
 

@@ -1,7 +1,8 @@
 //! What is told of a run: by `check --trace` its steps, and by `check --explain` in a setting its calls that put nothing.
 ghost use Rattle.std.specs.Prelude.{◌≡◌, ◌++◌, IfOk, option_map, string_bytes};
-ghost use Rattle.lab.specs.Answers.{slips_behind, steps_behind};
+ghost use Rattle.lab.specs.Answers.{AreSlipsBehind, steps_behind};
 
+use crate::written::written_in;
 use command_line::Notation;
 use mem::Context;
 use std::alloc::{AllocError, Global};
@@ -35,8 +36,8 @@ pub(crate) fn with_steps(
     Ok(text)
 }
 
-/// What is said of an accepted program, and behind it a line for each call of its run in this setting that puts nothing, if an
-/// explanation is asked for.
+/// What is said of an accepted program, and behind it a line for each call of its run in this setting that puts nothing, with
+/// its unit and, where that is known, its place in the file of these bytes, if an explanation is asked for.
 ///
 /// # Errors
 ///
@@ -45,17 +46,26 @@ pub(crate) fn with_slips(
     alloc: Global,
     told: String,
     asked: Option<&Notation>,
+    file: &[u8],
     program: &Verified,
     setting: &Setting,
 ) -> Result<String, AllocError>
-    ensures { IfOk result (λ text. string_bytes text ≡ string_bytes told ++ slips_behind (option_map (λ notation. notation.now) asked.entry) program.now setting.now) }
+    ensures { IfOk result (λ text. AreSlipsBehind (option_map (λ notation. notation.now) asked.entry) file.now program.now setting.now (string_bytes told) (string_bytes text)) }
 {
-    if asked.is_none() {
+    let Some(notation) = asked else {
         return Ok(told);
-    }
+    };
+    let places = written_in(alloc, notation, file)?;
     let bytes = setting.context(alloc)?;
     let context = Context::new(bytes.as_slice());
-    let slips = tracing::slips(alloc, program, &context, setting.shape(), setting.board())?;
+    let slips = tracing::slips(
+        alloc,
+        program,
+        &context,
+        setting.shape(),
+        setting.board(),
+        places.as_slice(),
+    )?;
     let mut text = told;
     text.push_str(slips.as_str())?;
     Ok(text)

@@ -1,5 +1,5 @@
 //! Generals whom the words name, and who may be none of a table's or a campaign's.
-ghost use Rattle.std.specs.Prelude.{◌≡◌, nat_le, None, IfErr, OnOk};
+ghost use Rattle.std.specs.Prelude.{◌≡◌, ◌∷◌, nat_le, None, IfErr, OnOk};
 ghost use Rattle.lab.specs.Strangers.{IsStranger, stranger_among};
 
 use crate::refusal::Refusal;
@@ -36,4 +36,19 @@ pub(crate) fn know_all(generals: u8, named: &[u8]) -> Result<(), Refusal>
         None => Ok(()),
         Some(general) => Err(Refusal::Stranger { general, generals }),
     }
+}
+
+/// Makes sure that this one and all who are named with him are of so many generals.
+///
+/// # Errors
+///
+/// The first who is none of them, he before the others.
+pub(crate) fn know_each(generals: u8, general: u8, others: &[u8]) -> Result<(), Refusal>
+    ensures known { OnOk result (stranger_among generals (general ∷ others.now) ≡ None) }
+    ensures refused { IfErr result (IsStranger generals (general ∷ others.now)) }
+{
+    if is_stranger(generals, general) {
+        return Err(Refusal::Stranger { general, generals });
+    }
+    know_all(generals, others)
 }

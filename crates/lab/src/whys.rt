@@ -48,6 +48,7 @@ pub fn is_explained(task: &Task) -> bool
         | Task::Explore { .. }
         | Task::Tree { .. }
         | Task::Draw { .. }
+        | Task::Page { .. }
         | Task::Retrace { .. } => false,
     }
 }

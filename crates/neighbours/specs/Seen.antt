@@ -5,7 +5,7 @@ use Rattle.std.specs.List.{AllZip}
 use Rattle.toml.specs.Data.{Members}
 use Rattle.toml.specs.Parse.{parse_document}
 use Rattle.command_line.specs.declared.tasks.Task.{Task}
-use Rattle.command_line.specs.declared.tasks.Task.TheVariants.{Play, Muster, Audit, Explore, Tree, Draw, Retrace}
+use Rattle.command_line.specs.declared.tasks.Task.TheVariants.{Play, Muster, Audit, Explore, Tree, Draw, Page, Retrace}
 use Rattle.references.specs.Names.{File}
 use Rattle.references.specs.Resolved.{Resolves}
 use Rattle.references.specs.Asking.{asked}
@@ -19,6 +19,7 @@ reads_scenario (Audit scenario chronicle explained) = true
 reads_scenario (Explore scenario most) = true
 reads_scenario (Tree file general traitors drawing depth folded) = true
 reads_scenario (Draw scenario course) = true
+reads_scenario (Page scenario course target) = true
 reads_scenario (Retrace scenario chronicle) = true
 reads_scenario _ = false
 

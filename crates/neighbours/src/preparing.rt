@@ -23,6 +23,7 @@ pub fn reads_scenario(task: &Task) -> bool
         | Task::Explore { .. }
         | Task::Tree { .. }
         | Task::Draw { .. }
+        | Task::Page { .. }
         | Task::Retrace { .. } => true,
         Task::Check { .. }
         | Task::Assemble { .. }

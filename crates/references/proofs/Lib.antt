@@ -1,3 +1,4 @@
 mod Documents
 mod ListLemmas
 mod MemberLemmas
+mod OriginLemmas

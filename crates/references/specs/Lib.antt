@@ -2,3 +2,4 @@ pub mod Names
 pub mod Members
 pub mod Asking
 pub mod Resolved
+pub mod Origins

@@ -5,10 +5,12 @@
 mod asking;
 mod beside;
 mod key;
+mod origins;
 mod resolving;
 mod tables;
 
 pub use asking::{Reference, asked};
 pub use beside::Beside;
 pub use key::Key;
+pub use origins::{origin, seat};
 pub use resolving::resolved;

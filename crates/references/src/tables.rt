@@ -86,6 +86,13 @@ pub(crate) fn traitors(table: &Table) -> Option<&[Value]>
     list_at(table, "traitor")
 }
 
+/// The value at a key.
+pub(crate) fn value_at<'a>(table: &'a Table, key: &str) -> Option<&'a Value>
+    ensures { option_map (λ v. view v.now) result ≡ get_member key.now (table_view table.now) }
+{
+    table.get(key)
+}
+
 /// Puts a value at a key.
 pub(crate) fn put(
     alloc: Global,

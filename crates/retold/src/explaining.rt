@@ -53,7 +53,11 @@ fn asked(
 }
 
 /// The scenario's traitors, ascending.
-fn traitors(alloc: Global, scenario: &Scenario) -> Result<Vec<u8>, AllocError>
+///
+/// # Errors
+///
+/// `AllocError` where memory is refused.
+pub fn traitors(alloc: Global, scenario: &Scenario) -> Result<Vec<u8>, AllocError>
     ensures { IfOk result (λ traitors. traitors.items ≡ traitors_of scenario.now) }
 {
     let mut traitors = Vec::new(alloc);

@@ -5,6 +5,6 @@ mod explaining;
 mod laws;
 mod retelling;
 
-pub use explaining::explained;
+pub use explaining::{explained, traitors};
 pub use laws::runs_are_whole;
 pub use retelling::table;

@@ -146,8 +146,17 @@ fn completed<R: Threads + Wait + Sync + AllocGlobal>(
         Input::Bytes(bytes) if reads_scenario(&request.task) => bytes.to_vec(alloc)?,
         _ => return Ok(served(rt, request, first, second, output)),
     };
+    let own = bytes.clone()?;
     match with_files(alloc, bytes, shelf) {
-        Ok(text) => Ok(served(rt, request, Input::Bytes(text.as_slice()), second, output)),
+        Ok(text) => match own_lines::refused(
+            alloc,
+            &request.task,
+            own.as_slice(),
+            text.as_slice(),
+        )? {
+            Some(lines) => Ok(turn_down(alloc, request, lines.as_str(), output)),
+            None => Ok(served(rt, request, Input::Bytes(text.as_slice()), second, output)),
+        },
         Err(Untaken::Told { lines, kind }) => {
             Ok(untaken(alloc, request, lines.as_str(), kind, output))
         }

@@ -27,7 +27,7 @@ firsts_alike_more s t x xs old new true false e = absurd cc
 firsts_alike_more s t x xs old new false true e = absurd cc
 
 -- which chains are first, the orders seen decide, in any order
-firsts_alike : (s t : List ℕ) (xs : List Chain) → ((v : ℕ) → on s v ≡ on t v) → firsts s xs ≡ firsts t xs
+pub firsts_alike : (s t : List ℕ) (xs : List Chain) → ((v : ℕ) → on s v ≡ on t v) → firsts s xs ≡ firsts t xs
 firsts_alike s t [] h = refl
 firsts_alike s t (x ∷ xs) h =
     firsts_alike_more s t x xs (firsts_alike s t xs h) (firsts_alike (x.order ∷ s) (x.order ∷ t) xs (λ v. ap (λ (b : Bool). (x.order == v) || b) (h v))) (on s x.order) (on t x.order) (h x.order)

@@ -41,3 +41,5 @@ pub mod Closed
 pub mod Judged
 pub mod Promised
 pub mod Reading
+pub mod Gathering
+pub mod VerdictLines

@@ -11,6 +11,8 @@ use Rattle.world.specs.declared.event.Event.TheVariants.{Close}
 use Rattle.world.specs.declared.part.Part.TheVariants.{Acting}
 use Rattle.world.specs.KindLists.{IsPunctual}
 use Rattle.world.specs.Agreement.{IsFinished}
+use Rattle.world.specs.Chronicle.{Chronicle}
+use Rattle.signed.specs.Explained.{chains_of}
 use Rattle.signed.specs.Chains.{Chain, Among, IsChain, orders}
 use Rattle.signed.specs.Agreement.{IsSignedBound, SignedAgree}
 use Rattle.signed.specs.Entries.{Dispatch, Entry, chain_of, dispatched, most_entries}
@@ -88,3 +90,7 @@ pub record SignedEntriesAreSent : Type 0 where
       slice_get (played s events).parts g ≡ Some (Acting a) →
       sent_by (sent_after s (events ++ Close ∷ [])) (suc (length (played s events).closed)) g
       ≡ dispatched s.generals s.commander g (held_in s (played s events).closed g) a.state.entries
+
+-- the chains that are told of a lieutenant bring the orders that he accepts, and by these he decides
+abbrev pub AcceptedOrdersDecide : Type 0
+AcceptedOrdersDecide = (c : Chronicle) (p : ℕ) → orders (chains_of c p) ≡ accepted_in c.scenario c.letters p

@@ -8,9 +8,11 @@ pub mod Signers
 pub mod Sent
 pub mod Kind
 pub mod Sending
+pub mod Explained
 pub mod Laws
 pub mod Traitors
 pub mod Chronicle
 pub mod Verdicts
 pub mod Promises
 pub mod Plays
+pub mod Gathered

@@ -2,6 +2,7 @@
 ghost use Rattle.signed.specs.Agreement.{SignedAgreementHolds};
 ghost use Rattle.signed.specs.Kind.{signed_kind};
 ghost use Rattle.signed.specs.Laws.{
+  AcceptedOrdersDecide,
   ChainsAreFew,
   ChainsAreUnforged,
   HeldChainsAreFew,
@@ -27,6 +28,11 @@ ghost use Rattle.world.specs.Safety.{ActivationsAreSafe, PartsArePlaced};
 /// loyal commander's order (TOPLAS 1982, Theorem 2).
 pub fn signed_agreement()
     ensures { SignedAgreementHolds }
+{}
+
+/// The chains that are told of a lieutenant bring the orders that he accepts, by which he decides.
+pub fn accepted_orders_decide()
+    ensures { AcceptedOrdersDecide }
 {}
 
 /// So they do in every world where all rounds are closed and every loyal general had posted in each.

@@ -2,6 +2,7 @@
 #![tactic(auto)]
 
 mod acceptance;
+mod accepted_chains;
 mod beginnings;
 mod briefing;
 mod chain;
@@ -10,6 +11,7 @@ mod dispatch;
 mod drafting;
 mod entering;
 mod events;
+mod explaining;
 mod held;
 mod judging;
 mod laws;
@@ -23,11 +25,12 @@ mod signer;
 
 pub use chain::Chain;
 pub use chronicle::SignedChronicle;
+pub use explaining::explain_signed;
 pub use held::Held;
 pub use laws::{
-    chains_are_few, chains_are_unforged, held_chains_are_few, loyal_entries_are_sent,
-    signed_accounts_are_runs, signed_activations_are_safe, signed_agreement,
-    signed_entries_are_sent, signed_ledgers_are_legal, signed_ledgers_decide,
+    accepted_orders_decide, chains_are_few, chains_are_unforged, held_chains_are_few,
+    loyal_entries_are_sent, signed_accounts_are_runs, signed_activations_are_safe,
+    signed_agreement, signed_entries_are_sent, signed_ledgers_are_legal, signed_ledgers_decide,
     signed_lists_are_complete, signed_refusals_change_nothing, signed_runs_are_accounted,
     signed_runs_are_replays, signed_verdicts_mean, signed_worlds_agree, whatever_traitors_write,
 };

@@ -4,7 +4,7 @@ ghost use Rattle.book.specs.Grammar.{opened};
 ghost use Rattle.book.specs.Table.{AreNumbersWithin};
 ghost use Rattle.book.specs.declared.fault.TableError.TheVariants.{Memory};
 ghost use Rattle.tables.specs.Answers.{IsFilled};
-ghost use Rattle.tables.specs.Numbers.{numbers_in};
+ghost use Rattle.tables.specs.Numbers.{HasGenerals, numbers_in};
 
 use crate::loyal::LoyalMarks;
 use crate::writing::write;
@@ -33,6 +33,19 @@ pub fn filled(
     let (generals, bound, commander) = numbers(generals, bound, commander)?;
     let marks = LoyalMarks { order, liar };
     Ok(write(alloc, &marks, generals, bound, commander, Rule::Majority)?)
+}
+
+/// How many generals a campaign with these numbers has.
+///
+/// # Errors
+///
+/// What the first line of a table is refused for that has these numbers.
+pub fn generals_in(generals: &str, bound: &str, commander: &str) -> Result<u8, TableError>
+    ensures told { IfOk result (HasGenerals generals.now bound.now commander.now) }
+    ensures refused { IfErr result (λ e. e ≢ Memory → opened (numbers_in generals.now bound.now commander.now) ≡ Err e) }
+{
+    let (generals, _, _) = numbers(generals, bound, commander)?;
+    Ok(generals)
 }
 
 /// The numbers of a campaign, as they stand on the first line of a table.

@@ -13,7 +13,7 @@ mod trees;
 mod writing;
 
 pub use deciding::{decided, explained, explained_one};
-pub use filling::filled;
+pub use filling::{filled, generals_in};
 pub use forming::formed;
 pub use laws::{loyal_tables_decide, tables_are_read};
 pub use tree_table::TreeTable;

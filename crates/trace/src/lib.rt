@@ -35,7 +35,7 @@ pub use laws::{
     sound_texts_are_runs,
 };
 pub use scheduling::{MOST_SCHEDULE_BYTES, read_schedule};
-pub use signed_auditing::check_signed;
+pub use signed_auditing::{check_signed, sound_signed_chronicle};
 pub use signed_chronicling::write_signed;
 pub use sink::{Latch, Sink};
 pub use version::{Version, version_by};

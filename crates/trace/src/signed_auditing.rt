@@ -65,13 +65,32 @@ pub fn check_signed(alloc: Global, scenario: &Scenario, text: &str) -> Result<Ve
     ensures unsound { IfErr result (λ e. e ≢ Memory → IsSoundSignedText scenario.now text.now → ⊥) }
     ensures fault { IfErr result (λ e. e ≢ Memory → IsSignedFaultOf scenario.now text.now e) }
 {
+    let chronicle = sound_signed_chronicle(alloc, scenario, text)?;
+    Ok(chronicle.verdict())
+}
+
+/// The same audit: the chronicle itself.
+///
+/// # Errors
+///
+/// Those of `check_signed`.
+pub fn sound_signed_chronicle(
+    alloc: Global,
+    scenario: &Scenario,
+    text: &str,
+) -> Result<SignedChronicle, TraceError>
+    ensures sound { IfOk result (λ _. IsSoundSignedText scenario.now text.now) }
+    ensures chronicle { IfOk result (λ chronicle. chronicle ≡ signed_chronicle_told scenario.now text.now) }
+    ensures unsound { IfErr result (λ e. e ≢ Memory → IsSoundSignedText scenario.now text.now → ⊥) }
+    ensures fault { IfErr result (λ e. e ≢ Memory → IsSignedFaultOf scenario.now text.now e) }
+{
     let text = text.as_bytes();
     if !is_third_version(text) {
         return Err(refusal(text, 0));
     }
     let chronicle = signed_replayed(alloc, scenario, text)?;
     match signed_difference(text, &chronicle) {
-        None => Ok(chronicle.verdict()),
+        None => Ok(chronicle),
         Some(place) => Err(refusal(text, place)),
     }
 }

@@ -1,7 +1,8 @@
 -- A step that is a call that puts nothing, and the lines of such steps.
 use Rattle.std.proofs.Common.{◌≡◌, ◌∙◌, ℕ, zero, suc, ◌+◌, ◌-◌, ◌<◌, List, [], ◌++◌, length, Bool, refl, sym, ap, subst, append_assoc, append-nil, arith}
 use Rattle.std.proofs.lemmas.Bool.{ne_eqb}
-use Rattle.std.specs.Prelude.{Option, Some, None, Result, Ok, Err, if◌then◌else◌, ◌==◌}
+use Rattle.std.specs.Prelude.{Option, Some, None, Result, Ok, Err, String, if◌then◌else◌, ◌==◌}
+use Rattle.std.specs.declared.alloc.Global.{Global}
 use Rattle.insn.specs.declared.insn.Insn.{Insn}
 use Rattle.insn.specs.declared.insn.Insn.TheVariants as i
 use Rattle.insn.specs.Program.{instruction_at}
@@ -24,67 +25,67 @@ use Rattle.tracing.specs.declared.reasons.Call.{Call}
 -- ---- r0 says whether a call set a place
 
 -- what an outcome says of the line that is told
-abbrev Says : Relay → Option Call → List ℕ → Outcome → Type 0
-Says r call line (Next t) = line ≡ where_said r (number_at t 0) call
-Says r call line (Ask request t) = line ≡ []
-Says r call line (Exit r0 t) = line ≡ []
-Says r call line (Trap cause) = Unit {0}
+abbrev Says : List (String Global) → Relay → Option Call → List ℕ → Outcome → Type 0
+Says places r call line (Next t) = line ≡ where_said places r (number_at t 0) call
+Says places r call line (Ask request t) = line ≡ []
+Says places r call line (Exit r0 t) = line ≡ []
+Says places r call line (Trap cause) = Unit {0}
 
 abbrev made : State → Helper → Call
 made s helper = record { unit = s.unit; helper = helper; first = number_at s 1; second = number_at s 2; third = number_at s 3 }
 
 -- nothing is told of what is no call that puts orders
-quiet : (r : Relay) (call : Option Call) → ((r0 : ℕ) → where_said r r0 call ≡ []) → (o : Outcome) → Says r call [] o
-quiet r call none (Next t) = sym (none (number_at t 0))
-quiet r call none (Ask request t) = refl
-quiet r call none (Exit r0 t) = refl
-quiet r call none (Trap cause) = tt
+quiet : (places : List (String Global)) (r : Relay) (call : Option Call) → ((r0 : ℕ) → where_said places r r0 call ≡ []) → (o : Outcome) → Says places r call [] o
+quiet places r call none (Next t) = sym (none (number_at t 0))
+quiet places r call none (Ask request t) = refl
+quiet places r call none (Exit r0 t) = refl
+quiet places r call none (Trap cause) = tt
 
 one_less : (n : ℕ) → (n == 0) ≡ ((1 - n) == 1)
 one_less zero = refl
 one_less (suc n) = let none : 1 - suc n ≡ 0 = omega arith in ne_eqb (suc n) 0 (λ (e : suc n ≡ 0). let no : ⊥ = omega arith in no) ∙ ap (λ (m : ℕ). m == 1) (sym none)
 
-sent_says : (r : Relay) (s : State) (r0 : ℕ → ℕ) (call : Call) → ((n : ℕ) → (n == 0) ≡ says_none call.helper (r0 n)) → (chosen : Result Choice Cause)
-    → Says r (Some call) (where_none r (note_of r call) (Some chosen)) (sent r s r0 chosen)
-sent_says r s r0 call same (Err cause) = tt
-sent_says r s r0 call same (Ok choice) = ap (λ (b : Bool). if b then note_of r call else []) (same (places_set r choice))
+sent_says : (places : List (String Global)) (r : Relay) (s : State) (r0 : ℕ → ℕ) (call : Call) → ((n : ℕ) → (n == 0) ≡ says_none call.helper (r0 n)) → (chosen : Result Choice Cause)
+    → Says places r (Some call) (where_none r (note_of places r call) (Some chosen)) (sent r s r0 chosen)
+sent_says places r s r0 call same (Err cause) = tt
+sent_says places r s r0 call same (Ok choice) = ap (λ (b : Bool). if b then note_of places r call else []) (same (places_set r choice))
 
-called_says : (context : List ℕ) (r : Relay) (s : State) (helper : Option Helper) → Says r (call_by s helper) (slip context r s (call_by s helper)) (called context r s helper)
-called_says context r s None = tt
-called_says context r s (Some h.BoardGet) = quiet r (call_by s (Some h.BoardGet)) (λ r0. refl) _
-called_says context r s (Some h.BoardSwap) = quiet r (call_by s (Some h.BoardSwap)) (λ r0. refl) _
-called_says context r s (Some h.BoardAdd) = quiet r (call_by s (Some h.BoardAdd)) (λ r0. refl) _
-called_says context r s (Some h.BoardCas) = quiet r (call_by s (Some h.BoardCas)) (λ r0. refl) _
-called_says context r s (Some h.BoardCopy) = quiet r (call_by s (Some h.BoardCopy)) (λ r0. refl) _
-called_says context r s (Some h.Send) = sent_says r s (λ set. 1 - set) (made s h.Send) one_less (send_in s)
-called_says context r s (Some h.SendRow) = sent_says r s (λ set. set) (made s h.SendRow) (λ n. refl) (send_row_in context s)
-called_says context r s (Some h.Sway) = sent_says r s (λ set. set) (made s h.Sway) (λ n. refl) (sway_in s)
-called_says context r s (Some h.Honest) = sent_says r s (λ set. set) (made s h.Honest) (λ n. refl) (honest_in context s)
-called_says context r s (Some h.SignOrder) = quiet r (call_by s (Some h.SignOrder)) (λ r0. refl) _
-called_says context r s (Some h.PassOn) = quiet r (call_by s (Some h.PassOn)) (λ r0. refl) _
+called_says : (places : List (String Global)) (context : List ℕ) (r : Relay) (s : State) (helper : Option Helper) → Says places r (call_by s helper) (slip places context r s (call_by s helper)) (called context r s helper)
+called_says places context r s None = tt
+called_says places context r s (Some h.BoardGet) = quiet places r (call_by s (Some h.BoardGet)) (λ r0. refl) _
+called_says places context r s (Some h.BoardSwap) = quiet places r (call_by s (Some h.BoardSwap)) (λ r0. refl) _
+called_says places context r s (Some h.BoardAdd) = quiet places r (call_by s (Some h.BoardAdd)) (λ r0. refl) _
+called_says places context r s (Some h.BoardCas) = quiet places r (call_by s (Some h.BoardCas)) (λ r0. refl) _
+called_says places context r s (Some h.BoardCopy) = quiet places r (call_by s (Some h.BoardCopy)) (λ r0. refl) _
+called_says places context r s (Some h.Send) = sent_says places r s (λ set. 1 - set) (made s h.Send) one_less (send_in s)
+called_says places context r s (Some h.SendRow) = sent_says places r s (λ set. set) (made s h.SendRow) (λ n. refl) (send_row_in context s)
+called_says places context r s (Some h.Sway) = sent_says places r s (λ set. set) (made s h.Sway) (λ n. refl) (sway_in s)
+called_says places context r s (Some h.Honest) = sent_says places r s (λ set. set) (made s h.Honest) (λ n. refl) (honest_in context s)
+called_says places context r s (Some h.SignOrder) = quiet places r (call_by s (Some h.SignOrder)) (λ r0. refl) _
+called_says places context r s (Some h.PassOn) = quiet places r (call_by s (Some h.PassOn)) (λ r0. refl) _
 
-executed_says : (context : List ℕ) (r : Relay) (insn : Insn) (s : State) → Says r (call_at s insn) (slip context r s (call_at s insn)) (executed context r insn s)
-executed_says context r (i.Arithmetic width operation dst operand) s = quiet r None (λ r0. refl) _
-executed_says context r (i.Negate width dst) s = quiet r None (λ r0. refl) _
-executed_says context r (i.SignExtend width part dst src) s = quiet r None (λ r0. refl) _
-executed_says context r (i.Swap order size dst) s = quiet r None (λ r0. refl) _
-executed_says context r (i.LoadImmediate dst number) s = quiet r None (λ r0. refl) _
-executed_says context r (i.Jump distance) s = quiet r None (λ r0. refl) _
-executed_says context r (i.LongJump distance) s = quiet r None (λ r0. refl) _
-executed_says context r (i.Branch width condition dst operand distance) s = quiet r None (λ r0. refl) _
-executed_says context r (i.Load size dst base offset) s = quiet r None (λ r0. refl) _
-executed_says context r (i.LoadSigned part dst base offset) s = quiet r None (λ r0. refl) _
-executed_says context r (i.Store size base offset source) s = quiet r None (λ r0. refl) _
-executed_says context r (i.Call number) s = called_says context r s (helper_of number)
-executed_says context r i.Exit s = quiet r None (λ r0. refl) _
+executed_says : (places : List (String Global)) (context : List ℕ) (r : Relay) (insn : Insn) (s : State) → Says places r (call_at s insn) (slip places context r s (call_at s insn)) (executed context r insn s)
+executed_says places context r (i.Arithmetic width operation dst operand) s = quiet places r None (λ r0. refl) _
+executed_says places context r (i.Negate width dst) s = quiet places r None (λ r0. refl) _
+executed_says places context r (i.SignExtend width part dst src) s = quiet places r None (λ r0. refl) _
+executed_says places context r (i.Swap order size dst) s = quiet places r None (λ r0. refl) _
+executed_says places context r (i.LoadImmediate dst number) s = quiet places r None (λ r0. refl) _
+executed_says places context r (i.Jump distance) s = quiet places r None (λ r0. refl) _
+executed_says places context r (i.LongJump distance) s = quiet places r None (λ r0. refl) _
+executed_says places context r (i.Branch width condition dst operand distance) s = quiet places r None (λ r0. refl) _
+executed_says places context r (i.Load size dst base offset) s = quiet places r None (λ r0. refl) _
+executed_says places context r (i.LoadSigned part dst base offset) s = quiet places r None (λ r0. refl) _
+executed_says places context r (i.Store size base offset source) s = quiet places r None (λ r0. refl) _
+executed_says places context r (i.Call number) s = called_says places context r s (helper_of number)
+executed_says places context r i.Exit s = quiet places r None (λ r0. refl) _
 
-step_says : (program : List Insn) (context : List ℕ) (r : Relay) (s : State) (insn : Insn) (o : Outcome) → instruction_at program s.unit ≡ Some insn → step program context r s ≡ o
-    → Says r (call_at s insn) (slip_at context r s (instruction_at program s.unit)) o
+step_says : (places : List (String Global)) (program : List Insn) (context : List ℕ) (r : Relay) (s : State) (insn : Insn) (o : Outcome) → instruction_at program s.unit ≡ Some insn → step program context r s ≡ o
+    → Says places r (call_at s insn) (slip_at places context r s (instruction_at program s.unit)) o
 unfolding step
-step_says program context r s insn o here is =
+step_says places program context r s insn o here is =
     let led : executed context r insn s ≡ o = sym (ap (λ (found : Option Insn). fetched context r found s) here) ∙ is in
-    subst (λ (x : Outcome). Says r (call_at s insn) (slip_at context r s (instruction_at program s.unit)) x) led
-    (subst (λ (found : Option Insn). Says r (call_at s insn) (slip_at context r s found) (executed context r insn s)) (sym here) (executed_says context r insn s))
+    subst (λ (x : Outcome). Says places r (call_at s insn) (slip_at places context r s (instruction_at program s.unit)) x) led
+    (subst (λ (found : Option Insn). Says places r (call_at s insn) (slip_at places context r s found) (executed context r insn s)) (sym here) (executed_says places context r insn s))
 
 -- ---- one step
 
@@ -93,84 +94,84 @@ pub none_here : (program own : List Insn) (unit at : ℕ) → None ≡ instructi
 none_here program own unit at none same is =
     sym (none ∙ (ap (λ (p : List Insn). instruction_at p at) same ∙ ap (λ (u : ℕ). instruction_at program u) is))
 
-pub nothing_there : (program : List Insn) (context : List ℕ) (r : Relay) (rest : Rest) (words : List ℕ) (s : State) → instruction_at program s.unit ≡ None
-    → slips_at program context r rest words s ≡ []
+pub nothing_there : (places : List (String Global)) (program : List Insn) (context : List ℕ) (r : Relay) (rest : Rest) (words : List ℕ) (s : State) → instruction_at program s.unit ≡ None
+    → slips_at places program context r rest words s ≡ []
 unfolding step
-nothing_there program context r rest words s none = ap (λ (found : Option Insn). slip_at context r s found ++ followed rest words (fetched context r found s)) none
+nothing_there places program context r rest words s none = ap (λ (found : Option Insn). slip_at places context r s found ++ followed rest words (fetched context r found s)) none
 
-pub slip_next : (program : List Insn) (context : List ℕ) (r : Relay) (rest : Rest) (words : List ℕ) (s t : State) (insn : Insn) (old new : List ℕ)
+pub slip_next : (places : List (String Global)) (program : List Insn) (context : List ℕ) (r : Relay) (rest : Rest) (words : List ℕ) (s t : State) (insn : Insn) (old new : List ℕ)
     → instruction_at program s.unit ≡ Some insn → step program context r s ≡ Next t
-    → new ≡ old ++ where_said r (number_at t 0) (call_at s insn)
-    → old ++ slips_at program context r rest words s ≡ new ++ rest words t
-slip_next program context r rest words s t insn old new here is grew =
-    let told : slip_at context r s (instruction_at program s.unit) ≡ where_said r (number_at t 0) (call_at s insn) = step_says program context r s insn (Next t) here is in
-    ap (λ (o : Outcome). old ++ (slip_at context r s (instruction_at program s.unit) ++ followed rest words o)) is
+    → new ≡ old ++ where_said places r (number_at t 0) (call_at s insn)
+    → old ++ slips_at places program context r rest words s ≡ new ++ rest words t
+slip_next places program context r rest words s t insn old new here is grew =
+    let told : slip_at places context r s (instruction_at program s.unit) ≡ where_said places r (number_at t 0) (call_at s insn) = step_says places program context r s insn (Next t) here is in
+    ap (λ (o : Outcome). old ++ (slip_at places context r s (instruction_at program s.unit) ++ followed rest words o)) is
     ∙ (ap (λ (line : List ℕ). old ++ (line ++ rest words t)) told
-    ∙ (sym (append_assoc old (where_said r (number_at t 0) (call_at s insn)) (rest words t)) ∙ ap (λ (l : List ℕ). l ++ rest words t) (sym grew)))
+    ∙ (sym (append_assoc old (where_said places r (number_at t 0) (call_at s insn)) (rest words t)) ∙ ap (λ (l : List ℕ). l ++ rest words t) (sym grew)))
 
-pub slip_asks : (program : List Insn) (context : List ℕ) (r : Relay) (rest : Rest) (words left : List ℕ) (s t u : State) (insn : Insn) (request : Request) (old new : List ℕ)
+pub slip_asks : (places : List (String Global)) (program : List Insn) (context : List ℕ) (r : Relay) (rest : Rest) (words left : List ℕ) (s t u : State) (insn : Insn) (request : Request) (old new : List ℕ)
     → instruction_at program s.unit ≡ Some insn → step program context r s ≡ Ask request t
     → u ≡ resumed request (reply words request) t → left ≡ next words request → new ≡ old
-    → old ++ slips_at program context r rest words s ≡ new ++ rest left u
-slip_asks program context r rest words left s t u insn request old new here is resumes leaves same =
-    let told : slip_at context r s (instruction_at program s.unit) ≡ [] = step_says program context r s insn (Ask request t) here is in
-    ap (λ (o : Outcome). old ++ (slip_at context r s (instruction_at program s.unit) ++ followed rest words o)) is
+    → old ++ slips_at places program context r rest words s ≡ new ++ rest left u
+slip_asks places program context r rest words left s t u insn request old new here is resumes leaves same =
+    let told : slip_at places context r s (instruction_at program s.unit) ≡ [] = step_says places program context r s insn (Ask request t) here is in
+    ap (λ (o : Outcome). old ++ (slip_at places context r s (instruction_at program s.unit) ++ followed rest words o)) is
     ∙ (ap (λ (line : List ℕ). old ++ (line ++ rest (next words request) (resumed request (reply words request) t))) told
     ∙ (ap (λ (v : State). old ++ rest (next words request) v) (sym resumes)
     ∙ (ap (λ (w : List ℕ). old ++ rest w u) (sym leaves) ∙ ap (λ (l : List ℕ). l ++ rest left u) (sym same))))
 
-pub slip_exit : (program : List Insn) (context : List ℕ) (r : Relay) (rest : Rest) (words : List ℕ) (s t : State) (insn : Insn) (r0 : ℕ) (old new : List ℕ)
+pub slip_exit : (places : List (String Global)) (program : List Insn) (context : List ℕ) (r : Relay) (rest : Rest) (words : List ℕ) (s t : State) (insn : Insn) (r0 : ℕ) (old new : List ℕ)
     → instruction_at program s.unit ≡ Some insn → step program context r s ≡ Exit r0 t → new ≡ old
-    → old ++ slips_at program context r rest words s ≡ new
-slip_exit program context r rest words s t insn r0 old new here is same =
-    let told : slip_at context r s (instruction_at program s.unit) ≡ [] = step_says program context r s insn (Exit r0 t) here is in
-    ap (λ (o : Outcome). old ++ (slip_at context r s (instruction_at program s.unit) ++ followed rest words o)) is
+    → old ++ slips_at places program context r rest words s ≡ new
+slip_exit places program context r rest words s t insn r0 old new here is same =
+    let told : slip_at places context r s (instruction_at program s.unit) ≡ [] = step_says places program context r s insn (Exit r0 t) here is in
+    ap (λ (o : Outcome). old ++ (slip_at places context r s (instruction_at program s.unit) ++ followed rest words o)) is
     ∙ (ap (λ (line : List ℕ). old ++ (line ++ [])) told ∙ (append-nil old ∙ sym same))
 
 -- ---- the whole run
 
 -- what is left to be told, from where the program stands and the board's words
-pub record IsSlipped (opening : List ℕ) (program : List Insn) (context : List ℕ) (relay : Relay) (a : Standing) (b : RecordedBoard) (text : List ℕ) : Type 0 where
+pub record IsSlipped (places : List (String Global)) (opening : List ℕ) (program : List Insn) (context : List ℕ) (relay : Relay) (a : Standing) (b : RecordedBoard) (text : List ℕ) : Type 0 where
   pub of_run : IsOfRun program context a
   pub relay_kept : a.relay ≡ relay
-  pub rest : text ++ slips_from program context relay (length program - a.state.steps) b.words a.state ≡ slips_on opening program context relay
+  pub rest : text ++ slips_from places program context relay (length program - a.state.steps) b.words a.state ≡ slips_on places opening program context relay
 
-pub slipped_from : (opening : List ℕ) (program : List Insn) (context : List ℕ) (relay : Relay) (a : Standing) (b : RecordedBoard) → IsOfRun program context a → a.relay ≡ relay →
-    b.words ≡ opening → a.state ≡ entry (empty_outbox a.relay) → IsSlipped opening program context relay a b []
-slipped_from opening program context relay a b run same opened begun =
+pub slipped_from : (places : List (String Global)) (opening : List ℕ) (program : List Insn) (context : List ℕ) (relay : Relay) (a : Standing) (b : RecordedBoard) → IsOfRun program context a → a.relay ≡ relay →
+    b.words ≡ opening → a.state ≡ entry (empty_outbox a.relay) → IsSlipped places opening program context relay a b []
+slipped_from places opening program context relay a b run same opened begun =
     let at : a.state ≡ entry (empty_outbox relay) = begun ∙ ap (λ (r : Relay). entry (empty_outbox r)) same in
     record {
       of_run = run;
       relay_kept = same;
-      rest = (let all : length program - 0 ≡ length program = omega arith in rw (at, opened) (ap (λ (k : ℕ). slips_from program context relay k opening (entry (empty_outbox relay))) all));
+      rest = (let all : length program - 0 ≡ length program = omega arith in rw (at, opened) (ap (λ (k : ℕ). slips_from places program context relay k opening (entry (empty_outbox relay))) all));
     }
 
-slips_suc : (program : List Insn) (context : List ℕ) (relay : Relay) (k : ℕ) (words : List ℕ) (s : State)
-    → slips_from program context relay (suc k) words s ≡ slips_at program context relay (λ left t. slips_from program context relay k left t) words s
+slips_suc : (places : List (String Global)) (program : List Insn) (context : List ℕ) (relay : Relay) (k : ℕ) (words : List ℕ) (s : State)
+    → slips_from places program context relay (suc k) words s ≡ slips_at places program context relay (λ left t. slips_from places program context relay k left t) words s
 unfolding slips_from
-slips_suc program context relay k words s = refl
+slips_suc places program context relay k words s = refl
 
 -- the lines of so many steps are those of the step and of one fewer
-left_over : (opening : List ℕ) (program : List Insn) (context : List ℕ) (relay : Relay) (k : ℕ) (a : Standing) (b : RecordedBoard) (text : List ℕ) → IsSlipped opening program context relay a b text
-    → length program - a.state.steps ≡ suc k → text ++ slips_at program context a.relay (λ left t. slips_from program context relay k left t) b.words a.state ≡ slips_on opening program context relay
-left_over opening program context relay k a b text h is =
-    ap (λ (r : Relay). text ++ slips_at program context r (λ left t. slips_from program context relay k left t) b.words a.state) h.relay_kept
-    ∙ (ap (λ (l : List ℕ). text ++ l) (sym (slips_suc program context relay k b.words a.state))
-    ∙ (ap (λ (n : ℕ). text ++ slips_from program context relay n b.words a.state) (sym is) ∙ h.rest))
+left_over : (places : List (String Global)) (opening : List ℕ) (program : List Insn) (context : List ℕ) (relay : Relay) (k : ℕ) (a : Standing) (b : RecordedBoard) (text : List ℕ) → IsSlipped places opening program context relay a b text
+    → length program - a.state.steps ≡ suc k → text ++ slips_at places program context a.relay (λ left t. slips_from places program context relay k left t) b.words a.state ≡ slips_on places opening program context relay
+left_over places opening program context relay k a b text h is =
+    ap (λ (r : Relay). text ++ slips_at places program context r (λ left t. slips_from places program context relay k left t) b.words a.state) h.relay_kept
+    ∙ (ap (λ (l : List ℕ). text ++ l) (sym (slips_suc places program context relay k b.words a.state))
+    ∙ (ap (λ (n : ℕ). text ++ slips_from places program context relay n b.words a.state) (sym is) ∙ h.rest))
 
-pub slipped_on : (opening : List ℕ) (program : List Insn) (context : List ℕ) (relay : Relay) (a t : Standing) (b d : RecordedBoard) (text longer : List ℕ) → a.state.steps < length program → IsSlipped opening program context relay a b text
+pub slipped_on : (places : List (String Global)) (opening : List ℕ) (program : List Insn) (context : List ℕ) (relay : Relay) (a t : Standing) (b d : RecordedBoard) (text longer : List ℕ) → a.state.steps < length program → IsSlipped places opening program context relay a b text
     → IsOfRun program context t → t.relay ≡ a.relay → t.state.steps ≡ a.state.steps + 1
-    → ((rest : Rest) → text ++ slips_at program context a.relay rest b.words a.state ≡ longer ++ rest d.words t.state) → IsSlipped opening program context relay t d longer
-slipped_on opening program context relay a t b d text longer few h run same counted tells =
+    → ((rest : Rest) → text ++ slips_at places program context a.relay rest b.words a.state ≡ longer ++ rest d.words t.state) → IsSlipped places opening program context relay t d longer
+slipped_on places opening program context relay a t b d text longer few h run same counted tells =
     let left : length program - a.state.steps ≡ suc (length program - t.state.steps) = omega arith in
     record {
       of_run = run;
       relay_kept = same ∙ h.relay_kept;
-      rest = sym (tells (λ words s. slips_from program context relay (length program - t.state.steps) words s)) ∙ left_over opening program context relay (length program - t.state.steps) a b text h left;
+      rest = sym (tells (λ words s. slips_from places program context relay (length program - t.state.steps) words s)) ∙ left_over places opening program context relay (length program - t.state.steps) a b text h left;
     }
 
-pub slipped_end : (opening : List ℕ) (program : List Insn) (context : List ℕ) (relay : Relay) (a : Standing) (b : RecordedBoard) (text longer : List ℕ) → a.state.steps < length program → IsSlipped opening program context relay a b text
-    → ((rest : Rest) → text ++ slips_at program context a.relay rest b.words a.state ≡ longer) → longer ≡ slips_on opening program context relay
-slipped_end opening program context relay a b text longer few h tells =
+pub slipped_end : (places : List (String Global)) (opening : List ℕ) (program : List Insn) (context : List ℕ) (relay : Relay) (a : Standing) (b : RecordedBoard) (text longer : List ℕ) → a.state.steps < length program → IsSlipped places opening program context relay a b text
+    → ((rest : Rest) → text ++ slips_at places program context a.relay rest b.words a.state ≡ longer) → longer ≡ slips_on places opening program context relay
+slipped_end places opening program context relay a b text longer few h tells =
     let left : length program - a.state.steps ≡ suc (length program - a.state.steps - 1) = omega arith in
-    sym (tells (λ words s. slips_from program context relay (length program - a.state.steps - 1) words s)) ∙ left_over opening program context relay (length program - a.state.steps - 1) a b text h left
+    sym (tells (λ words s. slips_from places program context relay (length program - a.state.steps - 1) words s)) ∙ left_over places opening program context relay (length program - a.state.steps - 1) a b text h left

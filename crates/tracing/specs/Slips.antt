@@ -1,5 +1,6 @@
 -- What is told of the calls of a run that put no order: a line for each, with the reason.
-use Rattle.std.specs.Prelude.{ℕ, zero, suc, ◌-◌, ◌==◌, nat_lt, if◌then◌else◌, Bool, false, List, [], ◌∷◌, ◌++◌, flat_map, codes, decimal, length, slice_get, Option, Some, None, Result, Ok}
+use Rattle.std.specs.Prelude.{ℕ, zero, suc, ◌-◌, ◌==◌, nat_lt, if◌then◌else◌, Bool, false, List, [], ◌∷◌, ◌++◌, flat_map, codes, decimal, length, slice_get, string_bytes, Option, Some, None, Result, Ok, String}
+use Rattle.std.specs.declared.alloc.Global.{Global}
 use Rattle.insn.specs.declared.insn.Insn.{Insn}
 use Rattle.insn.specs.declared.insn.Insn.TheVariants as insn
 use Rattle.insn.specs.Program.{instruction_at}
@@ -92,8 +93,21 @@ reason_by r first second third _ = []
 abbrev pub reason_of : Relay → Call → List ℕ
 reason_of r call = reason_by r call.first call.second call.third call.helper
 
-abbrev pub note_of : Relay → Call → List ℕ
-note_of r call = codes "note: at " ++ decimal call.unit ++ codes ", " ++ name_of call.helper ++ codes " puts nothing: " ++ reason_of r call ++ codes "\n"
+-- the place of a unit in the text that the program was written in, in brackets; nothing where that is not known
+abbrev pub in_brackets : List ℕ → List ℕ
+in_brackets [] = []
+in_brackets (c ∷ cs) = codes " (" ++ (c ∷ cs) ++ codes ")"
+
+abbrev pub place_of : Option (String Global) → List ℕ
+place_of None = []
+place_of (Some text) = string_bytes text
+
+-- `5`, or `5 (line 7)`, where these are the places of the units
+unfoldable pub unit_told : List (String Global) → ℕ → List ℕ
+unit_told places unit = decimal unit ++ in_brackets (place_of (slice_get places unit))
+
+abbrev pub note_of : List (String Global) → Relay → Call → List ℕ
+note_of places r call = codes "note: at " ++ unit_told places call.unit ++ codes ", " ++ name_of call.helper ++ codes " puts nothing: " ++ reason_of r call ++ codes "\n"
 
 -- the places that a call chooses, of those helpers that put orders
 abbrev pub chosen : List ℕ → State → Helper → Option (Result Choice Cause)
@@ -109,13 +123,13 @@ where_none r line (Some (Ok choice)) = if places_set r choice == 0 then line els
 where_none r line _ = []
 
 -- what is told of a call, and of the instruction that stands at a state's unit
-abbrev pub slip : List ℕ → Relay → State → Option Call → List ℕ
-slip context r s None = []
-slip context r s (Some call) = where_none r (note_of r call) (chosen context s call.helper)
+abbrev pub slip : List (String Global) → List ℕ → Relay → State → Option Call → List ℕ
+slip places context r s None = []
+slip places context r s (Some call) = where_none r (note_of places r call) (chosen context s call.helper)
 
-abbrev pub slip_at : List ℕ → Relay → State → Option Insn → List ℕ
-slip_at context r s None = []
-slip_at context r s (Some i) = slip context r s (call_at s i)
+abbrev pub slip_at : List (String Global) → List ℕ → Relay → State → Option Insn → List ℕ
+slip_at places context r s None = []
+slip_at places context r s (Some i) = slip places context r s (call_at s i)
 
 -- a call says in r0 that it set no place
 abbrev pub says_none : Helper → ℕ → Bool
@@ -126,9 +140,9 @@ says_none Honest r0 = r0 == 0
 says_none _ r0 = false
 
 -- the line, where a call said so, and left this number there
-abbrev pub where_said : Relay → ℕ → Option Call → List ℕ
-where_said r r0 None = []
-where_said r r0 (Some call) = if says_none call.helper r0 then note_of r call else []
+abbrev pub where_said : List (String Global) → Relay → ℕ → Option Call → List ℕ
+where_said places r r0 None = []
+where_said places r r0 (Some call) = if says_none call.helper r0 then note_of places r call else []
 
 -- ---- the run
 
@@ -139,14 +153,14 @@ followed rest words (Ask request t) = rest (next words request) (resumed request
 followed rest words (Exit r0 t) = []
 followed rest words (Trap cause) = []
 
-abbrev pub slips_at : List Insn → List ℕ → Relay → Rest → List ℕ → State → List ℕ
-slips_at program context r rest words s = slip_at context r s (instruction_at program s.unit) ++ followed rest words (step program context r s)
+abbrev pub slips_at : List (String Global) → List Insn → List ℕ → Relay → Rest → List ℕ → State → List ℕ
+slips_at places program context r rest words s = slip_at places context r s (instruction_at program s.unit) ++ followed rest words (step program context r s)
 
 -- those of at most so many steps from a state on, with a board of these words
-unfoldable pub slips_from : List Insn → List ℕ → Relay → ℕ → List ℕ → State → List ℕ
-slips_from program context r zero words s = []
-slips_from program context r (suc k) words s = slips_at program context r (λ left t. slips_from program context r k left t) words s
+unfoldable pub slips_from : List (String Global) → List Insn → List ℕ → Relay → ℕ → List ℕ → State → List ℕ
+slips_from places program context r zero words s = []
+slips_from places program context r (suc k) words s = slips_at places program context r (λ left t. slips_from places program context r k left t) words s
 
--- those of the whole run, with a board of these words: within as many steps as the program has instructions
-abbrev pub slips_on : List ℕ → List Insn → List ℕ → Relay → List ℕ
-slips_on words program context r = slips_from program context r (length program) words (entry (empty_outbox r))
+-- those of the whole run, with a board of these words, of a program with these places of its units: within as many steps as it has instructions
+abbrev pub slips_on : List (String Global) → List ℕ → List Insn → List ℕ → Relay → List ℕ
+slips_on places words program context r = slips_from places program context r (length program) words (entry (empty_outbox r))

@@ -2,7 +2,7 @@
 ghost use Rattle.std.specs.Prelude.{◌≡◌, ◌<◌, ◌∷◌, ◌++◌, List, ℕ, Some, length, slice_get, string_bytes, IfOk, OnOk};
 ghost use Rattle.label.specs.Relay.{IsShape, relay};
 ghost use Rattle.semantics.specs.Relay.{relayed};
-ghost use Rattle.tracing.specs.Slips.{name_of, note_of, reason_of, dotted, no_label, no_place, no_row, passed_over, past, unheard};
+ghost use Rattle.tracing.specs.Slips.{name_of, note_of, reason_of, dotted, in_brackets, no_label, no_place, no_row, passed_over, past, place_of, unheard, unit_told};
 
 use helper::Helper;
 use label::{Shape, Space, unrank};
@@ -19,20 +19,53 @@ pub struct Call {
     pub third: u64,
 }
 
-/// Adds the line of a call that puts nothing.
+/// Adds the line of a call that puts nothing, in a program with these places of its units.
 pub fn put_note(
     alloc: Global,
     out: &mut String,
+    places: &[String],
     outbox: &Outbox,
     call: Call,
 ) -> Result<(), AllocError>
-    ensures { OnOk result (string_bytes out.new ≡ string_bytes out.old ++ note_of outbox.now.relay call) }
+    ensures { OnOk result (string_bytes out.new ≡ string_bytes out.old ++ note_of places.now outbox.now.relay call) }
 {
-    let unit = call.unit;
     let name = name_of(call.helper);
-    write!(out, "note: at {unit}, {name} puts nothing: ")?;
+    out.push_str("note: at ")?;
+    put_unit(out, places, call.unit)?;
+    write!(out, ", {name} puts nothing: ")?;
     put_reason(alloc, out, outbox, call)?;
     out.push_str("\n")
+}
+
+/// Adds a unit and, where that is known, its place in the text that the program was written in.
+#[tactic(auto, unfolding(crate::specs::Slips::unit_told))]
+fn put_unit(out: &mut String, places: &[String], unit: usize) -> Result<(), AllocError>
+    ensures { OnOk result (string_bytes out.new ≡ string_bytes out.old ++ unit_told places.now unit) }
+{
+    write!(out, "{unit}")?;
+    put_in_brackets(out, place_of(places, unit))
+}
+
+/// The place of a unit, an empty text where it is not known.
+fn place_of(places: &[String], unit: usize) -> &str
+    ensures { result.now ≡ place_of (slice_get places.now unit) }
+{
+    match places.get(unit) {
+        Some(place) => place.as_str(),
+        None => "",
+    }
+}
+
+/// Adds a place in brackets, if it is not empty.
+fn put_in_brackets(out: &mut String, place: &str) -> Result<(), AllocError>
+    ensures { OnOk result (string_bytes out.new ≡ string_bytes out.old ++ in_brackets place.now) }
+{
+    if place.is_empty() {
+        return Ok(());
+    }
+    out.push_str(" (")?;
+    out.push_str(place)?;
+    out.push_str(")")
 }
 
 /// The name in assembly of a helper that puts orders.

@@ -24,7 +24,7 @@ use verify::Verified;
 
 /// A line for each call of `send`, `send_row`, `sway` or `honest` that puts nothing, with the reason, of the run of a program
 /// to its exit, in this context and with an outbox of this relay. The board that it asks is its own, and begins with these
-/// words.
+/// words. With its unit stands a call's place in the text that the program was written in, where `places` has it for the unit.
 ///
 /// # Errors
 ///
@@ -35,9 +35,10 @@ pub fn slips(
     context: &Context,
     shape: Shape,
     words: [u64; 64],
+    places: &[String],
 ) -> Result<String, AllocError>
     requires { IsShape shape }
-    ensures { IfOk result (λ text. string_bytes text ≡ slips_on words verified.now context.now (oral shape)) }
+    ensures { IfOk result (λ text. string_bytes text ≡ slips_on places.now words verified.now context.now (oral shape)) }
 {
     let mut text = String::new(alloc);
     let mut board = Board::new(alloc, words);
@@ -46,6 +47,7 @@ pub fn slips(
         if go_on(
             alloc,
             &mut text,
+            places,
             verified,
             context,
             shape,
@@ -61,6 +63,7 @@ pub fn slips(
 fn go_on(
     alloc: Global,
     out: &mut String,
+    places: &[String],
     verified: &Verified,
     context: &Context,
     shape: Shape,
@@ -73,10 +76,10 @@ fn go_on(
     ensures on { IfOk result (λ ended. ended ≡ false → IsOfRun verified.now context.now activation.new) }
     ensures counted { IfOk result (λ ended. ended ≡ false → activation.new.state.steps ≡ activation.old.state.steps + 1) }
     ensures told { IfOk result (λ ended. ended ≡ false → (rest : Rest) →
-        string_bytes out.old ++ slips_at verified.now context.now activation.old.relay rest board.old.words activation.old.state
+        string_bytes out.old ++ slips_at places.now verified.now context.now activation.old.relay rest board.old.words activation.old.state
         ≡ string_bytes out.new ++ rest board.new.words activation.new.state) }
     ensures ended { IfOk result (λ ended. ended ≡ true → (rest : Rest) →
-        string_bytes out.old ++ slips_at verified.now context.now activation.old.relay rest board.old.words activation.old.state
+        string_bytes out.old ++ slips_at places.now verified.now context.now activation.old.relay rest board.old.words activation.old.state
         ≡ string_bytes out.new) }
 {
     let program = verified.program();
@@ -88,7 +91,7 @@ fn go_on(
     let limit = activation.steps() + 1;
     match activation.run(verified, context, limit) {
         Stop::Limit => {
-            put_slip(alloc, out, activation, call)?;
+            put_slip(alloc, out, places, activation, call)?;
             Ok(false)
         }
         Stop::Asked(request) => {
@@ -167,16 +170,17 @@ fn says_none(helper: Helper, r0: u64) -> bool
 fn put_slip(
     alloc: Global,
     out: &mut String,
+    places: &[String],
     activation: &Activation,
     call: Option<Call>,
 ) -> Result<(), AllocError>
-    ensures { OnOk result (string_bytes out.new ≡ string_bytes out.old ++ where_said activation.now.relay (number_at activation.now.state 0) call) }
+    ensures { OnOk result (string_bytes out.new ≡ string_bytes out.old ++ where_said places.now activation.now.relay (number_at activation.now.state 0) call) }
 {
     let Some(call) = call else {
         return Ok(());
     };
     if says_none(call.helper, number_at(activation, 0)) {
-        put_note(alloc, out, activation.outbox(), call)?;
+        put_note(alloc, out, places, activation.outbox(), call)?;
     }
     Ok(())
 }

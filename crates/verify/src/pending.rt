@@ -1,6 +1,7 @@
 //! The states that are kept for units to come.
-ghost use Rattle.std.specs.Prelude.{◌≡◌, ◌<◌, None, [], length, replicate, slice_set, pos, IfOk};
-ghost use Rattle.verify.specs.Judgement.{reached_at, joined_with, along};
+ghost use Rattle.std.specs.Prelude.{◌≡◌, ◌<◌, Some, None, [], length, replicate, slice_set, pos, IfOk};
+ghost use Rattle.verify.specs.Knowledge.{met};
+ghost use Rattle.verify.specs.Judgement.{reached_at, along};
 ghost use Rattle.verify.specs.Kept.{unboxed};
 
 use crate::state::AbsState;
@@ -76,24 +77,25 @@ pub fn kept(pending: &Pending, unit: usize) -> Option<AbsState>
     }
 }
 
-/// A state with what is kept already.
-#[inline(never)]
-fn joined(kept: &Option<Box<AbsState>>, mut state: Box<AbsState>) -> Box<AbsState>
-    ensures { result.value ≡ joined_with (unboxed kept.now) state.value }
+/// Keeps a state for a unit.
+#[inline(always)]
+fn keep(pending: &mut Pending, unit: usize, state: Box<AbsState>)
+    requires { unit < length pending.old.items }
+    ensures { pending.new.items ≡ slice_set pending.old.items unit (Some state.value) }
 {
-    if let Some(other) = kept {
-        state.join(other);
-    }
-    state
+    pending.states[unit] = Some(state);
 }
 
-/// Keeps a box that no unit needs any more, if it is one, for the next state.
-fn set_aside(pending: &mut Pending, left: Option<Box<AbsState>>)
-    ensures { pending.new.items ≡ pending.old.items }
+/// Keeps for a unit what a state and the one that was kept there both know. The box of that one is set aside for the
+/// next state.
+#[inline(never)]
+fn keep_joined(pending: &mut Pending, unit: usize, mut state: Box<AbsState>, before: Box<AbsState>)
+    requires { unit < length pending.old.items }
+    ensures { pending.new.items ≡ slice_set pending.old.items unit (Some (met state.value before.value)) }
 {
-    if left.is_some() {
-        pending.spare = left;
-    }
+    state.join(&before);
+    keep(pending, unit, state);
+    pending.spare = Some(before);
 }
 
 /// The same state once more, in the box that no unit needs any more, else in a new one.
@@ -118,7 +120,8 @@ pub fn flow(pending: &mut Pending, unit: usize, state: Box<AbsState>)
     requires { unit < length pending.old.items }
     ensures { pending.new.items ≡ along (pos unit, state.value) pending.old.items }
 {
-    let kept = take(pending, unit);
-    pending.states[unit] = Some(joined(&kept, state));
-    set_aside(pending, kept);
+    match take(pending, unit) {
+        Some(before) => keep_joined(pending, unit, state, before),
+        None => keep(pending, unit, state),
+    }
 }

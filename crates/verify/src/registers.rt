@@ -105,19 +105,7 @@ fn is_pointer(value: &AbsVal, region: Region, offsets: Offsets) -> bool
 pub fn assign(registers: &mut [AbsVal; 11], other: &[AbsVal; 11])
     ensures { registers.new ≡ other.now }
 {
-    for i in 0..11 {
-        assign_one(&mut registers[i], &other[i]);
-    }
-}
-
-/// The same of one register: where nothing is known, only that is written.
-fn assign_one(register: &mut AbsVal, other: &AbsVal)
-    ensures { register.new ≡ other.now }
-{
-    match other {
-        AbsVal::Unset => *register = AbsVal::Unset,
-        _ => *register = *other,
-    }
+    registers.copy_from_slice(other);
 }
 
 /// The same registers once more.

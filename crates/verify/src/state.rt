@@ -30,6 +30,7 @@ impl AbsState {
     }
 
     /// The same once more.
+    #[inline(never)]
     pub fn copy(&self) -> AbsState
         ensures { result ≡ self.now }
     {

@@ -1,6 +1,6 @@
 -- What is told is a report with a sentence, whose place lies within the file.
-use Rattle.std.proofs.Common.{ℕ, ◌≡◌, ◌≢◌, ◌+◌, ◌-◌, ◌^◌, List, [], ◌∷◌, Bool, true, false, cond, codes, arith, refl, subst, sym, take}
-use Rattle.std.specs.Prelude.{Option, None, Some, IfSome, nat_lt, option_and_then, option_map}
+use Rattle.std.proofs.Common.{ℕ, ◌≡◌, ◌≢◌, ◌+◌, ◌-◌, ◌^◌, ◌⊎◌, inl, inr, List, [], ◌∷◌, Bool, true, false, ◌==◌, cond, codes, arith, drop, length, refl, subst, sym, take}
+use Rattle.std.specs.Prelude.{Option, None, Some, IfSome, if◌then◌else◌, nat_le, nat_lt, option_and_then, option_map}
 use Rattle.std.specs.Str.{IsUtf8}
 use Rattle.asm.specs.declared.fault.Fault.{Fault as AsmFault}
 use Rattle.codec.specs.declared.fault.Fault.{Fault as CodecFault}
@@ -9,7 +9,10 @@ use Rattle.book.specs.declared.fault.Fault.{Fault as TableFault}
 use Rattle.hex.specs.Hex.{encode_lower}
 use Rattle.trace.specs.declared.fault.Fault.{Fault as TraceFault}
 use Rattle.scenario.specs.declared.fault.Fault.{Fault as ScenarioFault}
+use Rattle.references.specs.Origins.{seat}
 use Rattle.scenario.specs.Names.{text_of}
+use Rattle.scenario.specs.Sources.{source_by}
+use Rattle.scenario.specs.Tables.{Source, Assembly, Hex}
 use Rattle.scenario.specs.declared.place.Place.{Place}
 use Rattle.scenario.specs.declared.place.Place.TheVariants as places
 use Rattle.scenario.specs.declared.fault.ProgramFault.{ProgramFault}
@@ -20,20 +23,24 @@ use Rattle.trial.specs.declared.place.Place.{Place as SettingPlace}
 use Rattle.trial.specs.declared.fault.Fault.{Fault as SettingFault}
 use Rattle.trial.specs.declared.fault.SettingError.{SettingError}
 use Rattle.trial.specs.declared.fault.SettingError.TheVariants as setting
+use Rattle.toml.specs.Data.{Members}
 use Rattle.toml.specs.Parse.{parse_document}
-use Rattle.why.specs.Assembly.{assembly_told, line_told}
+use Rattle.verify.specs.declared.reason.Reason.{Reason}
+use Rattle.why.specs.Assembly.{Spot, assembly_told, line_told, unit_mark, whole}
 use Rattle.why.specs.Bytecode.{bytecode_told, unit_at, unit_marked}
 use Rattle.why.specs.Chronicles.{chronicle_line_told, chronicle_told, schedule_line_told, schedule_told}
 use Rattle.why.specs.Errors.{ReportsScenario, TellsSetting}
 use Rattle.why.specs.Keys.{Found, entry_line, found, header, table_of, value_end}
-use Rattle.why.specs.Laws.{IsInText, IsInUnit, IsReport, RefusalsAreTold}
-use Rattle.why.specs.Lines.{line_at}
+use Rattle.why.specs.Laws.{IsInText, IsInUnit, IsReport, IsReportOfFile, RefusalsAreTold}
+use Rattle.why.specs.Lines.{line_at, trimmed}
+use Rattle.why.specs.Made.{IsRefusedFile, IsRefusedTold, ReportsMade, ReportsProgram, asm_told, assembly_of, bytes_shown, code_shown, file_key_shown, file_shown, file_told, line_shown, own_line, own_mark, own_place_told, own_word, unit_told}
 use Rattle.why.specs.Messages.{stranger_line_told, stranger_told, table_line_told, table_told}
+use Rattle.why.specs.Nearest.{near}
 use Rattle.why.specs.Report.{Mark, report_text}
-use Rattle.why.specs.Scenarios.{at_end_told, at_line_told, code_line_told, is_long, line_behind, place_mark, place_told, program_line, program_told, source_line, text_told, entry_key_told, top_key_told, unknown_told}
+use Rattle.why.specs.Scenarios.{IsProgramTold, IsRefusedAt, before_quote, behind_feeds, bytecode_shown, code_line_told, end_spot, is_long, line_behind, line_spot, long_spot, place_mark, place_told, program_line, source_line, source_shown, short_spot, spot_in, spot_told, text_told, entry_key_told, entry_keys, is_itself, top_key_told, unknown_told}
 use Rattle.why.specs.Settings.{setting_place_told, setting_unknown_told, setting_word}
 use Rattle.why.specs.Toml.{TellsToml, span_marked}
-use Rattle.why.proofs.PlaceLemmas.{entry-at, found-at, found-in, marked-in, or-at}
+use Rattle.why.proofs.PlaceLemmas.{entry-at, found-at, found-in, marked-in, or-at, shown-in}
 use Rattle.why.proofs.SayingLemmas.{assembly-says, chronicle-says, muster-says, object-says, place-says, setting-says, table-says, unit-says}
 
 -- a report by its parts
@@ -91,14 +98,14 @@ chronicle_report name text f number wanted = chronicle_line name text _ f number
 
 -- ---- bytecode
 
-unit-in : (bytes : List ℕ) (f : CodecFault) (unit : ℕ) (digits : List ℕ) → encode_lower (unit_at bytes unit) ≡ digits → IfSome (unit_marked f unit digits) (IsInUnit bytes)
-unit-in bytes codec.Count unit digits is = tt
-unit-in bytes f unit [] is = tt
-unit-in bytes f unit (d ∷ ds) is = record { unit = sym is; some = λ e. cc; part = omega arith }
+digits-in : (bytes : List ℕ) (f : CodecFault) (unit : ℕ) (digits : List ℕ) → encode_lower (unit_at bytes unit) ≡ digits → IfSome (unit_marked f unit digits) (IsInUnit bytes)
+digits-in bytes codec.Count unit digits is = tt
+digits-in bytes f unit [] is = tt
+digits-in bytes f unit (d ∷ ds) is = record { unit = sym is; some = λ e. cc; part = omega arith }
 
 bytecode_report : (name bytes : List ℕ) (f : CodecFault) (unit : ℕ) → IsReport (IsInUnit bytes) name (bytecode_told name bytes f unit)
 unfolding bytecode_told
-bytecode_report name bytes f unit = report (IsInUnit bytes) name _ _ _ (unit-says f _) (unit-in bytes f unit (encode_lower (unit_at bytes unit)) refl)
+bytecode_report name bytes f unit = report (IsInUnit bytes) name _ _ _ (unit-says f _) (digits-in bytes f unit (encode_lower (unit_at bytes unit)) refl)
 
 -- ---- texts that are no TOML
 
@@ -119,41 +126,85 @@ at-program general word text f is = at-table (table_of general text) word text f
   at-table None word text f is = absurd cc
   at-table (Some table) word text f is = found-at table word text f is
 
-at_line_report : (name text : List ℕ) (f : AsmFault) (quote : List ℕ) (first more : ℕ) → IsReport (IsInText text) name (at_line_told name f quote (line_behind text first more))
-unfolding line_behind
-at_line_report name text f quote first more = within (nat_lt (first + more) (2 ^ 64)) where
-  by-line : (line : Option (List ℕ)) → line_at text (first + more) ≡ line → IsReport (IsInText text) name (at_line_told name f quote (option_map (λ line. (first + more, line)) line))
-  by-line None is = report (IsInText text) name _ _ _ (assembly-says f _) tt
-  by-line (Some line) is = report (IsInText text) name _ _ _ (assembly-says f _) (marked-in text line (first + more) _ _ is)
+-- a line of the program stands in a line of the text
+abbrev IsSpot : List ℕ → Spot → Type 0
+IsSpot text s = line_at text s.number ≡ Some s.shown
 
-  within : (b : Bool) → IsReport (IsInText text) name (at_line_told name f quote (cond b (option_map (λ line. (first + more, line)) (line_at text (first + more))) None))
+if-some : {A : Type 0} (P : A → Type 0) (b : Bool) (o p : Option A) → IfSome o P → IfSome p P → IfSome (cond b o p) P
+if-some P true o p h k = h
+if-some P false o p h k = k
+
+behind-at : (text quote : List ℕ) (first more : ℕ) → IfSome (option_map (line_spot quote) (line_behind text first more)) (IsSpot text)
+unfolding line_behind
+behind-at text quote first more = within (nat_lt (first + more) (2 ^ 64)) where
+  by-line : (line : Option (List ℕ)) → line_at text (first + more) ≡ line → IfSome (option_map (line_spot quote) (option_map (λ line. (first + more, line)) line)) (IsSpot text)
+  by-line None is = tt
+  by-line (Some line) is = is
+
+  within : (b : Bool) → IfSome (option_map (line_spot quote) (cond b (option_map (λ line. (first + more, line)) (line_at text (first + more))) None)) (IsSpot text)
   within true = by-line (line_at text (first + more)) refl
-  within false = report (IsInText text) name _ _ _ (assembly-says f _) tt
+  within false = tt
+
+long-at : (text : List ℕ) (number : ℕ) (line : Found) (quote rest : List ℕ) → line_at text line.number ≡ Some line.line
+    → IfSome (long_spot text number line quote rest) (IsSpot text)
+long-at text number line quote rest at =
+    let behind : ℕ → Option Spot = λ more. option_map (line_spot quote) (line_behind text line.number more) in
+    let here : Option Spot = Some (end_spot line rest (before_quote quote rest)) in
+    if-some (IsSpot text) (length (trimmed rest) == 0) (behind number) (cond (nat_le number 1) here (behind (number - 1)))
+    (behind-at text quote line.number number)
+    (if-some (IsSpot text) (nat_le number 1) here (behind (number - 1)) at (behind-at text quote line.number (number - 1)))
+
+spot-at : (text : List ℕ) (number : ℕ) (line : Found) → line_at text line.number ≡ Some line.line → IfSome (spot_in text number line) (IsSpot text)
+spot-at text number line at =
+    let value : List ℕ = value_end line.line in
+    if-some (IsSpot text) (is_long value) (long_spot text number line (take 3 value) (drop 3 value)) (Some (short_spot line (take 1 value) (behind_feeds (number - 1) (drop 1 value))))
+    (long-at text number line (take 3 value) (drop 3 value) at) at
+
+spots-at : (text : List ℕ) (number : ℕ) (line : Option Found) → ((g : Found) → line ≡ Some g → line_at text g.number ≡ Some g.line)
+    → IfSome (option_and_then (spot_in text number) line) (IsSpot text)
+spots-at text number None at = tt
+spots-at text number (Some line) at = spot-at text number line (at line refl)
+
+spot_report : (name text : List ℕ) (f : AsmFault) (spot : Option Spot) → IfSome spot (IsSpot text) → IsReport (IsInText text) name (spot_told name f spot)
+spot_report name text f None at = report (IsInText text) name _ _ _ (assembly-says f _) tt
+spot_report name text f (Some s) at = report (IsInText text) name _ _ _ (assembly-says f _) (marked-in text s.shown s.number _ _ at)
 
 text_report : (name text : List ℕ) (f : AsmFault) (number : ℕ) (line : Option Found) → ((g : Found) → line ≡ Some g → line_at text g.number ≡ Some g.line)
     → IsReport (IsInText text) name (text_told name text f number line)
-text_report name text f number None at = report (IsInText text) name _ _ _ (assembly-says f _) tt
-text_report name text f number (Some line) at =
-    let here : (end code : List ℕ) → IsReport (IsInText text) name (at_end_told name f line end code) =
-    λ end code. report (IsInText text) name _ _ _ (assembly-says f _) (marked-in text line.line line.number _ _ (at line refl)) in
-    if-report (IsInText text) name (is_long (value_end line.line)) _ _
-    (if-report (IsInText text) name _ _ _ (at_line_report name text f _ line.number number)
-    (if-report (IsInText text) name _ _ _ (here _ _) (at_line_report name text f _ line.number (number - 1))))
-    (here _ _)
+text_report name text f number line at = spot_report name text f _ (spots-at text number line at)
 
 code_report : (name text : List ℕ) (f : CodecFault) (unit : ℕ) (line : Option Found) → ((g : Found) → line ≡ Some g → line_at text g.number ≡ Some g.line)
     → IsReport (IsInText text) name (code_line_told name f unit line)
 code_report name text f unit None at = report (IsInText text) name _ _ _ (unit-says f _) tt
 code_report name text f unit (Some line) at = report (IsInText text) name _ _ _ (unit-says f _) (marked-in text line.line line.number _ _ (at line refl))
 
-program_report : (name text : List ℕ) (general : ℕ) (f : ProgramFault) → IsReport (IsInText text) name (program_told name text general f)
-program_report name text general (programs.Asm f number) = text_report name text f number _ (at-program general (codes "asm") text)
-program_report name text general programs.Hex =
-    report (IsInText text) name _ _ _ (λ e. cc) (found-in text true (codes "code") _ (at-program general (codes "code") text))
-program_report name text general (programs.Code f unit) = code_report name text f unit _ (at-program general (codes "code") text)
-program_report name text general (programs.Verifier reason unit) =
-    report (IsInText text) name _ _ _ (λ e. cc)
-    (found-in text false (codes "asm") (source_line general text) (or-at text _ _ (at-program general (codes "asm") text) (at-program general (codes "code") text)))
+-- the statement of a line of the program
+unit-in : (text : List ℕ) (spot : Option Spot) → IfSome spot (IsSpot text) → IfSome (option_map unit_mark spot) (IsInText text)
+unit-in text None at = tt
+unit-in text (Some s) at = marked-in text s.shown s.number _ _ at
+
+source-in : (text : List ℕ) (general : ℕ) → IfSome (source_shown general text) (IsInText text)
+source-in text general =
+    found-in text false (codes "asm") (source_line general text) (or-at text _ _ (at-program general (codes "asm") text) (at-program general (codes "code") text))
+
+bytecode-in : (text : List ℕ) (general : ℕ) → IfSome (bytecode_shown general text) (IsInText text)
+bytecode-in text general = found-in text false (codes "code") (program_line general (codes "code") text) (at-program general (codes "code") text)
+
+refused-in : (text : List ℕ) (general unit : ℕ) (source : Option Source) (mark : Option Mark) → IsRefusedAt text general unit source mark → IfSome mark (IsInText text)
+refused-in text general unit None mark is = subst (λ m. IfSome m (IsInText text)) (sym is) (source-in text general)
+refused-in text general unit (Some (Hex digits)) mark is = subst (λ m. IfSome m (IsInText text)) (sym is) (bytecode-in text general)
+refused-in text general unit (Some (Assembly asm)) mark (number, line, is) =
+    subst (λ m. IfSome m (IsInText text)) (sym is) (unit-in text _ (spots-at text number _ (at-program general (codes "asm") text)))
+
+program_report : (name text told : List ℕ) (general : ℕ) (f : ProgramFault) → IsProgramTold name text general f told → IsReport (IsInText text) name told
+program_report name text told general (programs.Asm f number) tells =
+    subst (IsReport (IsInText text) name) (sym tells) (text_report name text f number _ (at-program general (codes "asm") text))
+program_report name text told general programs.Hex tells =
+    subst (IsReport (IsInText text) name) (sym tells) (report (IsInText text) name _ _ _ (λ e. cc) (found-in text true (codes "code") _ (at-program general (codes "code") text)))
+program_report name text told general (programs.Code f unit) tells =
+    subst (IsReport (IsInText text) name) (sym tells) (code_report name text f unit _ (at-program general (codes "code") text))
+program_report name text told general (programs.Verifier reason unit) (members, document, (mark, at, is)) =
+    subst (IsReport (IsInText text) name) (sym is) (report (IsInText text) name _ _ _ (λ e. cc) (refused-in text general unit _ mark at))
 
 -- ---- scenarios
 
@@ -167,18 +218,131 @@ place_report : (name text : List ℕ) (f : ScenarioFault) (place : Place) → Is
 unfolding place_told
 place_report name text f place = report (IsInText text) name _ _ _ (place-says f place) (place-in text f place)
 
+entry-says : (b : Bool)
+    → (if b then codes "this key does not go with the table's others: a table has one program, and `general` or `generals`; `generals` is a list, a file's name a text, and `entry` goes with `elf`"
+    else codes "a traitor's table has no such key") ≢ []
+entry-says true e = cc
+entry-says false e = cc
+
 unknown_report : (name text : List ℕ) (at : Option ℕ) (key : List ℕ) → IsReport (IsInText text) name (unknown_told name text at key)
 unfolding top_key_told entry_key_told
 unknown_report name text None key = report (IsInText text) name _ _ _ (λ e. cc) (found-in text false key _ (found-at 0 key text))
-unknown_report name text (Some index) key = report (IsInText text) name _ _ _ (λ e. cc) (found-in text false key _ (entry-at index key text))
+unknown_report name text (Some index) key = report (IsInText text) name _ _ _ (entry-says (is_itself (near key entry_keys) key)) (found-in text false key _ (entry-at index key text))
 
 scenario_report : (name text told : List ℕ) (error : ScenarioError) → (error ≡ scenario.Toml → IsUtf8 text × (parse_document text ≡ None))
     → ReportsScenario name text error told → IsReport (IsInText text) name told
 scenario_report name text told scenario.Toml none tells = toml_report name text told (none refl) tells
 scenario_report name text told (scenario.Unknown at key) none tells = subst (IsReport (IsInText text) name) (sym tells) (unknown_report name text at _)
 scenario_report name text told (scenario.At f place) none tells = subst (IsReport (IsInText text) name) (sym tells) (place_report name text f place)
-scenario_report name text told (scenario.Program general f) none tells = subst (IsReport (IsInText text) name) (sym tells) (program_report name text general f)
+scenario_report name text told (scenario.Program general f) none tells = program_report name text told general f tells
 scenario_report name text told scenario.Memory none tells = subst (IsReport (IsInText text) name) (sym tells) (report (IsInText text) name _ _ _ (λ e. cc) tt)
+
+-- ---- scenarios that name files
+
+own-at : (table : Option ℕ) (word own : List ℕ) (f : Found) → own_line table word own ≡ Some f → line_at own f.number ≡ Some f.line
+own-at None word own f is = absurd cc
+own-at (Some index) word own f is = found-at (index + 1) word own f is
+
+own-in : (own : List ℕ) (f : ScenarioFault) (place : Place) → IfSome (own_mark f place own) (IsInText own)
+unfolding own_mark
+own-in own f (places.Key name) = place-in own f (places.Key name)
+own-in own f (places.Word index) = place-in own f (places.Word index)
+own-in own f (places.Table index) = place-in own f (places.Table index)
+own-in own f (places.Entry index name) =
+    let word : List ℕ = own_word index name own in
+    found-in own _ word (entry_line index word own) (entry-at index word own)
+
+own_place_report : (name own : List ℕ) (f : ScenarioFault) (place : Place) → IsReport (IsInText own) name (own_place_told name own f place)
+unfolding own_place_told
+own_place_report name own f place = report (IsInText own) name _ _ _ (place-says f place) (own-in own f place)
+
+-- the key by which a table names a file, or an object
+key-in : (own : List ℕ) (file object : Option Found) → ((g : Found) → file ≡ Some g → line_at own g.number ≡ Some g.line)
+    → ((g : Found) → object ≡ Some g → line_at own g.number ≡ Some g.line) → IfSome (file_key_shown file object) (IsInText own)
+key-in own None object h k = found-in own true (codes "elf") object k
+key-in own (Some f) object h k = shown-in own true (codes "code_file") f (h f refl)
+
+bytes-in : (table : Option ℕ) (own : List ℕ) → IfSome (bytes_shown table own) (IsInText own)
+bytes-in table own = key-in own _ _ (own-at table (codes "code_file") own) (own-at table (codes "elf") own)
+
+code-in : (table : Option ℕ) (own : List ℕ) (line : Option Found) → ((g : Found) → line ≡ Some g → line_at own g.number ≡ Some g.line)
+    → IfSome (code_shown table own line) (IsInText own)
+code-in table own None at = bytes-in table own
+code-in table own (Some line) at = shown-in own false (codes "code") line (at line refl)
+
+-- a report of the own text, or of the file that this key names, whose assembly this is
+abbrev IsOfEither : List ℕ → List ℕ → Option Source → Option Found → List ℕ → Type 0
+IsOfEither name own source file told = IsReport (IsInText own) name told ⊎ ((key : Found) × (file ≡ Some key) × IsReport (IsInText (assembly_of source)) (file_shown key) told)
+
+file_report : (name own : List ℕ) (f : AsmFault) (number : ℕ) (source : Option Source) (file : Option Found) → IsOfEither name own source file (file_told name f number source file)
+file_report name own f number source None = inl (report (IsInText own) name _ _ _ (assembly-says f []) tt)
+file_report name own f number source (Some key) = inr (key, refl, assembly_report (file_shown key) (assembly_of source) f number)
+
+asm_report : (name own : List ℕ) (f : AsmFault) (number : ℕ) (source : Option Source) (table : Option ℕ) (line : Option Found)
+    → ((g : Found) → line ≡ Some g → line_at own g.number ≡ Some g.line)
+    → IsOfEither name own source (own_line table (codes "asm_file") own) (asm_told name own f number source table line)
+asm_report name own f number source table None at = file_report name own f number source (own_line table (codes "asm_file") own)
+asm_report name own f number source table (Some line) at = inl (text_report name own f number (Some line) at)
+
+unit_report : (name own : List ℕ) (f : CodecFault) (unit : ℕ) (source : Option Source) (table : Option ℕ) (line : Option Found)
+    → ((g : Found) → line ≡ Some g → line_at own g.number ≡ Some g.line) → IsReport (IsInText own) name (unit_told name own f unit source table line)
+unit_report name own f unit source table None at = report (IsInText own) name _ _ _ (unit-says f _) (bytes-in table own)
+unit_report name own f unit source table (Some line) at = code_report name own f unit (Some line) at
+
+line-in : (text : List ℕ) (number : ℕ) → IfSome (line_shown text number) (IsInText text)
+line-in text number = by-line (line_at text number) refl where
+  by-line : (line : Option (List ℕ)) → line_at text number ≡ line → IfSome (option_map (λ line. unit_mark (whole number line)) line) (IsInText text)
+  by-line None is = tt
+  by-line (Some line) is = marked-in text line number _ _ is
+
+refused_file_report : (name own told : List ℕ) (reason : Reason) (unit : ℕ) (source : Option Source) (table : Option ℕ) (file : Option Found)
+    → IsRefusedFile name own reason unit source table file told → IsOfEither name own source file told
+refused_file_report name own told reason unit source table None is =
+    inl
+    (subst (IsReport (IsInText own) name) (sym is)
+    (report (IsInText own) name _ _ _ (λ e. cc) (code-in table own (own_line table (codes "code") own) (own-at table (codes "code") own))))
+refused_file_report name own told reason unit source table (Some key) (number, line, is) =
+    let asm : List ℕ = assembly_of source in
+    inr (key, refl, subst (IsReport (IsInText asm) (file_shown key)) (sym is) (report (IsInText asm) (file_shown key) _ _ _ (λ e. cc) (line-in asm number)))
+
+refused_report : (name own told : List ℕ) (reason : Reason) (unit : ℕ) (source : Option Source) (table : Option ℕ) (line : Option Found)
+    → ((g : Found) → line ≡ Some g → line_at own g.number ≡ Some g.line) → IsRefusedTold name own reason unit source table line told
+    → IsOfEither name own source (own_line table (codes "asm_file") own) told
+refused_report name own told reason unit source table None at is = refused_file_report name own told reason unit source table (own_line table (codes "asm_file") own) is
+refused_report name own told reason unit source table (Some line) at (mark, (number, of_unit, shown), is) =
+    let within : IfSome mark (IsInText own) = subst (λ m. IfSome m (IsInText own)) (sym shown) (unit-in own _ (spots-at own number (Some line) at)) in
+    inl (subst (IsReport (IsInText own) name) (sym is) (report (IsInText own) name _ _ _ (λ e. cc) within))
+
+made_program_report : (name own told : List ℕ) (source : Option Source) (table : Option ℕ) (f : ProgramFault) → ReportsProgram name own source table f told
+    → IsOfEither name own source (own_line table (codes "asm_file") own) told
+made_program_report name own told source table (programs.Asm f number) is =
+    subst (IsOfEither name own source (own_line table (codes "asm_file") own)) (sym is)
+    (asm_report name own f number source table (own_line table (codes "asm") own) (own-at table (codes "asm") own))
+made_program_report name own told source table programs.Hex is =
+    inl
+    (subst (IsReport (IsInText own) name) (sym is)
+    (report (IsInText own) name _ _ _ (λ e. cc) (found-in own true (codes "code") _ (own-at table (codes "code") own))))
+made_program_report name own told source table (programs.Code f unit) is =
+    inl
+    (subst (IsReport (IsInText own) name) (sym is)
+    (unit_report name own f unit source table (own_line table (codes "code") own) (own-at table (codes "code") own)))
+made_program_report name own told source table (programs.Verifier reason unit) is =
+    refused_report name own told reason unit source table (own_line table (codes "asm") own) (own-at table (codes "asm") own) is
+
+of-either : (name own told : List ℕ) (made : Option Members) (general : ℕ) (f : ProgramFault)
+    → IsOfEither name own (option_and_then (source_by general) made) (own_line (seat general (parse_document own)) (codes "asm_file") own) told
+    → IsReport (IsInText own) name told ⊎ IsReportOfFile own made (scenario.Program general f) told
+of-either name own told made general f (inl h) = inl h
+of-either name own told made general f (inr (key, named, h)) = inr (record { general = general; fault = f; key = key; program = refl; named = named; report = h })
+
+made_report : (name own told : List ℕ) (made : Option Members) (error : ScenarioError) → (error ≡ scenario.Toml → IsUtf8 own × (parse_document own ≡ None))
+    → ReportsMade name own made error told → IsReport (IsInText own) name told ⊎ IsReportOfFile own made error told
+made_report name own told made scenario.Toml none tells = inl (toml_report name own told (none refl) tells)
+made_report name own told made (scenario.Unknown at key) none tells = inl (subst (IsReport (IsInText own) name) (sym tells) (unknown_report name own _ _))
+made_report name own told made (scenario.At f place) none tells = inl (subst (IsReport (IsInText own) name) (sym tells) (own_place_report name own f _))
+made_report name own told made (scenario.Program general f) none tells =
+    of-either name own told made general f (made_program_report name own told (option_and_then (source_by general) made) (seat general (parse_document own)) f tells)
+made_report name own told made scenario.Memory none tells = inl (subst (IsReport (IsInText own) name) (sym tells) (report (IsInText own) name _ _ _ (λ e. cc) tt))
 
 -- ---- settings
 
@@ -212,5 +376,6 @@ told = record {
   object = object-says;
   muster = muster-says;
   scenario = scenario_report;
+  files = made_report;
   setting = setting_report;
 }

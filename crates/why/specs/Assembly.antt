@@ -8,6 +8,7 @@ use Rattle.text.specs.Parts.{before, from, pieces, until}
 use Rattle.asm.specs.Helper.{helpers}
 use Rattle.asm.specs.declared.fault.Fault.{Fault}
 use Rattle.asm.specs.declared.fault.Fault.TheVariants as fault
+use Rattle.why.specs.declared.assembly.Spot.{Spot as Held}
 use Rattle.why.specs.declared.mnemonics.Takes.{Takes}
 use Rattle.why.specs.declared.mnemonics.Takes.TheVariants as takes
 use Rattle.why.specs.Lines.{line_at, marked, trimmed}
@@ -92,9 +93,32 @@ behind_front line part = (length (trimmed (before semicolon line)) - length part
 unfoldable pub place_in : Fault → List ℕ → ℕ × ℕ
 place_in f line = behind_front line (part_of f (code_in line))
 
--- the part, marked in a line behind the front of another, which is empty where the line is one of the file
-abbrev pub assembly_mark : Fault → ℕ → List ℕ → ℕ → List ℕ → Mark
-assembly_mark f number shown front line = marked number shown (front + (place_in f line).0) (place_in f line).1
+-- the same of the statement
+unfoldable pub statement_place : List ℕ → ℕ × ℕ
+statement_place line = behind_front line (all_of (statement_in (code_in line)))
+
+-- a line of code where it stands: in this line of the file, behind so many bytes of it
+pub record Spot : Type 0 where
+  pub number : ℕ
+  pub shown : List ℕ
+  pub front : ℕ
+  pub code : List ℕ
+
+-- the code's own spot, seen so
+abbrev pub spot_view : Held → Spot
+spot_view s = record { number = s.number; shown = s.shown.now; front = length s.front.now; code = s.code.now }
+
+-- all of a line of the file
+abbrev pub whole : ℕ → List ℕ → Spot
+whole number line = record { number = number; shown = line; front = 0; code = line }
+
+-- a part of the code, marked in the line of the file
+abbrev pub spot_mark : Spot → ℕ × ℕ → Mark
+spot_mark s part = marked s.number (trimmed s.shown) (s.front + part.0) part.1
+
+-- its statement
+abbrev pub unit_mark : Spot → Mark
+unit_mark s = spot_mark s (statement_place s.code)
 
 -- ---- the sentence
 
@@ -175,14 +199,14 @@ assembly_advice _ number line code = None
 
 -- ---- all of it
 
--- of a fault in a line of code, which stands in a line of the file with this name, behind so many bytes of it
-abbrev pub code_told : List ℕ → Fault → ℕ → List ℕ → ℕ → List ℕ → List ℕ
-code_told name f number shown front line =
-    report_text name (assembly_sentence f (code_in line)) (Some (assembly_mark f number (trimmed shown) front line)) (assembly_advice f number line (code_in line))
+-- of a fault in a line of code, which stands here in the file with this name
+abbrev pub code_told : List ℕ → Fault → Spot → List ℕ
+code_told name f s =
+    report_text name (assembly_sentence f (code_in s.code)) (Some (spot_mark s (place_in f s.code))) (assembly_advice f s.number s.code (code_in s.code))
 
 abbrev pub line_told : List ℕ → Fault → ℕ → Option (List ℕ) → List ℕ
 line_told name f number None = report_text name (assembly_sentence f []) None None
-line_told name f number (Some line) = code_told name f number line 0 line
+line_told name f number (Some line) = code_told name f (whole number line)
 
 -- of a fault at a line of the text of a file with this name
 unfoldable pub assembly_told : List ℕ → List ℕ → Fault → ℕ → List ℕ

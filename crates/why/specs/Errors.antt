@@ -6,7 +6,7 @@ use Rattle.trial.specs.declared.fault.SettingError.{SettingError}
 use Rattle.trial.specs.declared.fault.SettingError.TheVariants as setting
 use Rattle.why.specs.Judged.{IsJudged, judged_of}
 use Rattle.why.specs.Report.{report_text}
-use Rattle.why.specs.Scenarios.{place_told, program_told, unknown_told}
+use Rattle.why.specs.Scenarios.{IsProgramTold, place_told, unknown_told}
 use Rattle.why.specs.Settings.{setting_place_told, setting_unknown_told}
 use Rattle.why.specs.Toml.{TellsToml}
 
@@ -18,7 +18,7 @@ abbrev pub ReportsScenario : List ℕ → List ℕ → ScenarioError → List �
 ReportsScenario name text scenario.Toml told = TellsToml name text told
 ReportsScenario name text (scenario.Unknown at key) told = told ≡ unknown_told name text at (string_bytes key)
 ReportsScenario name text (scenario.At fault place) told = told ≡ place_told name text fault place
-ReportsScenario name text (scenario.Program general fault) told = told ≡ program_told name text general fault
+ReportsScenario name text (scenario.Program general fault) told = IsProgramTold name text general fault told
 ReportsScenario name text scenario.Memory told = told ≡ memory_told name
 
 -- the text behind the line of a scenario's error: the report, and of a program that the verifier refuses its explanation

@@ -1,21 +1,27 @@
 -- The law of what is said: each refusal has a sentence, and the place that is told lies within the file.
-use Rattle.std.specs.Prelude.{ℕ, ◌≡◌, ◌≢◌, ◌+◌, ◌≤◌, List, [], Option, None, IfSome, length, take, unwrap_or}
+use Rattle.std.specs.Prelude.{ℕ, ◌≡◌, ◌≢◌, ◌⊎◌, ◌+◌, ◌≤◌, List, [], Option, None, Some, IfSome, codes, length, option_and_then, take, unwrap_or}
 use Rattle.hex.specs.Hex.{encode_lower}
 use Rattle.asm.specs.declared.fault.Fault.{Fault as AsmFault}
 use Rattle.codec.specs.declared.fault.Fault.{Fault as CodecFault}
 use Rattle.book.specs.declared.fault.Fault.{Fault as TableFault}
 use Rattle.trace.specs.declared.fault.Fault.{Fault as TraceFault}
+use Rattle.references.specs.Origins.{seat}
+use Rattle.scenario.specs.Sources.{source_by}
+use Rattle.scenario.specs.declared.fault.ProgramFault.{ProgramFault}
 use Rattle.scenario.specs.declared.fault.ScenarioError.{ScenarioError}
-use Rattle.scenario.specs.declared.fault.ScenarioError.TheVariants as scenario
+use Rattle.scenario.specs.declared.fault.ScenarioError.TheVariants as errors
 use Rattle.trial.specs.declared.fault.SettingError.{SettingError}
 use Rattle.trial.specs.declared.fault.SettingError.TheVariants as setting
 use Rattle.std.specs.Str.{IsUtf8}
+use Rattle.toml.specs.Data.{Members}
 use Rattle.toml.specs.Parse.{parse_document}
 use Rattle.why.specs.Assembly.{assembly_told}
 use Rattle.why.specs.Bytecode.{bytecode_told, unit_at}
 use Rattle.why.specs.Chronicles.{chronicle_told, schedule_told}
 use Rattle.why.specs.Errors.{ReportsScenario, TellsSetting}
+use Rattle.why.specs.Keys.{Found}
 use Rattle.why.specs.Lines.{line_at, trimmed}
+use Rattle.why.specs.Made.{ReportsMade, assembly_of, file_shown, own_line}
 use Rattle.why.specs.Messages.{stranger_told, table_told}
 use Rattle.why.specs.Musters.{muster_sentence}
 use Rattle.elf.specs.Sentences.{sentence_of}
@@ -43,8 +49,18 @@ pub record IsReport (IsIn : Mark → Type 0) (name told : List ℕ) : Type 0 whe
   pub says : sentence ≢ []
   pub within : IfSome place IsIn
 
+-- of a fault in the program of a general whose table in the scenario's own text names a file of assembly, what is told is a report under
+-- the name of that file, as it is shown, with a place in its text
+pub record IsReportOfFile (own : List ℕ) (made : Option Members) (error : ScenarioError) (told : List ℕ) : Type 0 where
+  pub general : ℕ
+  pub fault : ProgramFault
+  pub key : Found
+  pub program : error ≡ errors.Program general fault
+  pub named : own_line (seat general (parse_document own)) (codes "asm_file") own ≡ Some key
+  pub report : IsReport (IsInText (assembly_of (option_and_then (source_by general) made))) (file_shown key) told
+
 -- each refusal of each kind of file is told by a report, of a text that is no TOML where it is one in UTF-8; an object's fault and a
--- muster's, which are none of a line, by a sentence
+-- muster's, which are none of a line, by a sentence; an error of a scenario that names files by a report of its own text or of such a file
 pub record RefusalsAreTold : Type 0 where
   pub assembly : (name text : List ℕ) (fault : AsmFault) (line : ℕ) → IsReport (IsInText text) name (assembly_told name text fault line)
   pub bytecode : (name bytes : List ℕ) (fault : CodecFault) (unit : ℕ) → IsReport (IsInUnit bytes) name (bytecode_told name bytes fault unit)
@@ -54,7 +70,9 @@ pub record RefusalsAreTold : Type 0 where
   pub chronicle : (name text : List ℕ) (fault : TraceFault) (line : ℕ) (wanted : Option (List ℕ)) → IsReport (IsInText text) name (chronicle_told name text fault line wanted)
   pub object : (fault : ObjectFault) → sentence_of fault ≢ []
   pub muster : (error : MusterError) → muster_sentence error ≢ []
-  pub scenario : (name text told : List ℕ) (error : ScenarioError) → (error ≡ scenario.Toml → IsUtf8 text × (parse_document text ≡ None))
+  pub scenario : (name text told : List ℕ) (error : ScenarioError) → (error ≡ errors.Toml → IsUtf8 text × (parse_document text ≡ None))
       → ReportsScenario name text error told → IsReport (IsInText text) name told
+  pub files : (name own told : List ℕ) (made : Option Members) (error : ScenarioError) → (error ≡ errors.Toml → IsUtf8 own × (parse_document own ≡ None))
+      → ReportsMade name own made error told → IsReport (IsInText own) name told ⊎ IsReportOfFile own made error told
   pub setting : (name text told : List ℕ) (error : SettingError) → (error ≡ setting.Toml → IsUtf8 text × (parse_document text ≡ None))
       → TellsSetting name text error told → IsReport (IsInText text) name told

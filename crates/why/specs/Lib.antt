@@ -9,8 +9,10 @@ pub mod Chronicles
 pub mod Musters
 pub mod Keys
 pub mod Toml
+pub mod Units
 pub mod Scenarios
 pub mod Settings
 pub mod Judged
 pub mod Errors
+pub mod Made
 pub mod Laws

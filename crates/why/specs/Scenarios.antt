@@ -1,12 +1,17 @@
 -- What is said of a fault of a scenario: the sentence of each code, and the place in the text.
-use Rattle.std.specs.Prelude.{ℕ, suc, zero, List, [], ◌∷◌, ◌++◌, Bool, true, false, ◌+◌, ◌-◌, ◌*◌, ◌^◌, ◌==◌, ◌&&◌, ◌||◌, nat_eq, nat_le, nat_lt, if◌then◌else◌, Option, None, Some, codes, drop, length, option_and_then, option_map, take}
+use Rattle.std.specs.Prelude.{ℕ, suc, zero, ◌≡◌, ◌⊎◌, List, [], ◌∷◌, ◌++◌, Bool, true, false, ◌+◌, ◌-◌, ◌*◌, ◌^◌, ◌==◌, ◌&&◌, ◌||◌, nat_eq, nat_le, nat_lt, if◌then◌else◌, Option, None, Some, codes, drop, length, option_and_then, option_map, take}
 use Rattle.std.specs.Fmt.{decimal}
 use Rattle.std.specs.List.{starts_with}
+use Rattle.std.specs.Str.{IsUtf8, bytes_eq}
+use Rattle.toml.specs.Data.{Members}
+use Rattle.toml.specs.Parse.{parse_document}
 use Rattle.asm.specs.declared.fault.Fault.{Fault as AsmFault}
 use Rattle.codec.specs.declared.fault.Fault.{Fault as CodecFault}
 use Rattle.verify.specs.Telling.{code_of}
 use Rattle.verify.specs.declared.reason.Reason.{Reason}
 use Rattle.scenario.specs.Names.{text_of}
+use Rattle.scenario.specs.Sources.{source_by}
+use Rattle.scenario.specs.Tables.{Source, Assembly, Hex}
 use Rattle.scenario.specs.declared.place.Name.{Name}
 use Rattle.scenario.specs.declared.place.Name.TheVariants as names
 use Rattle.scenario.specs.declared.place.Place.{Place}
@@ -15,12 +20,13 @@ use Rattle.scenario.specs.declared.fault.Fault.{Fault}
 use Rattle.scenario.specs.declared.fault.Fault.TheVariants as faults
 use Rattle.scenario.specs.declared.fault.ProgramFault.{ProgramFault}
 use Rattle.scenario.specs.declared.fault.ProgramFault.TheVariants as programs
-use Rattle.why.specs.Assembly.{assembly_sentence, code_told}
+use Rattle.why.specs.Assembly.{Spot, assembly_sentence, code_told, unit_mark}
 use Rattle.why.specs.Bytecode.{unit_place, unit_sentence}
 use Rattle.why.specs.Keys.{Found, entry_line, found, header, or_else, shown_at, table_of, value_end}
 use Rattle.why.specs.Lines.{line_at, marked, trimmed}
 use Rattle.why.specs.Nearest.{near}
 use Rattle.why.specs.Report.{Mark, near_words, report_text}
+use Rattle.why.specs.Units.{IsUnitLine}
 
 -- ---- a fault at a place
 
@@ -46,7 +52,7 @@ range_sentence names.Order = codes "an order is 0 to 4294967295"
 range_sentence names.Board = codes "a board has at most 64 words"
 range_sentence names.Patience = codes "a patience is 1 to 4096 steps"
 range_sentence names.Rule = codes "a rule is \"majority\" or \"median\""
-range_sentence names.Messages = codes "messages are \"oral\" or \"signed\", and of a muster, a message table or an explanation \"oral\""
+range_sentence names.Messages = codes "messages are \"oral\" or \"signed\", and of all but `play` without `--table` and `audit` \"oral\""
 range_sentence name = codes "this value is out of its range"
 
 abbrev pub name_sentence : Fault → Name → List ℕ
@@ -96,8 +102,23 @@ key_told name sentence key line known = report_text name sentence (option_map (s
 unfoldable pub top_key_told : List ℕ → List ℕ → List ℕ → List ℕ
 top_key_told name text key = key_told name (codes "a scenario has no such key") key (found 0 key text) (near key top_keys)
 
+-- the key that is near is the key itself: a table may have it, but not beside its others, or with another value
+abbrev pub is_itself : Option (List ℕ) → List ℕ → Bool
+is_itself None key = false
+is_itself (Some known) key = bytes_eq known key
+
+abbrev pub entry_sentence : Option (List ℕ) → List ℕ → List ℕ
+entry_sentence known key =
+    if is_itself known key
+    then codes "this key does not go with the table's others: a table has one program, and `general` or `generals`; `generals` is a list, a file's name a text, and `entry` goes with `elf`"
+    else codes "a traitor's table has no such key"
+
+abbrev pub other_than : Option (List ℕ) → List ℕ → Option (List ℕ)
+other_than known key = if is_itself known key then None else known
+
 unfoldable pub entry_key_told : List ℕ → List ℕ → ℕ → List ℕ → List ℕ
-entry_key_told name text index key = key_told name (codes "a traitor's table has no such key") key (entry_line index key text) (near key entry_keys)
+entry_key_told name text index key =
+    key_told name (entry_sentence (near key entry_keys) key) key (entry_line index key text) (other_than (near key entry_keys) key)
 
 abbrev pub unknown_told : List ℕ → List ℕ → Option ℕ → List ℕ → List ℕ
 unknown_told name text None key = top_key_told name text key
@@ -138,34 +159,40 @@ abbrev pub before_quote : List ℕ → List ℕ → List ℕ
 before_quote quote [] = []
 before_quote quote (c ∷ cs) = if starts_with nat_eq (c ∷ cs) quote then [] else c ∷ before_quote quote cs
 
--- of a fault in a line of the program whose text begins here, in the line of the file that has it
-abbrev pub at_end_told : List ℕ → AsmFault → Found → List ℕ → List ℕ → List ℕ
-at_end_told name f line end code = code_told name f line.number line.line (length line.line - length end) code
+-- a line of the program that begins at this end of a line of the file
+abbrev pub end_spot : Found → List ℕ → List ℕ → Spot
+end_spot line end code = record { number = line.number; shown = line.line; front = length line.line - length end; code = code }
 
 -- the line that stands so many behind the line of this number, by its own number, which has 64 bits
 unfoldable pub line_behind : List ℕ → ℕ → ℕ → Option (ℕ × List ℕ)
 line_behind text first more = if nat_lt (first + more) (2 ^ 64) then option_map (λ line. (first + more, line)) (line_at text (first + more)) else None
 
--- of a fault in a line of the file that is one of the program, which this quotation mark ends
-abbrev pub at_line_told : List ℕ → AsmFault → List ℕ → Option (ℕ × List ℕ) → List ℕ
-at_line_told name f quote None = report_text name (assembly_sentence f []) None None
-at_line_told name f quote (Some line) = code_told name f line.0 line.1 0 (before_quote quote line.1)
+-- a line of the file that is one of the program, which this quotation mark ends
+abbrev pub line_spot : List ℕ → ℕ × List ℕ → Spot
+line_spot quote line = record { number = line.0; shown = line.1; front = 0; code = before_quote quote line.1 }
 
 -- a long text begins on its key's line or, where nothing stands behind its quotation marks there, on the next
-abbrev pub long_told : List ℕ → List ℕ → AsmFault → ℕ → Found → List ℕ → List ℕ → List ℕ
-long_told name text f number line quote rest =
-    if length (trimmed rest) == 0 then at_line_told name f quote (line_behind text line.number number)
-    else if nat_le number 1 then at_end_told name f line rest (before_quote quote rest)
-    else at_line_told name f quote (line_behind text line.number (number - 1))
+abbrev pub long_spot : List ℕ → ℕ → Found → List ℕ → List ℕ → Option Spot
+long_spot text number line quote rest =
+    if length (trimmed rest) == 0 then option_map (line_spot quote) (line_behind text line.number number)
+    else if nat_le number 1 then Some (end_spot line rest (before_quote quote rest))
+    else option_map (line_spot quote) (line_behind text line.number (number - 1))
 
-abbrev pub short_told : List ℕ → AsmFault → Found → List ℕ → List ℕ → List ℕ
-short_told name f line quote end = at_end_told name f line end (before_feed quote end)
+abbrev pub short_spot : Found → List ℕ → List ℕ → Spot
+short_spot line quote end = end_spot line end (before_feed quote end)
+
+-- a line of the program by its number, whose key stands in this line of the file
+abbrev pub spot_in : List ℕ → ℕ → Found → Option Spot
+spot_in text number line =
+    if is_long (value_end line.line) then long_spot text number line (take 3 (value_end line.line)) (drop 3 (value_end line.line))
+    else Some (short_spot line (take 1 (value_end line.line)) (behind_feeds (number - 1) (drop 1 (value_end line.line))))
+
+abbrev pub spot_told : List ℕ → AsmFault → Option Spot → List ℕ
+spot_told name f None = report_text name (assembly_sentence f []) None None
+spot_told name f (Some spot) = code_told name f spot
 
 abbrev pub text_told : List ℕ → List ℕ → AsmFault → ℕ → Option Found → List ℕ
-text_told name text f number None = report_text name (assembly_sentence f []) None None
-text_told name text f number (Some line) =
-    if is_long (value_end line.line) then long_told name text f number line (take 3 (value_end line.line)) (drop 3 (value_end line.line))
-    else short_told name f line (take 1 (value_end line.line)) (behind_feeds (number - 1) (drop 1 (value_end line.line)))
+text_told name text f number line = spot_told name f (option_and_then (spot_in text number) line)
 
 -- the digits of a unit that a program may have, from them on
 abbrev pub unit_end : List ℕ → ℕ → List ℕ
@@ -187,13 +214,41 @@ verifier_sentence reason unit = codes "the verifier refuses this program, by " +
 abbrev pub source_line : ℕ → List ℕ → Option Found
 source_line general text = or_else (program_line general (codes "asm") text) (program_line general (codes "code") text)
 
-abbrev pub refused_told : List ℕ → List ℕ → ℕ → Reason → ℕ → List ℕ
-refused_told name text general reason unit =
-    report_text name (verifier_sentence reason unit) (option_map (shown_at false (codes "asm")) (source_line general text)) None
+-- a unit of this assembly, whose key stands in this line of the file: its statement in the line that has it
+abbrev pub IsUnitShown : List ℕ → ℕ → List ℕ → Option Found → Option Mark → Type 0
+IsUnitShown text unit asm line mark = (number : ℕ) × IsUnitLine asm unit number × (mark ≡ option_map unit_mark (option_and_then (spot_in text number) line))
 
-abbrev pub program_told : List ℕ → List ℕ → ℕ → ProgramFault → List ℕ
-program_told name text general (programs.Asm f number) = text_told name text f number (program_line general (codes "asm") text)
-program_told name text general programs.Hex =
+-- the key of the program
+abbrev pub source_shown : ℕ → List ℕ → Option Mark
+source_shown general text = option_map (shown_at false (codes "asm")) (source_line general text)
+
+-- the key of bytecode
+abbrev pub bytecode_shown : ℕ → List ℕ → Option Mark
+bytecode_shown general text = option_map (shown_at false (codes "code")) (program_line general (codes "code") text)
+
+-- the place of a unit that the verifier refuses: of bytecode it is the key
+abbrev pub IsRefusedAt : List ℕ → ℕ → ℕ → Option Source → Option Mark → Type 0
+IsRefusedAt text general unit None mark = mark ≡ source_shown general text
+IsRefusedAt text general unit (Some (Hex digits)) mark = mark ≡ bytecode_shown general text
+IsRefusedAt text general unit (Some (Assembly asm)) mark = IsUnitShown text unit asm (program_line general (codes "asm") text) mark
+
+-- the tables that the bytes say, which are perhaps no text
+abbrev pub IsDocumentOf : List ℕ → Option Members → Type 0
+IsDocumentOf bytes members = (IsUtf8 bytes × (members ≡ parse_document bytes)) ⊎ (¬ IsUtf8 bytes × (members ≡ None))
+
+abbrev pub IsRefusedBy : List ℕ → List ℕ → ℕ → Reason → ℕ → Option Members → List ℕ → Type 0
+IsRefusedBy name text general reason unit members told =
+    (mark : Option Mark) × IsRefusedAt text general unit (option_and_then (source_by general) members) mark × (told ≡ report_text name (verifier_sentence reason unit) mark None)
+
+abbrev pub IsRefusedProgram : List ℕ → List ℕ → ℕ → Reason → ℕ → List ℕ → Type 0
+IsRefusedProgram name text general reason unit told = (members : Option Members) × IsDocumentOf text members × IsRefusedBy name text general reason unit members told
+
+abbrev pub hex_told : List ℕ → List ℕ → ℕ → List ℕ
+hex_told name text general =
     report_text name (codes "bytecode is an even number of digits in hex, without blanks") (option_map (shown_at true (codes "code")) (program_line general (codes "code") text)) None
-program_told name text general (programs.Code f unit) = code_line_told name f unit (program_line general (codes "code") text)
-program_told name text general (programs.Verifier reason unit) = refused_told name text general reason unit
+
+abbrev pub IsProgramTold : List ℕ → List ℕ → ℕ → ProgramFault → List ℕ → Type 0
+IsProgramTold name text general (programs.Asm f number) told = told ≡ text_told name text f number (program_line general (codes "asm") text)
+IsProgramTold name text general programs.Hex told = told ≡ hex_told name text general
+IsProgramTold name text general (programs.Code f unit) told = told ≡ code_line_told name f unit (program_line general (codes "code") text)
+IsProgramTold name text general (programs.Verifier reason unit) told = IsRefusedProgram name text general reason unit told

@@ -4,16 +4,16 @@ ghost use Rattle.asm.specs.Helper.{helpers};
 ghost use Rattle.text.specs.declared.stop.Stop.TheVariants.{Blank};
 ghost use Rattle.text.specs.Stop.{comma, semicolon};
 ghost use Rattle.text.specs.Parts.{before, pieces, until};
-ghost use Rattle.why.specs.Assembly.{assembly_advice, assembly_sentence, assembly_told, begins_marked, call_sentence, code_in, code_told, has, has_capital, is_call, last_of, last_operand, line_told, mnemonic_in, operand_advice, operand_sentence, operands_in, operands_part, or_small, outline_advice, mnemonic_part, outline_part, outline_sentence, part_of, part_view, past_ascii, place_in, range_sentence, statement_in};
+ghost use Rattle.why.specs.Assembly.{assembly_advice, assembly_sentence, assembly_told, begins_marked, call_sentence, code_in, code_told, has, has_capital, is_call, last_of, last_operand, line_told, mnemonic_in, operand_advice, operand_sentence, operands_in, operands_part, or_small, outline_advice, mnemonic_part, outline_part, outline_sentence, part_of, part_view, past_ascii, place_in, range_sentence, spot_view, statement_in, statement_place, unit_mark, whole};
 ghost use Rattle.why.specs.Mnemonics.{mnemonic_names};
 ghost use Rattle.why.specs.Nearest.{near};
 ghost use Rattle.why.specs.Lines.{trimmed};
-ghost use Rattle.why.specs.Report.{help_words, near_words};
+ghost use Rattle.why.specs.Report.{help_words, mark_view, near_words};
 
 use crate::lines::{line_at, marked, trimmed};
 use crate::mnemonics::{self, Takes, taken};
 use crate::nearest::near;
-use crate::report::{Help, report};
+use crate::report::{Help, Mark, report};
 use asm::Fault;
 use std::alloc::{AllocError, Global};
 use text::{Stop, cut, find, piece};
@@ -171,6 +171,19 @@ fn place_in(fault: Fault, line: &[u8]) -> (usize, usize)
 {
     let (end, size) = part_of(fault, code_in(line));
     (before_comment(line).len().saturating_sub(end.len()), size)
+}
+
+/// The same of the statement.
+#[tactic(auto, unfolding(crate::specs::Assembly::statement_place))]
+fn statement_place(line: &[u8]) -> (usize, usize)
+    ensures place { result ≡ statement_place line.now }
+    ensures inside { result.0 ≤ length line.now }
+{
+    let statement = statement_in(code_in(line));
+    (
+        before_comment(line).len().saturating_sub(statement.len()),
+        statement.len(),
+    )
 }
 
 /// What is wrong with the outline of the code.
@@ -356,12 +369,38 @@ fn help(
     }
 }
 
-/// Where a line of code stands in a file: in this line of it, behind this front.
+/// A line of code where it stands in a file: in this line of it, behind this front.
 #[derive(Clone, Copy)]
 pub(crate) struct Spot<'a> {
     pub number: u64,
     pub shown: &'a [u8],
     pub front: &'a [u8],
+    pub code: &'a [u8],
+}
+
+/// All of a line of the file.
+pub(crate) fn whole(number: u64, line: &[u8]) -> Spot<'_>
+    ensures { spot_view result ≡ whole number line.now }
+{
+    Spot {
+        number,
+        shown: line,
+        front: &[],
+        code: line,
+    }
+}
+
+/// The statement of a line of code, marked in the line of the file.
+pub(crate) fn unit_mark(spot: Spot<'_>) -> Mark<'_>
+    ensures { mark_view result ≡ unit_mark (spot_view spot.entry) }
+{
+    let (from, size) = statement_place(spot.code);
+    marked(
+        spot.number,
+        trimmed(spot.shown),
+        spot.front.len() + from,
+        size,
+    )
 }
 
 /// What is said of a fault in a line of code.
@@ -370,13 +409,12 @@ pub(crate) fn code_told(
     name: &str,
     fault: Fault,
     spot: Spot<'_>,
-    line: &[u8],
 ) -> Result<String, AllocError>
-    ensures { IfOk result (λ told. string_bytes told ≡ code_told name.now fault spot.entry.number spot.entry.shown.now (length spot.entry.front.now) line.now) }
+    ensures { IfOk result (λ told. string_bytes told ≡ code_told name.now fault (spot_view spot.entry)) }
 {
-    let code = code_in(line);
-    let (from, size) = place_in(fault, line);
-    let help = help(alloc, fault, spot.number, line, code)?;
+    let code = code_in(spot.code);
+    let (from, size) = place_in(fault, spot.code);
+    let help = help(alloc, fault, spot.number, spot.code, code)?;
     let mark = marked(
         spot.number,
         trimmed(spot.shown),
@@ -399,12 +437,7 @@ fn line_told(
     let Some(line) = line else {
         return report(alloc, name, sentence(fault, &[]), None, None);
     };
-    let spot = Spot {
-        number,
-        shown: line,
-        front: &[],
-    };
-    code_told(alloc, name, fault, spot, line)
+    code_told(alloc, name, fault, whole(number, line))
 }
 
 /// What is said of a fault at a line of the assembly text of the file with this name.

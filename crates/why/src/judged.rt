@@ -95,7 +95,7 @@ fn stated(alloc: Global, written: Written<'_>) -> Result<Vec<String>, AllocError
 }
 
 /// What is known of a program that is written so, whose key stands in this line: an empty line and its explanation.
-fn explained_of(
+pub(crate) fn explained_of(
     alloc: Global,
     general: u8,
     written: Written<'_>,
@@ -157,7 +157,7 @@ fn explained(alloc: Global, text: &[u8], general: u8) -> Result<String, AllocErr
 }
 
 /// The general whose program the verifier refuses, where that is the error.
-fn judged_of(error: &ScenarioError) -> Option<u8>
+pub(crate) fn judged_of(error: &ScenarioError) -> Option<u8>
     ensures { result ≡ judged_of error.now }
 {
     match error {

@@ -3,7 +3,7 @@ ghost use Rattle.std.specs.Prelude.{◌≡◌, false, true, IfOk, codes, option_
 ghost use Rattle.why.specs.Keys.{found_view, shown_at};
 ghost use Rattle.why.specs.Nearest.{near};
 ghost use Rattle.why.specs.Report.{help_words, mark_view, near_words};
-ghost use Rattle.why.specs.Scenarios.{entry_key_told, entry_keys, is_of_value, key_told, kind_sentence, missing_sentence, name_sentence, place_mark, place_sentence, place_told, range_sentence, top_key_told, top_keys, unknown_told, word_sentence};
+ghost use Rattle.why.specs.Scenarios.{entry_key_told, entry_keys, entry_sentence, is_itself, is_of_value, key_told, kind_sentence, missing_sentence, name_sentence, other_than, place_mark, place_sentence, place_told, range_sentence, top_key_told, top_keys, unknown_told, word_sentence};
 
 use crate::keys::{Found, entry_line, find_line, header, shown_at};
 use crate::nearest::near;
@@ -81,7 +81,7 @@ fn range_sentence(name: Name) -> &'static str
         Name::Patience => "a patience is 1 to 4096 steps",
         Name::Rule => "a rule is \"majority\" or \"median\"",
         Name::Messages =>
-            "messages are \"oral\" or \"signed\", and of a muster, a message table or an explanation \"oral\"",
+            "messages are \"oral\" or \"signed\", and of all but `play` without `--table` and `audit` \"oral\"",
         _ => "this value is out of its range",
     }
 }
@@ -111,7 +111,11 @@ fn word_sentence(fault: Fault) -> &'static str
 }
 
 /// What is wrong at a place.
-fn place_sentence(alloc: Global, fault: Fault, place: Place) -> Result<String, AllocError>
+pub(crate) fn place_sentence(
+    alloc: Global,
+    fault: Fault,
+    place: Place,
+) -> Result<String, AllocError>
     ensures { IfOk result (λ text. string_bytes text ≡ place_sentence fault place) }
 {
     match place {
@@ -122,7 +126,7 @@ fn place_sentence(alloc: Global, fault: Fault, place: Place) -> Result<String, A
 }
 
 /// Whether a fault is one of the value.
-fn is_of_value(fault: Fault) -> bool
+pub(crate) fn is_of_value(fault: Fault) -> bool
     ensures { result ≡ is_of_value fault }
 {
     match fault {
@@ -132,7 +136,7 @@ fn is_of_value(fault: Fault) -> bool
 }
 
 /// Where a place stands in the text.
-fn place_mark(fault: Fault, place: Place, text: &[u8]) -> Option<Mark<'_>>
+pub(crate) fn place_mark(fault: Fault, place: Place, text: &[u8]) -> Option<Mark<'_>>
     ensures { option_map mark_view result ≡ place_mark fault place text.now }
 {
     match place {
@@ -216,14 +220,37 @@ fn unknown_in_table(
 {
     let known = near_entry_key(alloc, word)?;
     let line = entry_line(index, word, text);
-    key_report(
-        alloc,
-        name,
-        "a traitor's table has no such key",
-        word,
-        line,
-        known,
-    )
+    let sentence = entry_sentence(known, word);
+    let other = other_than(known, word);
+    key_report(alloc, name, sentence, word, line, other)
+}
+
+/// Whether the key that is near is the word itself.
+fn is_itself(known: Option<&'static str>, word: &[u8]) -> bool
+    ensures { result ≡ is_itself (option_map (λ k. k.now) known.entry) word.now }
+{
+    match known {
+        Some(key) => key.as_bytes() == word,
+        None => false,
+    }
+}
+
+/// Why a table is not to have this key: there is none, or it does not stand beside the others.
+fn entry_sentence(known: Option<&'static str>, word: &[u8]) -> &'static str
+    ensures { result.now ≡ entry_sentence (option_map (λ k. k.now) known.entry) word.now }
+{
+    if is_itself(known, word) {
+        "this key does not go with the table's others: a table has one program, and `general` or `generals`; `generals` is a list, a file's name a text, and `entry` goes with `elf`"
+    } else {
+        "a traitor's table has no such key"
+    }
+}
+
+/// The key that is near, where it is another.
+fn other_than(known: Option<&'static str>, word: &[u8]) -> Option<&'static str>
+    ensures { option_map (λ k. k.now) result ≡ other_than (option_map (λ k. k.now) known.entry) word.now }
+{
+    if is_itself(known, word) { None } else { known }
 }
 
 /// What is said of an unknown key, at the top or of the traitor's table of this number.

@@ -1,17 +1,24 @@
 //! What is said of a traitor's program that is none.
-ghost use Rattle.std.specs.Prelude.{◌≡◌, IfOk, nat_eq, option_map, string_bytes};
+ghost use Rattle.std.specs.Prelude.{◌≡◌, IfOk, nat_eq, option_and_then, option_map, string_bytes};
 ghost use Rattle.std.specs.List.{starts_with};
+ghost use Rattle.toml.specs.View.{table_view};
+ghost use Rattle.scenario.specs.Seen.{source_of};
+ghost use Rattle.why.specs.Assembly.{spot_view, unit_mark};
 ghost use Rattle.why.specs.Keys.{found_view};
-ghost use Rattle.why.specs.Scenarios.{at_end_told, at_line_told, before_feed, before_quote, behind_feed, behind_feeds, code_line_told, is_feed, is_long, line_behind, long_told, program_line, program_told, refused_told, source_line, text_told, unit_end, verifier_sentence};
+ghost use Rattle.why.specs.Report.{mark_view};
+ghost use Rattle.why.specs.Scenarios.{IsProgramTold, IsRefusedAt, IsRefusedBy, IsRefusedProgram, IsUnitShown, before_feed, before_quote, behind_feed, behind_feeds, bytecode_shown, code_line_told, end_spot, hex_told, is_feed, is_long, line_behind, line_spot, long_spot, program_line, source_line, source_shown, spot_in, spot_told, text_told, unit_end, verifier_sentence};
 
-use crate::assembly::{Spot, code_told, sentence};
+use crate::assembly::{Spot, code_told, sentence, unit_mark};
 use crate::bytecode::{unit_place, unit_sentence};
 use crate::keys::{Found, find_line, table_of, value_end};
 use crate::lines::{line_at, marked, trimmed};
-use crate::report::{behind, front, report};
+use crate::report::{Mark, behind, front, report};
 use crate::scenarios::{key_mark, value_mark};
-use scenario::ProgramFault;
+use crate::sources::{document_of, source_in};
+use crate::units::line_of_unit;
+use scenario::{ProgramFault, Written};
 use std::alloc::{AllocError, Global};
+use toml::Table;
 use verify::Reason;
 
 /// The line of a key of the table of this general.
@@ -118,24 +125,17 @@ fn before_quote<'a>(quote: &[u8], text: &'a [u8]) -> &'a [u8]
     text
 }
 
-/// What is said of a fault in a line of the program whose text begins at this end of the line that has it.
-fn at_end_told(
-    alloc: Global,
-    name: &str,
-    fault: asm::Fault,
-    line: Found<'_>,
-    end: &[u8],
-    code: &[u8],
-) -> Result<String, AllocError>
-    ensures { IfOk result (λ told. string_bytes told ≡ at_end_told name.now fault (found_view line.entry) end.now code.now) }
+/// A line of the program that begins at this end of a line of the file.
+fn end_spot<'a>(line: Found<'a>, end: &[u8], code: &'a [u8]) -> Spot<'a>
+    ensures { spot_view result ≡ end_spot (found_view line.entry) end.now code.now }
 {
     let before = line.line.len().saturating_sub(end.len());
-    let spot = Spot {
+    Spot {
         number: line.number,
         shown: line.line,
         front: front(line.line, before),
-    };
-    code_told(alloc, name, fault, spot, code)
+        code,
+    }
 }
 
 /// The line that stands so many behind the line of this number, by its own number.
@@ -148,55 +148,78 @@ fn line_behind(text: &[u8], first: u64, more: u64) -> Option<(u64, &[u8])>
     Some((number, line))
 }
 
-/// What is said of a fault in this line, which is one of the program that this quotation mark ends.
-fn at_line_told(
-    alloc: Global,
-    name: &str,
-    fault: asm::Fault,
-    quote: &[u8],
-    line: Option<(u64, &[u8])>,
-) -> Result<String, AllocError>
-    ensures { IfOk result (λ told. string_bytes told ≡ at_line_told name.now fault quote.now (option_map (λ l. (l.0, l.1.now)) line.entry)) }
+/// A line of the file that is one of the program, which this quotation mark ends.
+fn line_spot<'a>(quote: &[u8], line: Option<(u64, &'a [u8])>) -> Option<Spot<'a>>
+    ensures { option_map spot_view result ≡ option_map (line_spot quote.now) (option_map (λ l. (l.0, l.1.now)) line.entry) }
 {
-    let Some((number, line)) = line else {
-        return report(alloc, name, sentence(fault, &[]), None, None);
-    };
-    let spot = Spot {
+    let (number, line) = line?;
+    Some(Spot {
         number,
         shown: line,
         front: &[],
-    };
-    code_told(alloc, name, fault, spot, before_quote(quote, line))
+        code: before_quote(quote, line),
+    })
 }
 
-/// What is said of a fault in a line of a program that goes on over lines to this quotation mark, and begins at this end of
-/// its key's line.
-fn long_told(
-    alloc: Global,
-    name: &str,
-    text: &[u8],
-    fault: asm::Fault,
+/// A line of a program that goes on over lines to this quotation mark, and begins at this end of its key's line.
+fn long_spot<'a>(
+    text: &'a [u8],
     number: u64,
-    line: Found<'_>,
+    line: Found<'a>,
     quote: &[u8],
-    rest: &[u8],
-) -> Result<String, AllocError>
-    ensures { IfOk result (λ told. string_bytes told ≡ long_told name.now text.now fault number (found_view line.entry) quote.now rest.now) }
+    rest: &'a [u8],
+) -> Option<Spot<'a>>
+    ensures { option_map spot_view result ≡ long_spot text.now number (found_view line.entry) quote.now rest.now }
 {
     if trimmed(rest).is_empty() {
-        let line = line_behind(text, line.number, number);
-        at_line_told(alloc, name, fault, quote, line)
+        line_spot(quote, line_behind(text, line.number, number))
     } else if number <= 1 {
-        let code = before_quote(quote, rest);
-        at_end_told(alloc, name, fault, line, rest, code)
+        Some(end_spot(line, rest, before_quote(quote, rest)))
     } else {
-        let line = line_behind(text, line.number, number - 1);
-        at_line_told(alloc, name, fault, quote, line)
+        line_spot(quote, line_behind(text, line.number, number - 1))
+    }
+}
+
+/// A line of the program by its number, whose key stands in this line of the file.
+fn spot_in<'a>(text: &'a [u8], number: u64, line: Found<'a>) -> Option<Spot<'a>>
+    ensures { option_map spot_view result ≡ spot_in text.now number (found_view line.entry) }
+{
+    let value = value_end(line.line);
+    if is_long(value) {
+        return long_spot(text, number, line, front(value, 3), behind(value, 3));
+    }
+    let end = behind_feeds(behind(value, 1), number.saturating_sub(1));
+    let code = before_feed(front(value, 1), end);
+    Some(end_spot(line, end, code))
+}
+
+/// The same, if there is such a key.
+fn spot_of<'a>(text: &'a [u8], number: u64, line: Option<Found<'a>>) -> Option<Spot<'a>>
+    ensures { option_map spot_view result ≡ option_and_then (spot_in text.now number) (option_map found_view line.entry) }
+{
+    match line {
+        Some(line) => spot_in(text, number, line),
+        None => None,
+    }
+}
+
+/// What is said of a fault in a line of the program that stands here.
+fn spot_told(
+    alloc: Global,
+    name: &str,
+    fault: asm::Fault,
+    spot: Option<Spot<'_>>,
+) -> Result<String, AllocError>
+    ensures { IfOk result (λ told. string_bytes told ≡ spot_told name.now fault (option_map spot_view spot.entry)) }
+{
+    match spot {
+        Some(spot) => code_told(alloc, name, fault, spot),
+        None => report(alloc, name, sentence(fault, &[]), None, None),
     }
 }
 
 /// What is said of a fault in a line of the program that stands in this line of the file, or begins there.
-fn text_told(
+pub(crate) fn text_told(
     alloc: Global,
     name: &str,
     text: &[u8],
@@ -206,17 +229,7 @@ fn text_told(
 ) -> Result<String, AllocError>
     ensures { IfOk result (λ told. string_bytes told ≡ text_told name.now text.now fault number (option_map found_view line.entry)) }
 {
-    let Some(line) = line else {
-        return report(alloc, name, sentence(fault, &[]), None, None);
-    };
-    let value = value_end(line.line);
-    if is_long(value) {
-        let (quote, rest) = (front(value, 3), behind(value, 3));
-        return long_told(alloc, name, text, fault, number, line, quote, rest);
-    }
-    let end = behind_feeds(behind(value, 1), number.saturating_sub(1));
-    let code = before_feed(front(value, 1), end);
-    at_end_told(alloc, name, fault, line, end, code)
+    spot_told(alloc, name, fault, spot_of(text, number, line))
 }
 
 /// The digits of a unit, from them on.
@@ -230,7 +243,7 @@ fn unit_end(line: &[u8], unit: usize) -> &[u8]
 }
 
 /// What is said of a fault in a unit whose digits stand in this line.
-fn code_line_told(
+pub(crate) fn code_line_told(
     alloc: Global,
     name: &str,
     fault: codec::Fault,
@@ -251,10 +264,91 @@ fn code_line_told(
 }
 
 /// Why the verifier refuses a program.
-fn verifier_sentence(alloc: Global, reason: Reason, unit: usize) -> Result<String, AllocError>
+pub(crate) fn verifier_sentence(
+    alloc: Global,
+    reason: Reason,
+    unit: usize,
+) -> Result<String, AllocError>
     ensures { IfOk result (λ text. string_bytes text ≡ verifier_sentence reason unit) }
 {
     format!(in alloc; "the verifier refuses this program, by {reason} at its unit {unit}")
+}
+
+/// The statement of a line of the program that stands here.
+fn spot_shown(spot: Option<Spot<'_>>) -> Option<Mark<'_>>
+    ensures { option_map mark_view result ≡ option_map unit_mark (option_map spot_view spot.entry) }
+{
+    match spot {
+        Some(spot) => Some(unit_mark(spot)),
+        None => None,
+    }
+}
+
+/// The statement of a unit of this assembly, whose key stands in this line of the file.
+pub(crate) fn unit_shown<'a>(
+    alloc: Global,
+    text: &'a [u8],
+    unit: usize,
+    asm: &str,
+    line: Option<Found<'a>>,
+) -> Result<Option<Mark<'a>>, AllocError>
+    ensures { IfOk result (λ mark. IsUnitShown text.now unit asm.now (option_map found_view line.entry) (option_map mark_view mark)) }
+{
+    let number = line_of_unit(alloc, asm, unit)?;
+    Ok(spot_shown(spot_of(text, number, line)))
+}
+
+/// The key of this general's program.
+fn source_shown(alloc: Global, general: u8, text: &[u8]) -> Result<Option<Mark<'_>>, AllocError>
+    ensures { IfOk result (λ mark. option_map mark_view mark ≡ source_shown general text.now) }
+{
+    let line = source_line(alloc, general, text)?;
+    Ok(key_mark(b"asm", line))
+}
+
+/// The key of this general's bytecode.
+fn bytecode_shown(alloc: Global, general: u8, text: &[u8]) -> Result<Option<Mark<'_>>, AllocError>
+    ensures { IfOk result (λ mark. option_map mark_view mark ≡ bytecode_shown general text.now) }
+{
+    let line = program_line(alloc, general, b"code", text)?;
+    Ok(key_mark(b"code", line))
+}
+
+/// The place of a unit that the verifier refuses.
+fn refused_at<'a>(
+    alloc: Global,
+    text: &'a [u8],
+    general: u8,
+    unit: usize,
+    source: Option<Written<'_>>,
+) -> Result<Option<Mark<'a>>, AllocError>
+    ensures { IfOk result (λ mark. IsRefusedAt text.now general unit (option_map source_of source.entry) (option_map mark_view mark)) }
+{
+    match source {
+        None => source_shown(alloc, general, text),
+        Some(Written::Code(_)) => bytecode_shown(alloc, general, text),
+        Some(Written::Asm(asm)) => {
+            let line = program_line(alloc, general, b"asm", text)?;
+            unit_shown(alloc, text, unit, asm, line)
+        }
+    }
+}
+
+/// What is said of a program that the verifier refuses, of these tables of the text.
+fn refused_by(
+    alloc: Global,
+    name: &str,
+    text: &[u8],
+    general: u8,
+    reason: Reason,
+    unit: usize,
+    tables: Option<&Table>,
+) -> Result<String, AllocError>
+    ensures { IfOk result (λ told. IsRefusedBy name.now text.now general reason unit (option_map (λ t. table_view t.now) tables.entry) (string_bytes told)) }
+{
+    let sentence = verifier_sentence(alloc, reason, unit)?;
+    let mark = refused_at(alloc, text, general, unit, source_in(tables, general))?;
+    report(alloc, name, sentence.as_str(), mark, None)
 }
 
 /// What is said of a program that the verifier refuses.
@@ -266,11 +360,19 @@ fn refused_told(
     reason: Reason,
     unit: usize,
 ) -> Result<String, AllocError>
-    ensures { IfOk result (λ told. string_bytes told ≡ refused_told name.now text.now general reason unit) }
+    ensures { IfOk result (λ told. IsRefusedProgram name.now text.now general reason unit (string_bytes told)) }
 {
-    let sentence = verifier_sentence(alloc, reason, unit)?;
-    let line = source_line(alloc, general, text)?;
-    report(alloc, name, sentence.as_str(), key_mark(b"asm", line), None)
+    let tables = document_of(alloc, text)?;
+    refused_by(alloc, name, text, general, reason, unit, tables.as_ref())
+}
+
+/// What is said of digits that are none.
+fn hex_told(alloc: Global, name: &str, text: &[u8], general: u8) -> Result<String, AllocError>
+    ensures { IfOk result (λ told. string_bytes told ≡ hex_told name.now text.now general) }
+{
+    let line = program_line(alloc, general, b"code", text)?;
+    let sentence = "bytecode is an even number of digits in hex, without blanks";
+    report(alloc, name, sentence, value_mark(b"code", line), None)
 }
 
 /// What is said of a fault of this general's program.
@@ -281,18 +383,14 @@ pub(crate) fn program_told(
     general: u8,
     fault: ProgramFault,
 ) -> Result<String, AllocError>
-    ensures { IfOk result (λ told. string_bytes told ≡ program_told name.now text.now general fault) }
+    ensures { IfOk result (λ told. IsProgramTold name.now text.now general fault (string_bytes told)) }
 {
     match fault {
         ProgramFault::Asm(fault, number) => {
             let line = program_line(alloc, general, b"asm", text)?;
             text_told(alloc, name, text, fault, number, line)
         }
-        ProgramFault::Hex => {
-            let line = program_line(alloc, general, b"code", text)?;
-            let sentence = "bytecode is an even number of digits in hex, without blanks";
-            report(alloc, name, sentence, value_mark(b"code", line), None)
-        }
+        ProgramFault::Hex => hex_told(alloc, name, text, general),
         ProgramFault::Code(fault, unit) => {
             let line = program_line(alloc, general, b"code", text)?;
             code_line_told(alloc, name, fault, unit, line)

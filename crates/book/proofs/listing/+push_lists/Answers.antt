@@ -70,7 +70,7 @@ returns-clause-held g t c =
     let ne = c.if-relays-eq0.false in
     let more : c.args.relays ≡ suc (c.args.relays - 1) = omega arith in
     let all : c.loop-other.other ≡ (g.H.Heard.seen c.args.table.now).generals = omega arith in
-    rw (c.combine.ensures, c.rule-2.ensures, c.as_slice-2.ensures.value) (held_all (g.H.Heard.seen c.args.table.now) c.args.relays (c.args.relays - 1) c.args.label.now c.args.general c.loop-other.other c.loop-other.orders.items more all c.loop-other.invariant.orders)
+    rw (c.combine-order.ensures, c.rule-rule.ensures, c.as_slice.ensures.value) (held_all (g.H.Heard.seen c.args.table.now) c.args.relays (c.args.relays - 1) c.args.label.now c.args.general c.loop-other.other c.loop-other.orders.items more all c.loop-other.invariant.orders)
 
 pub returns-clause-lines : goal.returns-clause-lines
 returns-clause-lines g t c =
@@ -78,6 +78,6 @@ returns-clause-lines g t c =
     let ne = c.if-relays-eq0.false in
     let more : c.args.relays ≡ suc (c.args.relays - 1) = omega arith in
     let all : c.loop-other.other ≡ (g.H.Heard.seen c.args.table.now).generals = omega arith in
-    let out : string_bytes c.in_ok-outcome.outcome ≡ outcome (g.H.Heard.seen c.args.table.now).rule c.loop-other.orders.items = rw (c.rule.ensures, c.as_slice.ensures.value) at c.in_ok-outcome.ensures in
-    lines_all (g.H.Heard.seen c.args.table.now) c.args.relays (c.args.relays - 1) c.args.label.now c.args.general c.loop-other.other (string_bytes c.args.lines.now) (string_bytes c.push_list.new.lines) (string_bytes c.loop-other.lines) (string_bytes c.loop-other.parts) (string_bytes c.in_ok-outcome.outcome) c.loop-other.orders.items c.told-told.result
-    more all c.loop-other.invariant.lines c.loop-other.invariant.parts c.loop-other.invariant.orders out c.told-told.ensures (rw (c.as_str.ensures.value, c.as_str-2.ensures.value) at (c.in_ok-push_list.ensures c.args.label.now c.requires.1.1.1.1.0))
+    let out : (c.outcome_words-words.result.now ++ decimal c.combine-order.result) ≡ outcome (g.H.Heard.seen c.args.table.now).rule c.loop-other.orders.items = rw (c.rule-rule.ensures, c.as_slice-2.ensures.value) at c.outcome_words-words.ensures in
+    lines_all (g.H.Heard.seen c.args.table.now) c.args.relays (c.args.relays - 1) c.args.label.now c.args.general c.loop-other.other (string_bytes c.args.lines.now) (string_bytes c.push_list.new.lines) (string_bytes c.loop-other.lines) (string_bytes c.loop-other.parts) (c.outcome_words-words.result.now ++ decimal c.combine-order.result) c.loop-other.orders.items c.told-told.result
+    more all c.loop-other.invariant.lines c.loop-other.invariant.parts c.loop-other.invariant.orders out c.told-told.ensures (rw c.as_str.ensures.value at (c.in_ok-push_list.ensures c.args.label.now c.requires.1.1.1.1.0))

@@ -4,7 +4,7 @@ use Rattle.json_lines.specs.Lines.{json_text, object_lines, objects}
 use Rattle.json_lines.proofs.lines.answer.Given as goal
 
 abbrev pub invariant-loop-first : goal.invariant-loop-first
-invariant-loop-first l = l.out.items ++ object_lines (objects l.held (lines_of l.rest)) ≡ json_text l.text
+invariant-loop-first l = l.out.items ++ object_lines (objects l.held (lines_of l.rest)) ≡ json_text l.fn.place l.text
 
 abbrev pub decreases-loop-first : goal.decreases-loop-first
 decreases-loop-first l = length l.rest

@@ -23,7 +23,7 @@ returns-in_default-clause-ended c same rest =
     let program = c.args.verified.now in
     let a = c.args.activation.now in
     let none = none_here program c.program-program.result.now a.state.unit c.unit.result c.in_default.ensures.found c.program-program.ensures.same c.unit.ensures in
-    ap (λ (l : List ℕ). string_bytes c.args.out.now ++ l) (nothing_there program c.args.context.now a.relay rest c.args.board.now.words a.state none) ∙ append-nil (string_bytes c.args.out.now)
+    ap (λ (l : List ℕ). string_bytes c.args.out.now ++ l) (nothing_there c.args.places.now program c.args.context.now a.relay rest c.args.board.now.words a.state none) ∙ append-nil (string_bytes c.args.out.now)
 
 pub returns-in_ok-put_slip-in-Limit-clause-told : goal.returns-in_ok-put_slip-in-Limit-clause-told
 returns-in_ok-put_slip-in-Limit-clause-told c same rest =
@@ -33,10 +33,10 @@ returns-in_ok-put_slip-in-Limit-clause-told c same rest =
     let next = next_of program c.args.context.now a.relay c.requires.answers (c.steps-limit.result + 1) a.state c.run.new.self (ap (λ n. n + 1) c.steps-limit.ensures)
     (c.in-Limit.ensures.advances c.requires.answers c.requires.reached) in
     let r0 = number_at c.run.new.self.state 0 in
-    slip_next program c.args.context.now a.relay rest c.args.board.now.words a.state c.run.new.self.state c.in-Some.insn (string_bytes c.args.out.now) (string_bytes c.put_slip.new.out) here next.0
+    slip_next c.args.places.now program c.args.context.now a.relay rest c.args.board.now.words a.state c.run.new.self.state c.in-Some.insn (string_bytes c.args.out.now) (string_bytes c.put_slip.new.out) here next.0
     (c.in_ok-put_slip-in-Limit.ensures
-    ∙ (ap (λ (r : Relay). string_bytes c.args.out.now ++ where_said r r0 c.call_at-call.result) c.run.ensures.relay
-    ∙ ap (λ (call : Option Call). string_bytes c.args.out.now ++ where_said a.relay r0 call) c.call_at-call.ensures))
+    ∙ (ap (λ (r : Relay). string_bytes c.args.out.now ++ where_said c.args.places.now r r0 c.call_at-call.result) c.run.ensures.relay
+    ∙ ap (λ (call : Option Call). string_bytes c.args.out.now ++ where_said c.args.places.now a.relay r0 call) c.call_at-call.ensures))
 
 pub returns-in_ok-answer-in-Asked-clause-counted : goal.returns-in_ok-answer-in-Asked-clause-counted
 returns-in_ok-answer-in-Asked-clause-counted c same =
@@ -52,7 +52,7 @@ returns-in_ok-answer-in-Asked-clause-told c same rest =
     let here : instruction_at program a.state.unit ≡ Some c.in-Some.insn = found_here program c.program-program.result.now a.state.unit c.unit.result c.in-Some.insn c.in-Some.ensures.found c.program-program.ensures.same c.unit.ensures in
     let asks = ask_of program c.args.context.now a.relay c.requires.answers (c.steps-limit.result + 1) a.state c.in-Asked.request c.run.new.self (ap (λ n. n + 1) c.steps-limit.ensures)
     (c.in-Asked.ensures.advances c.requires.answers c.requires.reached) in
-    slip_asks program c.args.context.now a.relay rest c.args.board.now.words c.answer.new.board.words a.state c.run.new.self.state c.answer.new.activation.state c.in-Some.insn c.in-Asked.request
+    slip_asks c.args.places.now program c.args.context.now a.relay rest c.args.board.now.words c.answer.new.board.words a.state c.run.new.self.state c.answer.new.activation.state c.in-Some.insn c.in-Asked.request
     (string_bytes c.args.out.now) (string_bytes c.args.out.now) here asks.0
     c.in_ok-answer-in-Asked.ensures.state c.in_ok-answer-in-Asked.ensures.words refl
 
@@ -63,4 +63,4 @@ returns-in-Exited-clause-ended c same rest =
     let here : instruction_at program a.state.unit ≡ Some c.in-Some.insn = found_here program c.program-program.result.now a.state.unit c.unit.result c.in-Some.insn c.in-Some.ensures.found c.program-program.ensures.same c.unit.ensures in
     let exit = exit_of program c.args.context.now a.relay c.requires.answers (c.steps-limit.result + 1) a.state c.in-Exited.field-0 c.run.new.self (ap (λ n. n + 1) c.steps-limit.ensures)
     (c.in-Exited.ensures.advances c.requires.answers c.requires.reached) in
-    slip_exit program c.args.context.now a.relay rest c.args.board.now.words a.state c.run.new.self.state c.in-Some.insn c.in-Exited.field-0 (string_bytes c.args.out.now) (string_bytes c.args.out.now) here exit refl
+    slip_exit c.args.places.now program c.args.context.now a.relay rest c.args.board.now.words a.state c.run.new.self.state c.in-Some.insn c.in-Exited.field-0 (string_bytes c.args.out.now) (string_bytes c.args.out.now) here exit refl

@@ -3,4 +3,4 @@ use Rattle.why.proofs.scenarios.unknown_in_table.Goals as goal
 
 pub returns : goal.returns
 unfolding entry_key_told
-returns c = rw (c.entry_line-line.ensures, c.in_ok-known.ensures) at c.key_report.ensures
+returns c = rw (c.entry_line-line.ensures, c.entry_sentence-sentence.ensures, c.other_than-other.ensures, c.in_ok-known.ensures) at c.key_report.ensures

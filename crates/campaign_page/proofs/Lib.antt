@@ -1,0 +1,2 @@
+mod AccountLaws
+mod ChainLemmas

@@ -1,0 +1,176 @@
+//! A campaign as a page.
+ghost use Rattle.std.specs.Prelude.{◌≡◌, ◌++◌, encode_utf8, flat_map, string_bytes, IfOk, OnOk};
+ghost use Rattle.campaign_page.specs.Account.{picture_name, chronicle_heading, picture_heading, scenario_heading, chronicle_part, page_text, parts, picture_part, scenario_part, title, title_words};
+ghost use Rattle.trace.specs.Text.{chronicle_text};
+
+use crate::sections::{put_accesses, put_lieutenants, put_programs};
+use crate::verdict::put_verdict;
+use book::Table;
+use diagram::campaign_svg;
+use page::{finish, put_heading, put_lines, put_picture, start};
+use std::alloc::{AllocError, Global};
+use trace::{Latch, write_chronicle};
+use world::Chronicle;
+
+/// The campaign of a chronicle, whose letters tell this message table and whose scenario this text tells, as one page of
+/// HTML.
+///
+/// # Errors
+///
+/// No memory for the text.
+pub fn page_text(
+    alloc: Global,
+    scenario_text: &str,
+    table: &Table,
+    chronicle: &Chronicle,
+) -> Result<String, AllocError>
+    ensures { IfOk result (λ text. string_bytes text ≡ page_text scenario_text.now table.now chronicle.now) }
+{
+    let title = title(alloc, chronicle)?;
+    let mut out = start(alloc, title.as_str())?;
+    put_parts(alloc, &mut out, scenario_text, table, chronicle)?;
+    finish(&mut out)?;
+    Ok(out)
+}
+
+/// Adds all sections.
+fn put_parts(
+    alloc: Global,
+    out: &mut String,
+    scenario_text: &str,
+    table: &Table,
+    chronicle: &Chronicle,
+) -> Result<(), AllocError>
+    ensures { OnOk result (string_bytes out.new ≡ string_bytes out.old ++ parts scenario_text.now table.now chronicle.now) }
+{
+    put_scenario(out, scenario_text)?;
+    put_programs(alloc, out, chronicle)?;
+    put_diagram(alloc, out, table, chronicle)?;
+    put_lieutenants(alloc, out, table, chronicle)?;
+    put_accesses(alloc, out, chronicle)?;
+    put_chronicle(alloc, out, chronicle)?;
+    put_verdict(out, chronicle)?;
+    Ok(())
+}
+
+/// The campaign's numbers.
+fn title(alloc: Global, chronicle: &Chronicle) -> Result<String, AllocError>
+    ensures { IfOk result (λ text. string_bytes text ≡ title chronicle.now.scenario) }
+{
+    let scenario = chronicle.scenario();
+    title_of(
+        alloc,
+        scenario.generals(),
+        scenario.bound(),
+        scenario.commander(),
+        scenario.order(),
+    )
+}
+
+/// These numbers, in words.
+#[tactic(auto, unfolding(crate::specs::Account::title_words))]
+fn title_of(
+    alloc: Global,
+    generals: u8,
+    bound: u8,
+    commander: u8,
+    order: u32,
+) -> Result<String, AllocError>
+    ensures { IfOk result (λ text. string_bytes text ≡ title_words generals bound commander order) }
+{
+    format!(in alloc;
+        "{generals} generals, traitors provided for: {bound}; commander {commander} was given order {order}"
+    )
+}
+
+/// Adds the scenario's text.
+fn put_scenario(out: &mut String, text: &str) -> Result<(), AllocError>
+    ensures { OnOk result (string_bytes out.new ≡ string_bytes out.old ++ scenario_part text.now) }
+{
+    put_heading(out, scenario_heading())?;
+    put_lines(out, text)
+}
+
+/// Adds the picture.
+fn put_diagram(
+    alloc: Global,
+    out: &mut String,
+    table: &Table,
+    chronicle: &Chronicle,
+) -> Result<(), AllocError>
+    ensures { OnOk result (string_bytes out.new ≡ string_bytes out.old ++ picture_part table.now chronicle.now) }
+{
+    let svg = campaign_svg(alloc, table, chronicle)?;
+    put_heading(out, picture_heading())?;
+    put_picture(out, picture_name(), svg.as_str())
+}
+
+/// Adds the chronicle.
+fn put_chronicle(alloc: Global, out: &mut String, chronicle: &Chronicle) -> Result<(), AllocError>
+    ensures { OnOk result (string_bytes out.new ≡ string_bytes out.old ++ chronicle_part chronicle.now) }
+{
+    let text = chronicle_text(alloc, chronicle)?;
+    put_heading(out, chronicle_heading())?;
+    put_lines(out, text.as_str())
+}
+
+/// The text of a chronicle.
+fn chronicle_text(alloc: Global, chronicle: &Chronicle) -> Result<String, AllocError>
+    ensures { IfOk result (λ text. string_bytes text ≡ flat_map encode_utf8 (chronicle_text chronicle.now)) }
+{
+    let mut latch = Latch::new(Vec::new(alloc));
+    match write_chronicle(chronicle, &mut latch) {
+        Ok(()) => text_of(alloc, latch.into_writer().as_slice()),
+        Err(_) => Err(AllocError),
+    }
+}
+
+/// The text whose characters have these numbers.
+fn text_of(alloc: Global, bytes: &[u8]) -> Result<String, AllocError>
+    ensures { IfOk result (λ text. string_bytes text ≡ flat_map encode_utf8 bytes.now) }
+{
+    let mut text = String::with_capacity(alloc, bytes.len())?;
+    for byte in bytes {
+        put_byte(&mut text, *byte)?;
+    }
+    Ok(text)
+}
+
+/// Adds the character of this number.
+fn put_byte(out: &mut String, byte: u8) -> Result<(), AllocError>
+    ensures { OnOk result (string_bytes out.new ≡ string_bytes out.old ++ encode_utf8 byte) }
+{
+    out.push(char::from(byte))
+}
+
+/// The heading of the scenario.
+#[tactic(auto, unfolding(crate::specs::Account::scenario_heading))]
+fn scenario_heading() -> &'static str
+    ensures { result.now ≡ scenario_heading }
+{
+    "Story and scenario"
+}
+
+/// The heading of the picture.
+#[tactic(auto, unfolding(crate::specs::Account::picture_heading))]
+fn picture_heading() -> &'static str
+    ensures { result.now ≡ picture_heading }
+{
+    "Who told whom what"
+}
+
+/// The heading of the chronicle.
+#[tactic(auto, unfolding(crate::specs::Account::chronicle_heading))]
+fn chronicle_heading() -> &'static str
+    ensures { result.now ≡ chronicle_heading }
+{
+    "Chronicle"
+}
+
+/// The name of the picture.
+#[tactic(auto, unfolding(crate::specs::Account::picture_name))]
+fn picture_name() -> &'static str
+    ensures { result.now ≡ picture_name }
+{
+    "Space-time diagram"
+}

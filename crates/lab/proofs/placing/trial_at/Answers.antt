@@ -1,0 +1,14 @@
+use Rattle.std.specs.Prelude.{option_map}
+use Rattle.lab.specs.Serving.{IsRefusedLater}
+use Rattle.lab.specs.Whys.{is_explained}
+use Rattle.lab.specs.declared.first_answer.FirstAnswer.TheVariants.{Trial}
+use Rattle.lab.specs.Whys.{Nothing}
+use Rattle.lab.proofs.WhyLemmas.{stops_later}
+use Rattle.lab.proofs.placing.trial_at.Goals as goal
+
+pub returns-clause-fault : goal.returns-clause-fault
+returns-clause-fault g c =
+    let known = option_map g.R.Source.bytes c.args.second in
+    stops_later _ (is_explained c.args.task.now) known (IsRefusedLater (Trial c.args.program.now c.args.traced) known) Nothing c.in_ok-bytes.bytes.items c.in-Err.refusal c.args.file c.later.result
+    c.in_ok-bytes.ensures.whole (λ other. (other, (c.in_ok-bytes.bytes.items, c.in_ok-bytes.ensures.whole, rw c.as_slice.ensures.value at c.in-Err.ensures.refused)))
+    (rw (c.as_slice-in-Err.ensures.value, c.is_explained.ensures) at c.later.ensures)

@@ -1,0 +1,59 @@
+-- Why a scenario that names files is refused, told at its own lines and those of its files (own).
+use Rattle.std.specs.Prelude.{ℕ, ◌≡◌, ◌≢◌, List, [], ◌++◌, Option, None, Some, Ok, Err, IfSome, codes, unwrap_or}
+use Rattle.toml.specs.Parse.{parse_document}
+use Rattle.command_line.specs.declared.tasks.Account.TheVariants.{Chronicle, Table}
+use Rattle.command_line.specs.declared.tasks.Task.{Task}
+use Rattle.command_line.specs.declared.tasks.Task.TheVariants.{Audit, Muster, Play}
+use Rattle.command_line.specs.Told.{file_of}
+use Rattle.round.specs.Scenario.{Scenario}
+use Rattle.scenario.specs.Told.{Reads, ReadsAny}
+use Rattle.scenario.specs.Telling.{told}
+use Rattle.scenario.specs.declared.fault.ScenarioError.{ScenarioError}
+use Rattle.scenario.specs.declared.fault.ScenarioError.TheVariants.{Memory}
+use Rattle.scenario.specs.declared.messages.Campaign.{Campaign}
+use Rattle.streams.specs.Names.{shown}
+use Rattle.why.specs.Made.{TellsMade}
+use Rattle.own_lines.specs.declared.refusing.Taken.{Taken}
+use Rattle.own_lines.specs.declared.refusing.Taken.TheVariants as taken
+
+-- which campaigns a task takes that explains what it refuses of a scenario: a message table and a muster are of oral ones
+abbrev pub taken_by : Task → Option Taken
+taken_by (Play scenario schedule Chronicle (Some of)) = Some taken.Any
+taken_by (Play scenario schedule Table (Some of)) = Some taken.Oral
+taken_by (Muster scenario (Some of)) = Some taken.Oral
+taken_by (Audit scenario chronicle (Some of)) = Some taken.Any
+taken_by task = None
+
+-- the text tells no such campaign, by this first error; or it tells one
+abbrev pub Refuses : Taken → List ℕ → ScenarioError → Type 0
+Refuses taken.Oral text error = (error ≢ Memory) × Reads (parse_document text) (Err error)
+Refuses taken.Any text error = (error ≢ Memory) × ReadsAny (parse_document text) (Err error)
+
+abbrev pub Takes : Taken → List ℕ → Type 0
+Takes taken.Oral text = (s : Scenario) × Reads (parse_document text) (Ok s)
+Takes taken.Any text = (c : Campaign) × ReadsAny (parse_document text) (Ok c)
+
+abbrev pub IsErrorOf : Taken → List ℕ → Option ScenarioError → Type 0
+IsErrorOf kind text None = Takes kind text
+IsErrorOf kind text (Some error) = Refuses kind text error
+
+-- the report shows the file's name; how one past ASCII with a control character is shown is not said
+abbrev pub IsReportShown : List ℕ → List ℕ → List ℕ → ScenarioError → List ℕ → Type 0
+IsReportShown file own made error report = IfSome (shown file) (λ name. TellsMade name own made error report)
+
+-- the line of the refusal, and behind it that report
+abbrev pub IsRefusalShown : List ℕ → List ℕ → List ℕ → ScenarioError → List ℕ → Type 0
+IsRefusalShown file own made error lines =
+    (report : List ℕ) × IsReportShown file own made error report × (lines ≡ codes "refused " ++ told error ++ report)
+
+-- the text that was made tells a campaign, and nothing is told of it; or it is refused, and that is told
+abbrev pub IsToldOf : Taken → List ℕ → List ℕ → List ℕ → Option (List ℕ) → Type 0
+IsToldOf kind file own made None = Takes kind made
+IsToldOf kind file own made (Some lines) = (error : ScenarioError) × Refuses kind made error × IsRefusalShown file own made error lines
+
+abbrev pub IsToldBy : Option Taken → List ℕ → List ℕ → List ℕ → Option (List ℕ) → Type 0
+IsToldBy None file own made lines = lines ≡ None
+IsToldBy (Some kind) file own made lines = IsToldOf kind file own made lines
+
+abbrev pub IsTold : Task → List ℕ → List ℕ → Option (List ℕ) → Type 0
+IsTold task own made lines = IsToldBy (taken_by task) (unwrap_or (file_of task) []) own made lines

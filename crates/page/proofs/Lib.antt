@@ -1,0 +1,2 @@
+mod EncodedLaws
+pub mod PageLaws

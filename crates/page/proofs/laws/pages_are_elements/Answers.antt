@@ -1,0 +1,5 @@
+use Rattle.page.proofs.PageLaws.{proved_pages_are_elements}
+use Rattle.page.proofs.laws.pages_are_elements.Goals as goal
+
+pub returns : goal.returns
+returns c = proved_pages_are_elements

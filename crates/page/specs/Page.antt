@@ -1,0 +1,80 @@
+-- A page of HTML in the syntax of XML (HTML Living Standard, sections 13.1 and 14), byte by byte. Texts of others are escaped.
+use Rattle.std.specs.Prelude.{ℕ, List, ◌++◌, codes}
+use Rattle.std.specs.Str.{chars, encode_utf8_all}
+use Rattle.markup.specs.Escaped.{escaped}
+
+-- a text of others
+abbrev pub shown : List ℕ → List ℕ
+shown text = encode_utf8_all (escaped (chars text))
+
+-- that it is HTML, in English, and what it may load: nothing, and its own style
+unfoldable pub preamble : List ℕ
+preamble =
+    codes "<!DOCTYPE html>\n<html lang=\"en\">\n<head>\n<meta charset=\"utf-8\"/>\n<meta http-equiv=\"Content-Security-Policy\" con"
+    ++ codes "tent=\"default-src 'none'; style-src 'unsafe-inline'; img-src data:\"/>\n<meta name=\"viewport\" content=\"width=device-"
+    ++ codes "width, initial-scale=1\"/>\n<style>"
+
+-- how it looks
+unfoldable pub look : List ℕ
+look =
+    codes ":root{color-scheme:light dark}body{margin:0;background:#fff;color:#111;font:16px/1.5 sans-serif}main{max-width:70rem;mar"
+    ++ codes "gin:auto;padding:1rem}h1{font-size:1.4rem}h2{font-size:1.15rem;margin-top:2rem}pre{margin:.5rem 0;padding-left:.6rem;bor"
+    ++ codes "der-left:3px solid #8a8a8a;font:13px/1.45 monospace;white-space:pre-wrap;overflow-wrap:anywhere}summary{padding:.4rem 0;"
+    ++ codes "font-weight:bold;cursor:pointer}figure{margin:0;overflow-x:auto}summary:focus-visible,figure:focus-visible{outline:3px s"
+    ++ codes "olid #0b5fa5;outline-offset:2px}@media(prefers-color-scheme:dark){body{background:#111;color:#eee}summary:focus-visible,"
+    ++ codes "figure:focus-visible{outline-color:#6cb8f5}}@media print{body{background:#fff;color:#000}figure{overflow:visible}svg{max"
+    ++ codes "-width:100%;height:auto}details::details-content{content-visibility:visible;block-size:auto}}"
+
+abbrev pub look_end : List ℕ
+look_end = codes "</style>\n<title>"
+
+abbrev pub head_middle : List ℕ
+head_middle = codes "</title>\n</head>\n<body>\n<main>\n<h1>"
+
+abbrev pub head_end : List ℕ
+head_end = codes "</h1>\n"
+
+abbrev pub page_start : List ℕ → List ℕ
+page_start title = preamble ++ look ++ look_end ++ shown title ++ head_middle ++ shown title ++ head_end
+
+abbrev pub page_end : List ℕ
+page_end = codes "</main>\n</body>\n</html>\n"
+
+-- a page of this title with these parts
+abbrev pub page : List ℕ → List ℕ → List ℕ
+page title parts = page_start title ++ parts ++ page_end
+
+-- ---- parts
+
+abbrev pub heading : List ℕ → List ℕ
+heading text = codes "<h2>" ++ shown text ++ codes "</h2>\n"
+
+abbrev pub paragraph : List ℕ → List ℕ
+paragraph text = codes "<p>" ++ shown text ++ codes "</p>\n"
+
+-- a text whose lines stand as they are, behind a line feed, which is not shown
+abbrev pub lines : List ℕ → List ℕ
+lines text = codes "<pre>\n" ++ shown text ++ codes "</pre>\n"
+
+-- parts that are shown where a reader opens them, below a summary
+abbrev pub fold_start : List ℕ → List ℕ
+fold_start summary = codes "<details>\n<summary>" ++ shown summary ++ codes "</summary>\n"
+
+abbrev pub fold_end : List ℕ
+fold_end = codes "</details>\n"
+
+abbrev pub fold : List ℕ → List ℕ → List ℕ
+fold summary parts = fold_start summary ++ parts ++ fold_end
+
+-- a picture as it stands, under this name; the keys reach it
+unfoldable pub picture_tag : List ℕ
+picture_tag = codes "<figure tabindex=\"0\" aria-label=\""
+
+abbrev pub picture_start : List ℕ → List ℕ
+picture_start name = picture_tag ++ shown name ++ codes "\">\n"
+
+abbrev pub picture_end : List ℕ
+picture_end = codes "</figure>\n"
+
+abbrev pub picture : List ℕ → List ℕ → List ℕ
+picture name svg = picture_start name ++ svg ++ picture_end

@@ -1,0 +1,17 @@
+//! Laws of pages: each function does nothing, and its contract is the law.
+ghost use Rattle.page.specs.Laws.{PagesAreElements, PartsAreContent, TextsAreText};
+
+/// A text of others has no markup: no angle bracket, no quotation mark, and no ampersand but that of a reference.
+pub fn texts_are_text()
+    ensures { TextsAreText }
+{}
+
+/// What is written of a part is content of an element, whatever its texts.
+pub fn parts_are_content()
+    ensures { PartsAreContent }
+{}
+
+/// A page whose parts are content is a line that says what it is, and one element.
+pub fn pages_are_elements()
+    ensures { PagesAreElements }
+{}

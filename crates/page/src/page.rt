@@ -1,0 +1,78 @@
+//! Where a page begins and where it ends.
+ghost use Rattle.std.specs.Prelude.{◌≡◌, ◌++◌, string_bytes, IfOk, OnOk};
+ghost use Rattle.page.specs.Page.{head_end, head_middle, look, look_end, page_end, page_start, preamble, shown};
+
+use markup::put_escaped;
+use std::alloc::{AllocError, Global};
+
+/// What a page of this title begins with: its parts come behind it.
+///
+/// # Errors
+///
+/// No memory for the text; so of every function here.
+pub fn start(alloc: Global, title: &str) -> Result<String, AllocError>
+    ensures { IfOk result (λ text. string_bytes text ≡ page_start title.now) }
+{
+    let mut out = String::from_str(alloc, preamble())?;
+    out.push_str(look())?;
+    out.push_str(look_end())?;
+    put_escaped(&mut out, title)?;
+    out.push_str(head_middle())?;
+    put_escaped(&mut out, title)?;
+    out.push_str(head_end())?;
+    Ok(out)
+}
+
+/// Adds what a page ends in.
+pub fn finish(out: &mut String) -> Result<(), AllocError>
+    ensures { OnOk result (string_bytes out.new ≡ string_bytes out.old ++ page_end) }
+{
+    out.push_str("</main>\n</body>\n</html>\n")
+}
+
+/// What stands before how the page looks: that it is HTML, in English, and what it may load, which is nothing.
+#[tactic(auto, unfolding(crate::specs::Page::preamble))]
+fn preamble() -> &'static str
+    ensures { result.now ≡ preamble }
+{
+    "<!DOCTYPE html>\n<html lang=\"en\">\n<head>\n<meta charset=\"utf-8\"/>\n\
+     <meta http-equiv=\"Content-Security-Policy\" content=\"default-src 'none'; style-src 'unsafe-inline'; img-src data:\"/>\n\
+     <meta name=\"viewport\" content=\"width=device-width, initial-scale=1\"/>\n<style>"
+}
+
+/// How the page looks: on a light ground and on a dark one, on a narrow screen, and on paper, where folds are open.
+#[tactic(auto, unfolding(crate::specs::Page::look))]
+fn look() -> &'static str
+    ensures { result.now ≡ look }
+{
+    ":root{color-scheme:light dark}body{margin:0;background:#fff;color:#111;font:16px/1.5 sans-serif}\
+     main{max-width:70rem;margin:auto;padding:1rem}h1{font-size:1.4rem}h2{font-size:1.15rem;margin-top:2rem}\
+     pre{margin:.5rem 0;padding-left:.6rem;border-left:3px solid #8a8a8a;font:13px/1.45 monospace;white-space:pre-wrap;overflow-wrap:anywhere}\
+     summary{padding:.4rem 0;font-weight:bold;cursor:pointer}figure{margin:0;overflow-x:auto}\
+     summary:focus-visible,figure:focus-visible{outline:3px solid #0b5fa5;outline-offset:2px}\
+     @media(prefers-color-scheme:dark){body{background:#111;color:#eee}summary:focus-visible,figure:focus-visible{outline-color:#6cb8f5}}\
+     @media print{body{background:#fff;color:#000}figure{overflow:visible}\
+     svg{max-width:100%;height:auto}\
+     details::details-content{content-visibility:visible;block-size:auto}}"
+}
+
+/// What stands between it and the title.
+fn look_end() -> &'static str
+    ensures { result.now ≡ look_end }
+{
+    "</style>\n<title>"
+}
+
+/// What stands between the title of the window and that of the page.
+fn head_middle() -> &'static str
+    ensures { result.now ≡ head_middle }
+{
+    "</title>\n</head>\n<body>\n<main>\n<h1>"
+}
+
+/// What stands behind the title.
+fn head_end() -> &'static str
+    ensures { result.now ≡ head_end }
+{
+    "</h1>\n"
+}

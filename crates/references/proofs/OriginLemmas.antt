@@ -1,0 +1,9 @@
+-- How many items a list has.
+use Rattle.std.proofs.Common.{◌≡◌, suc, List, [], ◌∷◌, length, refl, ap}
+use Rattle.toml.specs.View.{items_view}
+use Rattle.toml.specs.declared.value.Value.{Value}
+use Rattle.references.specs.Origins.{count}
+
+pub counted : (vs : List Value) → length vs ≡ count (items_view vs)
+counted [] = refl
+counted (v ∷ vs) = ap suc (counted vs)

@@ -1,0 +1,70 @@
+-- From which element of the list of traitors a table comes that stands in the resolved list (own).
+use Rattle.std.specs.Prelude.{ℕ, suc, ℤ, pos, ◌+◌, ◌-◌, ◌==◌, ◌||◌, Bool, false, nat_lt, if◌then◌else◌, List, Option, None, Some, codes, option_and_then}
+use Rattle.toml.specs.Data.{Data, Items, no_items, item, Members, as_integer, as_table, get_member}
+use Rattle.references.specs.Names.{seats, traitors}
+
+abbrev pub count : Items → ℕ
+count no_items = 0
+count (item d ds) = suc (count ds)
+
+-- how many tables stand in the place of an element: one for each general who shares it, else one
+abbrev pub by_sharers : Option Items → ℕ
+by_sharers None = 1
+by_sharers (Some gs) = count gs
+
+abbrev pub by_table : Option Members → ℕ
+by_table None = 1
+by_table (Some ms) = by_sharers (seats ms)
+
+abbrev pub stands_for : Data → ℕ
+stands_for d = by_table (as_table d)
+
+-- the element from which the table of this number comes, of those from this one on; behind all of them none does
+abbrev pub origin_from : ℕ → ℕ → Items → ℕ
+origin_from at number no_items = at
+origin_from at number (item d ds) = if nat_lt number (stands_for d) then at else origin_from (at + 1) (number - stands_for d) ds
+
+abbrev pub origin_in : ℕ → Option Items → ℕ
+origin_in number None = number
+origin_in number (Some ds) = origin_from 0 number ds
+
+-- in a text that is this document, or none
+abbrev pub origin : ℕ → Option Members → ℕ
+origin number document = origin_in number (option_and_then traitors document)
+
+-- the value is this general's number
+abbrev pub is_number : ℕ → Option ℤ → Bool
+is_number g (Some (pos n)) = n == g
+is_number g z = false
+
+abbrev pub is_general : ℕ → Data → Bool
+is_general g d = is_number g (as_integer d)
+
+abbrev pub has_general : ℕ → Items → Bool
+has_general g no_items = false
+has_general g (item d ds) = is_general g d || has_general g ds
+
+-- the table is this general's, by himself or with others
+abbrev pub is_named : ℕ → Option Data → Bool
+is_named g None = false
+is_named g (Some d) = is_general g d
+
+abbrev pub is_among : ℕ → Members → Option Items → Bool
+is_among g ms None = is_named g (get_member (codes "general") ms)
+is_among g ms (Some gs) = has_general g gs
+
+abbrev pub is_seat : ℕ → Option Members → Bool
+is_seat g None = false
+is_seat g (Some ms) = is_among g ms (seats ms)
+
+-- the first element that is this general's table, of those from this one on
+abbrev pub seat_from : ℕ → ℕ → Items → Option ℕ
+seat_from at g no_items = None
+seat_from at g (item d ds) = if is_seat g (as_table d) then Some at else seat_from (at + 1) g ds
+
+abbrev pub seat_in : ℕ → Option Items → Option ℕ
+seat_in g None = None
+seat_in g (Some ds) = seat_from 0 g ds
+
+abbrev pub seat : ℕ → Option Members → Option ℕ
+seat g document = seat_in g (option_and_then traitors document)

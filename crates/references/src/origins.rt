@@ -1,0 +1,140 @@
+//! From which table of a scenario's text a table of the resolved one comes.
+ghost use Rattle.std.specs.Prelude.{◌≡◌, IfOk};
+ghost use Rattle.toml.specs.Parse.{parse_document};
+ghost use Rattle.toml.specs.View.{items_view, table_view, view};
+ghost use Rattle.references.specs.Names.{seats};
+ghost use Rattle.references.specs.Origins.{has_general, is_among, is_general, is_seat, origin, origin_from, seat, seat_from, stands_for};
+ghost use Rattle.toml.specs.Data.{as_table};
+
+use crate::tables::{seats, traitors, value_at};
+use std::alloc::{AllocError, Global};
+use toml::{Table, Value};
+
+/// How many tables stand in the place of an element of the list.
+#[tactic(auto, using(crate::proofs::OriginLemmas::counted))]
+fn stands_for(value: &Value) -> usize
+    ensures { result ≡ stands_for (view value.now) }
+{
+    let Some(table) = value.as_table() else {
+        return 1;
+    };
+    match seats(table) {
+        Some(generals) => generals.len(),
+        None => 1,
+    }
+}
+
+/// The element from which the table of this number comes.
+fn origin_in(values: &[Value], number: usize) -> usize
+    ensures { result ≡ origin_from 0 number (items_view values.now) }
+{
+    let mut left = number;
+    for at in 0..values.len() {
+        let tables = stands_for(&values[at]);
+        if left < tables {
+            return at;
+        }
+        left -= tables;
+    }
+    values.len()
+}
+
+/// Whether the value is this general's number.
+fn is_general(value: &Value, general: u8) -> bool
+    ensures { result ≡ is_general general (view value.now) }
+{
+    match value.as_integer() {
+        Some(number) => match u64::try_from(number) {
+            Ok(number) => number == u64::from(general),
+            Err(_) => false,
+        },
+        None => false,
+    }
+}
+
+/// Whether the list has this general's number.
+fn has_general(values: &[Value], general: u8) -> bool
+    ensures { result ≡ has_general general (items_view values.now) }
+{
+    for at in 0..values.len() {
+        if is_general(&values[at], general) {
+            return true;
+        }
+    }
+    false
+}
+
+/// Whether the table is this general's, by himself or with others.
+fn is_among(table: &Table, general: u8) -> bool
+    ensures { result ≡ is_among general (table_view table.now) (seats (table_view table.now)) }
+{
+    match seats(table) {
+        Some(generals) => has_general(generals, general),
+        None => match value_at(table, "general") {
+            Some(value) => is_general(value, general),
+            None => false,
+        },
+    }
+}
+
+/// Whether an element of the list is such a table.
+fn is_seat(value: &Value, general: u8) -> bool
+    ensures { result ≡ is_seat general (as_table (view value.now)) }
+{
+    match value.as_table() {
+        Some(table) => is_among(table, general),
+        None => false,
+    }
+}
+
+/// The first element that is this general's table.
+fn seat_in(values: &[Value], general: u8) -> Option<usize>
+    ensures { result ≡ seat_from 0 general (items_view values.now) }
+{
+    for at in 0..values.len() {
+        if is_seat(&values[at], general) {
+            return Some(at);
+        }
+    }
+    None
+}
+
+/// From which traitor's table of the text of a scenario the table of this number comes that stands in its resolved text, both
+/// counted from 0; the same number where the text has no list of traitors.
+///
+/// # Errors
+///
+/// `AllocError` where memory is refused.
+pub fn origin(alloc: Global, text: &str, number: usize) -> Result<usize, AllocError>
+    ensures { IfOk result (λ own. own ≡ origin number (parse_document text.now)) }
+{
+    let table = match toml::table_from_str(alloc, text) {
+        Ok(table) => table,
+        Err(error) if error.is_memory() => return Err(AllocError),
+        Err(_) => return Ok(number),
+    };
+    match traitors(&table) {
+        Some(values) => Ok(origin_in(values, number)),
+        None => Ok(number),
+    }
+}
+
+/// Which traitor's table of the text of a scenario is the first of this general, by himself or with others, counted from 0;
+/// none where no table is.
+///
+/// # Errors
+///
+/// `AllocError` where memory is refused.
+pub fn seat(alloc: Global, text: &str, general: u8) -> Result<Option<usize>, AllocError>
+    ensures { IfOk result (λ own. own ≡ seat general (parse_document text.now)) }
+{
+    let table = match toml::table_from_str(alloc, text) {
+        Ok(table) => table,
+        Err(error) if error.is_memory() => return Err(AllocError),
+        Err(_) => return Ok(None),
+    };
+    match traitors(&table) {
+        Some(values) => Ok(seat_in(values, general)),
+        None => Ok(None),
+    }
+}

@@ -1,0 +1,9 @@
+use Rattle.std.proofs.Common.{◌≡◌, false, take}
+use Rattle.label.specs.Labels.{on}
+use Rattle.signed.specs.Chains.{orders}
+use Rattle.signed.specs.Sending.{lent}
+use Rattle.signed.proofs.accepted_chains.bring.Given as goal
+
+-- none so far
+abbrev pub invariant-loop-chain : goal.invariant-loop-chain
+invariant-loop-chain l = on (orders (lent (take l.chain-index l.chains))) l.order ≡ false

@@ -1,0 +1,10 @@
+use Rattle.std.proofs.Common.{◌≡◌, ◌∷◌, []}
+use Rattle.std.specs.List.{flat_map}
+use Rattle.std.specs.String.{string_bytes}
+use Rattle.label.specs.Labels.{others}
+use Rattle.signed.specs.Explained.{acceptance_lines}
+use Rattle.signed.proofs.explaining.all_lieutenants.Given as goal
+
+-- those of the lieutenants so far
+abbrev pub invariant-loop-general : goal.invariant-loop-general
+invariant-loop-general l = string_bytes l.lines ≡ flat_map (acceptance_lines l.chronicle) (others l.general (l.chronicle.scenario.commander ∷ []))

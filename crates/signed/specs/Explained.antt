@@ -1,0 +1,67 @@
+-- How the lieutenants of a signed campaign come to their decisions, as it is told: the orders that each accepts, with the chain that
+-- brought him each first, what he makes of them (TOPLAS 1982, algorithm SM(m)), and whether the conditions IC1 and IC2 hold.
+use Rattle.std.specs.Prelude.{ℕ, zero, suc, ◌==◌, ◌&&◌, not, nat_lt, count_by, Bool, true, false, if◌then◌else◌, List, [], ◌∷◌, ◌++◌, codes, Option, None, Some}
+use Rattle.std.specs.Fmt.{decimal}
+use Rattle.std.specs.List.{flat_map}
+use Rattle.label.specs.Labels.{generals}
+use Rattle.label.specs.Lieutenants.{lieutenants}
+use Rattle.book.specs.declared.conditions.Obedience.{Obedience}
+use Rattle.book.specs.declared.conditions.Obedience.TheVariants.{Traitor, Obeyed, Disobeyed}
+use Rattle.book.specs.Explained.{alike_line, dotted, few_words, head_line, mark, obedience_line, yes_no}
+use Rattle.round.specs.Scenario.{Scenario, is_traitor}
+use Rattle.world.specs.declared.verdict.Verdict.{Verdict}
+use Rattle.world.specs.Chronicle.{Chronicle}
+use Rattle.signed.specs.Chains.{Chain, orders}
+use Rattle.signed.specs.Accepted.{Deliveries, added, decided}
+use Rattle.signed.specs.Sent.{delivered, sent_in}
+
+-- the chains that brought p the orders that he accepted in the first r rounds, in the order in which he accepted them
+unfoldable pub bringing : ℕ → Deliveries → ℕ → ℕ → List Chain
+bringing n S zero p = []
+bringing n S (suc r) p = bringing n S r p ++ added n S r p
+
+-- those of a campaign
+abbrev pub chains_of : Chronicle → ℕ → List Chain
+chains_of c p = bringing c.scenario.generals (delivered (sent_in c.scenario c.letters)) (suc c.scenario.bound) p
+
+-- the line of an order that is accepted
+abbrev pub accepted_line : Chain → List ℕ
+accepted_line ch = codes "accepts " ++ decimal ch.order ++ codes ", signed " ++ dotted ch.signers ++ codes "\n"
+
+-- a choice of one order is that order, of none or of several RETREAT
+abbrev pub choice_words : List ℕ → List ℕ
+choice_words [] = codes ": no order, so 0\n"
+choice_words (v ∷ []) = codes ": one order\n"
+choice_words (v ∷ w ∷ vs) = codes ": several orders, so 0\n"
+
+-- the line of a decision
+abbrev pub choice_line : ℕ → Bool → List ℕ → List ℕ
+choice_line p traitor vs = codes "decision " ++ decimal p ++ mark traitor ++ decimal (decided vs) ++ choice_words vs
+
+-- the lines of a lieutenant: who he is, the orders that he accepts, and his decision
+unfoldable pub acceptance_lines : Chronicle → ℕ → List ℕ
+acceptance_lines c p = head_line p ++ flat_map accepted_line (chains_of c p) ++ choice_line p (is_traitor c.scenario p) (orders (chains_of c p))
+
+-- whether there are at most m traitors
+abbrev pub traitors_line : Scenario → Bool → List ℕ
+traitors_line s holds =
+    codes "bound " ++ yes_no holds ++ codes ": " ++ decimal (count_by (is_traitor s) (generals s.generals)) ++ codes " traitors, " ++ few_words holds ++ decimal s.bound ++ codes "\n"
+
+-- whether a loyal commander is obeyed
+abbrev pub obedience_of : ℕ → Option Bool → Obedience
+obedience_of order None = Traitor
+obedience_of order (Some true) = Obeyed order
+obedience_of order (Some false) = Disobeyed order
+
+-- whether the bound and the conditions hold
+unfoldable pub verdict_lines : Scenario → Verdict → List ℕ
+verdict_lines s v = traitors_line s v.bound ++ alike_line v.alike ++ obedience_line (obedience_of s.order v.obeyed)
+
+-- the lines of one general, and none of one who is no lieutenant
+abbrev pub acceptance_of : Chronicle → ℕ → List ℕ
+acceptance_of c g = if nat_lt g c.scenario.generals && not (g == c.scenario.commander) then acceptance_lines c g else []
+
+-- all of it, of all lieutenants or of one general
+unfoldable pub signed_explained : Chronicle → Option ℕ → List ℕ
+signed_explained c None = flat_map (acceptance_lines c) (lieutenants c.scenario.generals c.scenario.commander) ++ verdict_lines c.scenario c.verdict
+signed_explained c (Some g) = acceptance_of c g ++ verdict_lines c.scenario c.verdict

@@ -1,0 +1,93 @@
+//! The chains that bring a lieutenant the orders that he accepts.
+ghost use Rattle.std.specs.Prelude.{◌≡◌, ◌<◌, suc, map, IfOk, OnOk};
+ghost use Rattle.label.specs.Labels.{on};
+ghost use Rattle.signed.specs.Accepted.{came};
+ghost use Rattle.signed.specs.Chains.{orders};
+ghost use Rattle.signed.specs.Entries.{received};
+ghost use Rattle.signed.specs.Explained.{chains_of};
+ghost use Rattle.signed.specs.Gathered.{gathered, gathered_also};
+ghost use Rattle.signed.specs.Sending.{dispatch_of, lent};
+ghost use Rattle.signed.specs.Sent.{delivered, sent_in};
+
+use crate::chain::Chain;
+use crate::chronicle::SignedChronicle;
+use crate::sets::has;
+use std::alloc::{AllocError, Global};
+
+/// Whether one of the chains brings the order.
+#[tactic(auto, using(crate::proofs::Gathering::one_brings, crate::proofs::Gathering::none_brings))]
+fn bring(chains: &[&Chain], order: u32) -> bool
+    ensures { result ≡ on (orders (lent chains.now)) order }
+{
+    for chain in chains {
+        if chain.order() == order {
+            return true;
+        }
+    }
+    false
+}
+
+/// With one chain more, where none of them brings its order.
+#[tactic(auto, using(crate::proofs::Gathering::also_pushed, crate::proofs::Gathering::also_kept))]
+fn add<'a>(chains: &mut Vec<&'a Chain>, chain: &'a Chain) -> Result<(), AllocError>
+    ensures { OnOk result (lent chains.new.items ≡ gathered_also (lent chains.old.items) chain.now) }
+{
+    if !bring(chains.as_slice(), chain.order()) {
+        chains.push(chain)?;
+    }
+    Ok(())
+}
+
+/// With those that one sender's chains of a round add.
+fn add_sending<'a>(
+    chains: &mut Vec<&'a Chain>,
+    sending: &'a [(Chain, u16)],
+    round: usize,
+    general: u8,
+) -> Result<(), AllocError>
+    requires { general < 13 }
+    ensures { OnOk result (lent chains.new.items ≡ gathered round general (lent chains.old.items) (received general (map dispatch_of sending.now))) }
+{
+    for (chain, receivers) in sending {
+        if has(*receivers, general) && chain.counts(round, general) {
+            add(chains, chain)?;
+        }
+    }
+    Ok(())
+}
+
+/// With those that a round adds.
+fn add_round<'a>(
+    chains: &mut Vec<&'a Chain>,
+    chronicle: &'a SignedChronicle,
+    round: usize,
+    general: u8,
+) -> Result<(), AllocError>
+    requires { general < 13 }
+    ensures { OnOk result (lent chains.new.items ≡ gathered round general (lent chains.old.items) (came chronicle.now.scenario.generals (delivered (sent_in chronicle.now.scenario chronicle.now.letters)) round general)) }
+{
+    for sender in 0..chronicle.scenario().generals() {
+        add_sending(chains, chronicle.sent(sender, round), round, general)?;
+    }
+    Ok(())
+}
+
+/// The chains that bring a general the orders that he accepts, in the order in which he accepts them.
+///
+/// # Errors
+///
+/// `AllocError` where memory is refused.
+pub(crate) fn bringing(
+    alloc: Global,
+    chronicle: &SignedChronicle,
+    general: u8,
+) -> Result<Vec<&Chain>, AllocError>
+    requires { general < 13 }
+    ensures { IfOk result (λ chains. lent chains.items ≡ chains_of chronicle.now general) }
+{
+    let mut chains = Vec::new(alloc);
+    for round in 0..usize::from(chronicle.scenario().bound()) + 1 {
+        add_round(&mut chains, chronicle, round + 1, general)?;
+    }
+    Ok(chains)
+}

@@ -1,0 +1,249 @@
+//! How the lieutenants of a signed campaign come to their decisions, as a text.
+ghost use Rattle.std.specs.Prelude.{◌≡◌, ◌<◌, ◌++◌, ◌∷◌, IfOk, OnOk, codes, string_bytes};
+ghost use Rattle.std.specs.Fmt.{decimal};
+ghost use Rattle.std.specs.List.{flat_map};
+ghost use Rattle.label.specs.Lieutenants.{lieutenants};
+ghost use Rattle.book.specs.Explained.{alike_line, dotted, few_words, mark, obedience_line, yes_no};
+ghost use Rattle.signed.specs.Accepted.{decided};
+ghost use Rattle.signed.specs.Chains.{orders};
+ghost use Rattle.signed.specs.Explained.{acceptance_lines, acceptance_of, accepted_line, choice_line, choice_words, obedience_of, signed_explained, traitors_line, verdict_lines};
+ghost use Rattle.signed.specs.Sending.{lent};
+
+use crate::acceptance::decided;
+use crate::accepted_chains::bringing;
+use crate::chain::Chain;
+use crate::chronicle::SignedChronicle;
+use round::Scenario;
+use std::alloc::{AllocError, Global};
+use world::Verdict;
+use world::judging::traitors;
+
+/// Adds the generals, each behind a dot.
+fn push_further(lines: &mut String, generals: &[u8]) -> Result<(), AllocError>
+    ensures { OnOk result (string_bytes lines.new ≡ string_bytes lines.old ++ flat_map (λ g. codes "." ++ decimal g) generals.now) }
+{
+    for general in generals {
+        write!(lines, ".{general}")?;
+    }
+    Ok(())
+}
+
+/// Adds the generals, joined by dots.
+fn push_signers(lines: &mut String, generals: &[u8]) -> Result<(), AllocError>
+    ensures { OnOk result (string_bytes lines.new ≡ string_bytes lines.old ++ dotted generals.now) }
+{
+    match generals {
+        [] => Ok(()),
+        [first, rest @ ..] => {
+            write!(lines, "{first}")?;
+            push_further(lines, rest)
+        }
+    }
+}
+
+/// Adds the line of an order that is accepted.
+fn push_accepted(lines: &mut String, chain: &Chain) -> Result<(), AllocError>
+    ensures { OnOk result (string_bytes lines.new ≡ string_bytes lines.old ++ accepted_line chain.now) }
+{
+    let order = chain.order();
+    write!(lines, "accepts {order}, signed ")?;
+    push_signers(lines, chain.signers())?;
+    lines.push_str("\n")
+}
+
+/// Adds those of all these.
+fn push_all_accepted(lines: &mut String, chains: &[&Chain]) -> Result<(), AllocError>
+    ensures { OnOk result (string_bytes lines.new ≡ string_bytes lines.old ++ flat_map accepted_line (lent chains.now)) }
+{
+    for chain in chains {
+        push_accepted(lines, chain)?;
+    }
+    Ok(())
+}
+
+/// What is decided of the orders that these chains bring.
+fn chosen(chains: &[&Chain]) -> u32
+    ensures { result ≡ decided (orders (lent chains.now)) }
+{
+    match chains {
+        [chain] => chain.order(),
+        _ => 0,
+    }
+}
+
+/// Of how many orders the choice was.
+fn choice_words(chains: &[&Chain]) -> &'static str
+    ensures { result.now ≡ choice_words (orders (lent chains.now)) }
+{
+    match chains {
+        [] => ": no order, so 0\n",
+        [_] => ": one order\n",
+        _ => ": several orders, so 0\n",
+    }
+}
+
+/// What marks the decision of a traitor.
+fn mark(is_traitor: bool) -> &'static str
+    ensures { result.now ≡ mark is_traitor }
+{
+    if is_traitor { " traitor " } else { " " }
+}
+
+/// Adds the line of a decision.
+fn push_choice(
+    lines: &mut String,
+    general: u8,
+    is_traitor: bool,
+    chains: &[&Chain],
+) -> Result<(), AllocError>
+    ensures { OnOk result (string_bytes lines.new ≡ string_bytes lines.old ++ choice_line general is_traitor (orders (lent chains.now))) }
+{
+    let mark = mark(is_traitor);
+    let order = chosen(chains);
+    let words = choice_words(chains);
+    write!(lines, "decision {general}{mark}{order}{words}")
+}
+
+/// Adds the lines of a lieutenant.
+fn push_lieutenant(
+    alloc: Global,
+    lines: &mut String,
+    chronicle: &SignedChronicle,
+    general: u8,
+) -> Result<(), AllocError>
+    requires { general < chronicle.now.scenario.generals }
+    ensures { OnOk result (string_bytes lines.new ≡ string_bytes lines.old ++ acceptance_lines chronicle.now general) }
+{
+    chronicle.scenario().recall();
+    let chains = bringing(alloc, chronicle, general)?;
+    write!(lines, "lieutenant {general}\n")?;
+    push_all_accepted(lines, chains.as_slice())?;
+    push_choice(
+        lines,
+        general,
+        chronicle.scenario().is_traitor(general),
+        chains.as_slice(),
+    )
+}
+
+/// Whether the bound holds, as a word.
+#[tactic(auto, unfolding(book::specs::Explained::yes_no))]
+fn yes_no(is_so: bool) -> &'static str
+    ensures { result.now ≡ yes_no is_so }
+{
+    if is_so { "yes" } else { "no" }
+}
+
+/// At most, or not.
+#[tactic(auto, unfolding(book::specs::Explained::few_words))]
+fn few_words(is_so: bool) -> &'static str
+    ensures { result.now ≡ few_words is_so }
+{
+    if is_so { "at most " } else { "more than " }
+}
+
+/// Adds whether there are few enough traitors.
+fn push_traitors(lines: &mut String, scenario: &Scenario, holds: bool) -> Result<(), AllocError>
+    ensures { OnOk result (string_bytes lines.new ≡ string_bytes lines.old ++ traitors_line scenario.now holds) }
+{
+    let so = yes_no(holds);
+    let few = few_words(holds);
+    let traitors = traitors(scenario);
+    let bound = scenario.bound();
+    write!(lines, "bound {so}: {traitors} traitors, {few}{bound}\n")
+}
+
+/// Whether the loyal lieutenants decide alike.
+fn alike_line(alike: bool) -> &'static str
+    ensures { result.now ≡ alike_line alike }
+{
+    if alike {
+        "IC1 yes: the loyal lieutenants decide alike\n"
+    } else {
+        "IC1 no: the loyal lieutenants do not decide alike\n"
+    }
+}
+
+/// Adds whether a loyal commander is obeyed.
+fn push_obedience(lines: &mut String, order: u32, obeyed: Option<bool>) -> Result<(), AllocError>
+    ensures { OnOk result (string_bytes lines.new ≡ string_bytes lines.old ++ obedience_line (obedience_of order obeyed)) }
+{
+    match obeyed {
+        None => lines.push_str("IC2 -: the commander is named as a traitor\n"),
+        Some(true) => {
+            write!(
+                lines,
+                "IC2 yes: each loyal lieutenant decides {order}, as the commander told all\n"
+            )
+        }
+        Some(false) => {
+            write!(
+                lines,
+                "IC2 no: not each loyal lieutenant decides {order}, as the commander told all\n"
+            )
+        }
+    }
+}
+
+/// Adds whether the bound and the conditions hold.
+#[tactic(auto, unfolding(crate::specs::Explained::verdict_lines))]
+fn push_verdict(lines: &mut String, scenario: &Scenario, verdict: Verdict) -> Result<(), AllocError>
+    ensures { OnOk result (string_bytes lines.new ≡ string_bytes lines.old ++ verdict_lines scenario.now verdict) }
+{
+    push_traitors(lines, scenario, verdict.bound)?;
+    lines.push_str(alike_line(verdict.alike))?;
+    push_obedience(lines, scenario.order(), verdict.obeyed)
+}
+
+/// The lines of all lieutenants, ascending.
+fn all_lieutenants(alloc: Global, chronicle: &SignedChronicle) -> Result<String, AllocError>
+    ensures { IfOk result (λ lines. string_bytes lines ≡ flat_map (acceptance_lines chronicle.now) (lieutenants chronicle.now.scenario.generals chronicle.now.scenario.commander)) }
+{
+    let mut lines = String::new(alloc);
+    let scenario = chronicle.scenario();
+    for general in 0..scenario.generals() {
+        if general != scenario.commander() {
+            push_lieutenant(alloc, &mut lines, chronicle, general)?;
+        }
+    }
+    Ok(lines)
+}
+
+/// The lines of this general, and none where he is no lieutenant.
+fn one_lieutenant(
+    alloc: Global,
+    chronicle: &SignedChronicle,
+    general: u8,
+) -> Result<String, AllocError>
+    ensures { IfOk result (λ lines. string_bytes lines ≡ acceptance_of chronicle.now general) }
+{
+    let mut lines = String::new(alloc);
+    let scenario = chronicle.scenario();
+    if general < scenario.generals() && general != scenario.commander() {
+        push_lieutenant(alloc, &mut lines, chronicle, general)?;
+    }
+    Ok(lines)
+}
+
+/// How the lieutenants of a signed campaign come to their decisions, or this general alone to his: for each, ascending, the
+/// orders that he accepts, with the chain that brought him each first, and what he decides of them; then whether there are
+/// few enough traitors, and whether the conditions hold.
+///
+/// # Errors
+///
+/// `AllocError` where memory is refused.
+#[tactic(auto, unfolding(crate::specs::Explained::signed_explained))]
+pub fn explain_signed(
+    alloc: Global,
+    chronicle: &SignedChronicle,
+    general: Option<u8>,
+) -> Result<String, AllocError>
+    ensures { IfOk result (λ lines. string_bytes lines ≡ signed_explained chronicle.now general) }
+{
+    let mut lines = match general {
+        None => all_lieutenants(alloc, chronicle)?,
+        Some(one) => one_lieutenant(alloc, chronicle, one)?,
+    };
+    push_verdict(&mut lines, chronicle.scenario(), chronicle.verdict())?;
+    Ok(lines)
+}

@@ -1,0 +1,11 @@
+use Rattle.std.specs.Prelude.{IfOk, option_map, string_bytes}
+use Rattle.std.proofs.Common.{subst}
+use Rattle.scenario.specs.Seen.{source_of}
+use Rattle.why.specs.Made.{IsRefusedFile}
+use Rattle.why.proofs.made.refused_file_told.Goals as goal
+
+pub returns-in_ok-file-in-Some : goal.returns-in_ok-file-in-Some
+returns-in_ok-file-in-Some c =
+    subst (λ key. IfOk c.unit_of_file_told.result (λ told. IsRefusedFile c.args.name.now c.args.own.now c.args.reason c.args.unit (option_map source_of c.args.source) c.args.table key (string_bytes told)))
+    c.in-Some.ensures
+    (rw (c.as_str.ensures.value, c.in_ok-file-in-Some.ensures, c.file_named.ensures, c.assembly_of.ensures) at c.unit_of_file_told.ensures)

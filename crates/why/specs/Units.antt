@@ -1,0 +1,30 @@
+-- In which line of its assembly a unit is written (own).
+use Rattle.std.specs.Prelude.{ℕ, ◌≡◌, ◌^◌, nat_lt, if◌then◌else◌, List, Option, None, Some, String, drop, map, slice_get, string_bytes}
+use Rattle.std.specs.declared.alloc.Global.{Global}
+use Rattle.text.specs.Number.{digits_on}
+use Rattle.asm.specs.Places.{AreWritten}
+use Rattle.asm.specs.Program.{lines_of, nothing, read_on}
+
+-- a number of 64 bits, which each line's is
+abbrev pub as_line : ℕ → ℕ
+as_line number = if nat_lt number (2 ^ 64) then number else 0
+
+abbrev pub line_in : Option ℕ → ℕ
+line_in None = 0
+line_in (Some number) = as_line number
+
+-- the number behind `line `
+abbrev pub number_in : List ℕ → ℕ
+number_in place = line_in (digits_on 10 0 (drop 5 place))
+
+abbrev pub place_number : Option (String Global) → ℕ
+place_number None = 0
+place_number (Some place) = number_in (string_bytes place)
+
+-- the line of a unit, whose units stand in these places
+abbrev pub unit_line : List (String Global) → ℕ → ℕ
+unit_line places unit = place_number (slice_get places unit)
+
+-- the line of a unit of this text
+abbrev pub IsUnitLine : List ℕ → ℕ → ℕ → Type 0
+IsUnitLine text unit number = (places : List (String Global)) × AreWritten (read_on nothing 1 (lines_of text)) (map string_bytes places) × (number ≡ unit_line places unit)

@@ -1,0 +1,481 @@
+//! What is said of an error of a scenario that names files: at its own lines, and at those of the files.
+ghost use Rattle.std.specs.Prelude.{◌≡◌, IfOk, None, codes, option_and_then, option_map, string_bytes};
+ghost use Rattle.toml.specs.Parse.{parse_document};
+ghost use Rattle.toml.specs.View.{table_view};
+ghost use Rattle.scenario.specs.Seen.{source_of};
+ghost use Rattle.scenario.specs.Sources.{source_by};
+ghost use Rattle.why.specs.Judged.{judged_of};
+ghost use Rattle.why.specs.Keys.{found_view};
+ghost use Rattle.why.specs.Made.{IsMadeJudged, IsOwnUnitTold, IsRefusedFile, IsRefusedTold, IsUnitTold, ReportsMade, ReportsProgram, TellsMade, asm_told, assembly_of, bytes_shown, code_shown, digits_of, file_named, file_source, file_told, hex_told, in_file, key_told, line_shown, other_key, own_index, own_line, own_mark, own_place, own_place_told, own_source, own_word, unit_digits, unit_told};
+ghost use Rattle.why.specs.Report.{mark_view, report_text};
+
+use crate::assembly::{of_assembly, sentence, unit_mark, whole};
+use crate::bytecode::unit_sentence;
+use crate::judged::{explained_of, judged_of};
+use crate::keys::{Found, entry_line, find_line, shown_at, value_end};
+use crate::lines::line_at;
+use crate::report::{Mark, behind, front, report, shown_line};
+use crate::scenarios::{
+    is_of_value, key_mark, place_mark, place_sentence, unknown_told, value_mark,
+};
+use crate::seated::{code_line_told, text_told, unit_shown, verifier_sentence};
+use crate::sources::{source_in, table_in};
+use crate::units::line_of_unit;
+use crate::unread::not_toml;
+use references::{origin, seat};
+use scenario::{Fault, Name, Place, ProgramFault, ScenarioError, Written};
+use std::alloc::{AllocError, Global};
+use text::{Stop, cut};
+use toml::Table;
+use verify::Reason;
+
+/// The place in the scenario's own text, whose tables stand for those that are made of them.
+fn own_place(alloc: Global, own: &str, place: Place) -> Result<Place, AllocError>
+    ensures { IfOk result (λ at. at ≡ own_place (parse_document own.now) place) }
+{
+    match place {
+        Place::Table(index) => Ok(Place::Table(origin(alloc, own, index)?)),
+        Place::Entry(index, name) => Ok(Place::Entry(origin(alloc, own, index)?, name)),
+        place => Ok(place),
+    }
+}
+
+/// The same of a table's number.
+fn own_index(alloc: Global, own: &str, at: Option<usize>) -> Result<Option<usize>, AllocError>
+    ensures { IfOk result (λ index. index ≡ own_index (parse_document own.now) at) }
+{
+    match at {
+        Some(index) => Ok(Some(origin(alloc, own, index)?)),
+        None => Ok(None),
+    }
+}
+
+/// By which key a table has from a file, or for several generals, what this key tells.
+fn other_key(name: Name) -> &'static str
+    ensures { result.now ≡ other_key name }
+{
+    match name {
+        Name::General => "generals",
+        Name::Asm => "asm_file",
+        Name::Code => "code_file",
+        name => name.text(),
+    }
+}
+
+/// The key of this table that tells it.
+fn own_word(index: usize, name: Name, own: &[u8]) -> &'static str
+    ensures { result.now ≡ own_word index name own.now }
+{
+    match find_line(index as u128 + 1, name.text().as_bytes(), own) {
+        Some(_) => name.text(),
+        None => other_key(name),
+    }
+}
+
+/// Where a place stands in the scenario's own text.
+#[tactic(auto, unfolding(crate::specs::Made::own_mark))]
+fn own_mark(fault: Fault, place: Place, own: &[u8]) -> Option<Mark<'_>>
+    ensures { option_map mark_view result ≡ own_mark fault place own.now }
+{
+    match place {
+        Place::Entry(index, name) => {
+            let word = own_word(index, name, own).as_bytes();
+            Some(shown_at(is_of_value(fault), word, entry_line(index, word, own)?))
+        }
+        place => place_mark(fault, place, own),
+    }
+}
+
+/// What is said of a fault at a place of the scenario's own text.
+#[tactic(auto, unfolding(crate::specs::Made::own_place_told))]
+fn own_place_told(
+    alloc: Global,
+    name: &str,
+    own: &[u8],
+    fault: Fault,
+    place: Place,
+) -> Result<String, AllocError>
+    ensures { IfOk result (λ told. string_bytes told ≡ own_place_told name.now own.now fault place) }
+{
+    let sentence = place_sentence(alloc, fault, place)?;
+    let mark = own_mark(fault, place, own);
+    report(alloc, name, sentence.as_str(), mark, None)
+}
+
+/// The line of a key of this table.
+fn own_line<'a>(table: Option<usize>, word: &[u8], own: &'a [u8]) -> Option<Found<'a>>
+    ensures { option_map found_view result ≡ own_line table word.now own.now }
+{
+    match table {
+        Some(index) => find_line(index as u128 + 1, word, own),
+        None => None,
+    }
+}
+
+/// The name of the file that stands in this line.
+fn file_named(line: Found<'_>) -> &[u8]
+    ensures { result.now ≡ file_named (found_view line.entry) }
+{
+    match value_end(line.line) {
+        [mark, name @ ..] => cut(Stop::Byte(*mark), name).0,
+        [] => &[],
+    }
+}
+
+/// The assembly that is written so.
+fn assembly_of<'a>(source: Option<Written<'a>>) -> &'a str
+    ensures { result.now ≡ assembly_of (option_map source_of source.entry) }
+{
+    match source {
+        Some(Written::Asm(text)) => text,
+        _ => "",
+    }
+}
+
+/// The digits of the bytecode that is written so.
+fn digits_of<'a>(source: Option<Written<'a>>) -> &'a str
+    ensures { result.now ≡ digits_of (option_map source_of source.entry) }
+{
+    match source {
+        Some(Written::Code(text)) => text,
+        _ => "",
+    }
+}
+
+/// What is said of a fault in a line of the file of assembly that this line names.
+fn file_told(
+    alloc: Global,
+    name: &str,
+    fault: asm::Fault,
+    number: u64,
+    source: Option<Written<'_>>,
+    key: Option<Found<'_>>,
+) -> Result<String, AllocError>
+    ensures { IfOk result (λ told. string_bytes told ≡ file_told name.now fault number (option_map source_of source.entry) (option_map found_view key.entry)) }
+{
+    let Some(key) = key else {
+        return report(alloc, name, sentence(fault, &[]), None, None);
+    };
+    let file = shown_line(alloc, file_named(key))?;
+    let text = assembly_of(source).as_bytes();
+    of_assembly(alloc, file.as_str(), text, fault, number)
+}
+
+/// What is said of a fault in a line of assembly.
+fn asm_told(
+    alloc: Global,
+    name: &str,
+    own: &[u8],
+    fault: asm::Fault,
+    number: u64,
+    source: Option<Written<'_>>,
+    table: Option<usize>,
+) -> Result<String, AllocError>
+    ensures { IfOk result (λ told. string_bytes told ≡ asm_told name.now own.now fault number (option_map source_of source.entry) table (own_line table (codes "asm") own.now)) }
+{
+    match own_line(table, b"asm", own) {
+        Some(line) => text_told(alloc, name, own, fault, number, Some(line)),
+        None => {
+            let key = own_line(table, b"asm_file", own);
+            file_told(alloc, name, fault, number, source, key)
+        }
+    }
+}
+
+/// The digits of a unit, of those that a program may have.
+fn unit_digits(digits: &[u8], unit: usize) -> &[u8]
+    ensures { result.now ≡ unit_digits digits.now unit }
+{
+    if unit > 4096 {
+        return &[];
+    }
+    front(behind(digits, 16 * unit), 16)
+}
+
+/// The key by which a table names a file of bytecode, or an object.
+fn bytes_shown(table: Option<usize>, own: &[u8]) -> Option<Mark<'_>>
+    ensures { option_map mark_view result ≡ bytes_shown table own.now }
+{
+    match own_line(table, b"code_file", own) {
+        Some(line) => Some(shown_at(true, b"code_file", line)),
+        None => value_mark(b"elf", own_line(table, b"elf", own)),
+    }
+}
+
+/// What is said of a fault in a unit.
+fn unit_told(
+    alloc: Global,
+    name: &str,
+    own: &[u8],
+    fault: codec::Fault,
+    unit: usize,
+    source: Option<Written<'_>>,
+    table: Option<usize>,
+) -> Result<String, AllocError>
+    ensures { IfOk result (λ told. string_bytes told ≡ unit_told name.now own.now fault unit (option_map source_of source.entry) table (own_line table (codes "code") own.now)) }
+{
+    if let Some(line) = own_line(table, b"code", own) {
+        return code_line_told(alloc, name, fault, unit, Some(line));
+    }
+    let digits = unit_digits(digits_of(source).as_bytes(), unit);
+    let mark = bytes_shown(table, own);
+    report(alloc, name, unit_sentence(fault, digits), mark, None)
+}
+
+/// What is said of a unit of a file of assembly.
+fn unit_of_file_told(
+    alloc: Global,
+    file: &str,
+    reason: Reason,
+    unit: usize,
+    text: &str,
+) -> Result<String, AllocError>
+    ensures { IfOk result (λ told. IsUnitTold file.now reason unit text.now (string_bytes told)) }
+{
+    let sentence = verifier_sentence(alloc, reason, unit)?;
+    let number = line_of_unit(alloc, text, unit)?;
+    line_told(alloc, file, sentence.as_str(), text, number)
+}
+
+/// What is said at a line of a file.
+fn line_told(
+    alloc: Global,
+    file: &str,
+    sentence: &str,
+    text: &str,
+    number: u64,
+) -> Result<String, AllocError>
+    ensures { IfOk result (λ told. string_bytes told ≡ report_text file.now sentence.now (line_shown text.now number) None) }
+{
+    let mark = line_shown(text.as_bytes(), number);
+    report(alloc, file, sentence, mark, None)
+}
+
+/// The statement of a line.
+fn line_shown(text: &[u8], number: u64) -> Option<Mark<'_>>
+    ensures { option_map mark_view result ≡ line_shown text.now number }
+{
+    let line = line_at(text, number)?;
+    Some(unit_mark(whole(number, line)))
+}
+
+/// What is said of a program that the verifier refuses, at this place of the scenario's own text.
+fn key_told(
+    alloc: Global,
+    name: &str,
+    reason: Reason,
+    unit: usize,
+    mark: Option<Mark<'_>>,
+) -> Result<String, AllocError>
+    ensures { IfOk result (λ told. string_bytes told ≡ key_told name.now reason unit (option_map mark_view mark.entry)) }
+{
+    let sentence = verifier_sentence(alloc, reason, unit)?;
+    report(alloc, name, sentence.as_str(), mark, None)
+}
+
+/// The key of its bytecode.
+fn code_shown(table: Option<usize>, own: &[u8]) -> Option<Mark<'_>>
+    ensures { option_map mark_view result ≡ code_shown table own.now (own_line table (codes "code") own.now) }
+{
+    match own_line(table, b"code", own) {
+        Some(line) => Some(shown_at(false, b"code", line)),
+        None => bytes_shown(table, own),
+    }
+}
+
+/// What is said of a unit of this assembly, whose key stands in this line of the scenario's own text.
+fn own_unit_told(
+    alloc: Global,
+    name: &str,
+    own: &[u8],
+    reason: Reason,
+    unit: usize,
+    text: &str,
+    line: Found<'_>,
+) -> Result<String, AllocError>
+    ensures { IfOk result (λ told. IsOwnUnitTold name.now own.now reason unit text.now (found_view line.entry) (string_bytes told)) }
+{
+    let mark = unit_shown(alloc, own, unit, text, Some(line))?;
+    key_told(alloc, name, reason, unit, mark)
+}
+
+/// What is said of a program that the verifier refuses.
+fn refused_told(
+    alloc: Global,
+    name: &str,
+    own: &[u8],
+    reason: Reason,
+    unit: usize,
+    source: Option<Written<'_>>,
+    table: Option<usize>,
+) -> Result<String, AllocError>
+    ensures { IfOk result (λ told. IsRefusedTold name.now own.now reason unit (option_map source_of source.entry) table (own_line table (codes "asm") own.now) (string_bytes told)) }
+{
+    match own_line(table, b"asm", own) {
+        Some(line) => { own_unit_told(alloc, name, own, reason, unit, assembly_of(source), line) }
+        None => refused_file_told(alloc, name, own, reason, unit, source, table),
+    }
+}
+
+/// The same where its assembly does not stand in the scenario.
+fn refused_file_told(
+    alloc: Global,
+    name: &str,
+    own: &[u8],
+    reason: Reason,
+    unit: usize,
+    source: Option<Written<'_>>,
+    table: Option<usize>,
+) -> Result<String, AllocError>
+    ensures { IfOk result (λ told. IsRefusedFile name.now own.now reason unit (option_map source_of source.entry) table (own_line table (codes "asm_file") own.now) (string_bytes told)) }
+{
+    match own_line(table, b"asm_file", own) {
+        Some(key) => {
+            let file = shown_line(alloc, file_named(key))?;
+            unit_of_file_told(alloc, file.as_str(), reason, unit, assembly_of(source))
+        }
+        None => key_told(alloc, name, reason, unit, code_shown(table, own)),
+    }
+}
+
+/// What is said of digits that are none.
+fn hex_told(
+    alloc: Global,
+    name: &str,
+    own: &[u8],
+    table: Option<usize>,
+) -> Result<String, AllocError>
+    ensures { IfOk result (λ told. string_bytes told ≡ hex_told name.now own.now table) }
+{
+    let sentence = "bytecode is an even number of digits in hex, without blanks";
+    let mark = value_mark(b"code", own_line(table, b"code", own));
+    report(alloc, name, sentence, mark, None)
+}
+
+/// What is said of a fault of a program that is written so, of the general who has this table.
+fn program_told(
+    alloc: Global,
+    name: &str,
+    own: &[u8],
+    source: Option<Written<'_>>,
+    table: Option<usize>,
+    fault: ProgramFault,
+) -> Result<String, AllocError>
+    ensures { IfOk result (λ told. ReportsProgram name.now own.now (option_map source_of source.entry) table fault (string_bytes told)) }
+{
+    match fault {
+        ProgramFault::Asm(fault, number) => {
+            asm_told(alloc, name, own, fault, number, source, table)
+        }
+        ProgramFault::Hex => hex_told(alloc, name, own, table),
+        ProgramFault::Code(fault, unit) => {
+            unit_told(alloc, name, own, fault, unit, source, table)
+        }
+        ProgramFault::Verifier(reason, unit) => {
+            refused_told(alloc, name, own, reason, unit, source, table)
+        }
+    }
+}
+
+/// The report of an error of the text that was made.
+fn made_report(
+    alloc: Global,
+    name: &str,
+    own: &str,
+    made: Option<&Table>,
+    error: &ScenarioError,
+) -> Result<String, AllocError>
+    ensures { IfOk result (λ told. ReportsMade name.now own.now (option_map (λ t. table_view t.now) made.entry) error.now (string_bytes told)) }
+{
+    let bytes = own.as_bytes();
+    match error {
+        ScenarioError::Toml => not_toml(alloc, name, bytes),
+        ScenarioError::Unknown(at, key) => {
+            let at = own_index(alloc, own, *at)?;
+            unknown_told(alloc, name, bytes, at, key.as_str())
+        }
+        ScenarioError::At(fault, place) => {
+            let place = own_place(alloc, own, *place)?;
+            own_place_told(alloc, name, bytes, *fault, place)
+        }
+        ScenarioError::Program(general, fault) => {
+            let table = seat(alloc, own, *general)?;
+            program_told(alloc, name, bytes, source_in(made, *general), table, *fault)
+        }
+        ScenarioError::Memory => report(alloc, name, "there is not enough memory", None, None),
+    }
+}
+
+/// The line of a file of assembly's text from which its lines are counted.
+fn in_file() -> Found<'static>
+    ensures { found_view result ≡ in_file }
+{
+    Found {
+        number: 0,
+        line: b"asm='''",
+        tables: 0,
+    }
+}
+
+/// The line from which the lines of a program are counted that stands in no assembly of the scenario.
+fn file_source(table: Option<usize>, own: &[u8]) -> Option<Found<'_>>
+    ensures { option_map found_view result ≡ file_source table own.now }
+{
+    if let Some(_) = own_line(table, b"asm_file", own) {
+        return Some(in_file());
+    }
+    if let Some(line) = own_line(table, b"code", own) {
+        return Some(line);
+    }
+    if let Some(line) = own_line(table, b"code_file", own) {
+        return Some(line);
+    }
+    own_line(table, b"elf", own)
+}
+
+/// The line from which the lines of a program are counted.
+fn own_source(table: Option<usize>, own: &[u8]) -> Option<Found<'_>>
+    ensures { option_map found_view result ≡ own_source table own.now }
+{
+    match own_line(table, b"asm", own) {
+        Some(line) => Some(line),
+        None => file_source(table, own),
+    }
+}
+
+/// What stands behind the report: of a program that the verifier refuses what it knows of it.
+fn made_judged(
+    alloc: Global,
+    own: &str,
+    made: Option<&Table>,
+    error: &ScenarioError,
+) -> Result<String, AllocError>
+    ensures { IfOk result (λ behind. IsMadeJudged own.now (option_map (λ t. table_view t.now) made.entry) (judged_of error.now) (string_bytes behind)) }
+{
+    let Some(general) = judged_of(error) else {
+        return Ok(String::new(alloc));
+    };
+    let Some(written) = source_in(made, general) else {
+        return Ok(String::new(alloc));
+    };
+    let table = seat(alloc, own, general)?;
+    explained_of(alloc, general, written, own_source(table, own.as_bytes()))
+}
+
+/// What is said of an error of the text that was made of the own text of a scenario, in which its files stand: the report, at
+/// the own line or that of the file, and behind that of a program that the verifier refuses its explanation.
+pub fn of_made(
+    alloc: Global,
+    name: &str,
+    own: &str,
+    made: &str,
+    error: &ScenarioError,
+) -> Result<String, AllocError>
+    ensures { IfOk result (λ told. TellsMade name.now own.now made.now error.now (string_bytes told)) }
+{
+    let table = table_in(alloc, made)?;
+    let mut told = made_report(alloc, name, own, table.as_ref(), error)?;
+    let behind = made_judged(alloc, own, table.as_ref(), error)?;
+    told.push_str(behind.as_str())?;
+    Ok(told)
+}

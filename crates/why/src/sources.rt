@@ -1,0 +1,42 @@
+//! The program of a general in a scenario's text.
+ghost use Rattle.std.specs.Prelude.{◌≡◌, IfOk, option_and_then, option_map};
+ghost use Rattle.toml.specs.Parse.{parse_document};
+ghost use Rattle.toml.specs.View.{table_view};
+ghost use Rattle.scenario.specs.Seen.{source_of};
+ghost use Rattle.scenario.specs.Sources.{source_by};
+ghost use Rattle.why.specs.Scenarios.{IsDocumentOf};
+
+use scenario::{Written, written_by};
+use std::alloc::{AllocError, Global};
+use toml::{Table, table_from_str};
+
+/// The table that a text is, if it is one.
+pub(crate) fn table_in(alloc: Global, text: &str) -> Result<Option<Table>, AllocError>
+    ensures { IfOk result (λ table. option_map table_view table ≡ parse_document text.now) }
+{
+    match table_from_str(alloc, text) {
+        Ok(table) => Ok(Some(table)),
+        Err(error) if error.is_memory() => Err(AllocError),
+        Err(_) => Ok(None),
+    }
+}
+
+/// The table that bytes are, if they are a text and it is one.
+pub(crate) fn document_of(alloc: Global, bytes: &[u8]) -> Result<Option<Table>, AllocError>
+    ensures { IfOk result (λ table. IsDocumentOf bytes.now (option_map table_view table)) }
+{
+    match str::from_utf8(bytes) {
+        Ok(text) => table_in(alloc, text),
+        Err(_) => Ok(None),
+    }
+}
+
+/// The program of this general in the tables of a text.
+pub(crate) fn source_in(tables: Option<&Table>, general: u8) -> Option<Written<'_>>
+    ensures { option_map source_of result ≡ option_and_then (source_by general) (option_map (λ t. table_view t.now) tables.entry) }
+{
+    match tables {
+        Some(table) => written_by(table, general),
+        None => None,
+    }
+}

@@ -1,0 +1,45 @@
+//! In which line of its assembly a unit is written.
+ghost use Rattle.std.specs.Prelude.{◌≡◌, IfOk};
+ghost use Rattle.why.specs.Units.{IsUnitLine, as_line, number_in, unit_line};
+
+use crate::report::behind;
+use std::alloc::{AllocError, Global};
+use text::{Base, digits};
+
+/// The number in `line N`.
+fn number_in(place: &str) -> u64
+    ensures { result ≡ number_in place.now }
+{
+    match digits(Base::Ten, behind(place.as_bytes(), 5)) {
+        Some(number) => as_line(number),
+        None => 0,
+    }
+}
+
+/// The line of a unit, whose units stand in these places.
+fn unit_line(places: &[String], unit: usize) -> u64
+    ensures { result ≡ unit_line places.now unit }
+{
+    match places.get(unit) {
+        Some(place) => number_in(place.as_str()),
+        None => 0,
+    }
+}
+
+/// A number of 64 bits; 0 of one that has more.
+fn as_line(number: u128) -> u64
+    ensures { result ≡ as_line number }
+{
+    match u64::try_from(number) {
+        Ok(number) => number,
+        Err(_) => 0,
+    }
+}
+
+/// The line of a unit of this text.
+pub(crate) fn line_of_unit(alloc: Global, text: &str, unit: usize) -> Result<u64, AllocError>
+    ensures { IfOk result (λ number. IsUnitLine text.now unit number) }
+{
+    let places = asm::places(alloc, text)?;
+    Ok(unit_line(places.as_slice(), unit))
+}
