@@ -1,4 +1,4 @@
--- A page of HTML in the syntax of XML (HTML Living Standard, sections 13.1 and 14), byte by byte. Texts of others are escaped.
+-- A page of HTML (HTML Living Standard, section 13.1) that is one element of XML too, byte by byte. Texts of others are escaped.
 use Rattle.std.specs.Prelude.{ℕ, List, ◌++◌, codes}
 use Rattle.std.specs.Str.{chars, encode_utf8_all}
 use Rattle.markup.specs.Escaped.{escaped}
@@ -7,7 +7,7 @@ use Rattle.markup.specs.Escaped.{escaped}
 abbrev pub shown : List ℕ → List ℕ
 shown text = encode_utf8_all (escaped (chars text))
 
--- that it is HTML, in English, and what it may load: nothing, and its own style
+-- that it is HTML, in English, and what it may use: its own style, and pictures that stand in it
 unfoldable pub preamble : List ℕ
 preamble =
     codes "<!DOCTYPE html>\n<html lang=\"en\">\n<head>\n<meta charset=\"utf-8\"/>\n<meta http-equiv=\"Content-Security-Policy\" con"

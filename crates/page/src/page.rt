@@ -30,7 +30,7 @@ pub fn finish(out: &mut String) -> Result<(), AllocError>
     out.push_str("</main>\n</body>\n</html>\n")
 }
 
-/// What stands before how the page looks: that it is HTML, in English, and what it may load, which is nothing.
+/// What stands before how the page looks: that it is HTML, in English, and uses its own style and pictures alone.
 #[tactic(auto, unfolding(crate::specs::Page::preamble))]
 fn preamble() -> &'static str
     ensures { result.now ≡ preamble }
