@@ -56,17 +56,17 @@ behind_past w g names =
     ∙ (ap (λ (s : Scenario). run oral_kind (run oral_kind v rest) (wound_up s)) (sym same) ∙ sym (run-append oral_kind rest (wound_up v.scenario) v)))
 
 pub last_step : (h : World → ℕ) (w : World) → over_round zero h w ≡ stepped (λ v. 0) h w
-last_step h w = sum_or (λ names. h (behind oral_kind w names)) (askers w) (λ g. [])
+last_step h w = sum_or (λ (names : List ℕ). h (behind oral_kind w names)) (askers w) (λ (g : ℕ). [])
 
 pub next_step : (k : ℕ) (h : World → ℕ) (w : World) → over_round (suc k) h w ≡ stepped (over_round k h) h w
 next_step k h w =
-    sum_or (λ names. h (behind oral_kind w names)) (askers w) (λ g. round_orders oral_kind k (past oral_kind w g))
-    ∙ (λ i. or_sum (askers w) (h (behind oral_kind w [])) (λ g. sum_by (λ rest. h (behind_past w g rest i)) (round_orders oral_kind k (past oral_kind w g))))
+    sum_or (λ (names : List ℕ). h (behind oral_kind w names)) (askers w) (λ (g : ℕ). round_orders oral_kind k (past oral_kind w g))
+    ∙ (λ i. or_sum (askers w) (h (behind oral_kind w [])) (λ (g : ℕ). sum_by (λ (rest : List ℕ). h (behind_past w g rest i)) (round_orders oral_kind k (past oral_kind w g))))
 
 -- alike worlds have them in common
 pub round_common : (most : ℕ) (h : World → ℕ) → IsCommon h → IsCommon (over_round most h)
 round_common most h common w v alike =
-    (λ i. sum_by (λ names. common (behind oral_kind w names) (behind oral_kind v names) (behind_alike names w v alike) i) (round_lists most w v alike i))
+    (λ i. sum_by (λ (names : List ℕ). common (behind oral_kind w names) (behind oral_kind v names) (behind_alike names w v alike) i) (round_lists most w v alike i))
 
 pub rounds_common : (most k : ℕ) (h : World → ℕ) → IsCommon h → IsCommon (over_rounds most k h)
 rounds_common most zero h common = common
@@ -77,8 +77,8 @@ pub over_orders : (h : World → ℕ) (most k : ℕ) (w : World) → sum_by (λ 
 over_orders h most zero w = (let a = sum_by-cons (λ (order : List (List ℕ)). h w) [] [] in a ∙ (let z : sum_by (λ (order : List (List ℕ)). h w) [] ≡ 0 = refl in omega arith))
 over_orders h most (suc k) w =
     let f : List (List ℕ) → ℕ = λ order. h (run oral_kind w (replayed_rounds oral_kind w (suc k) order)) in
-    sum_branch f (round_orders oral_kind most w) (λ names. orders_from oral_kind most (behind oral_kind w names) k)
-    ∙ (λ i. sum_by (λ names. (sum_by_each (λ (rest : List (List ℕ)). f (names ∷ rest))
+    sum_branch f (round_orders oral_kind most w) (λ (names : List ℕ). orders_from oral_kind most (behind oral_kind w names) k)
+    ∙ (λ i. sum_by (λ (names : List ℕ). (sum_by_each (λ (rest : List (List ℕ)). f (names ∷ rest))
     (λ (rest : List (List ℕ)). h (run oral_kind (behind oral_kind w names) (replayed_rounds oral_kind (behind oral_kind w names) k rest)))
     (λ rest. ap h (run-append oral_kind (names_events oral_kind w names ++ wound_up w.scenario) (replayed_rounds oral_kind (behind oral_kind w names) k rest) w))
     (orders_from oral_kind most (behind oral_kind w names) k)

@@ -102,16 +102,16 @@ one_tallied (f ∷ fs) different (suc k) d lt =
 
 has_tallied : (ds : List ℕ) (fs : List Finding) → 0 < tallied (chosen ds) fs → Has (outcomes_of fs) ds
 has_tallied ds [] lt = absurd (omega arith)
-has_tallied ds (f ∷ fs) lt = by (bytes_eq f.decisions ds) refl
+has_tallied ds (f ∷ fs) lt = by (λ l. has_tallied ds fs l) (bytes_eq f.decisions ds) refl
   where
-    by : (t : Bool) → bytes_eq f.decisions ds ≡ t → Has (outcomes_of (f ∷ fs)) ds
-    by true e = inl ((bytes_eq-Decides f.decisions ds).0 e)
-    by false e =
+    by : (0 < tallied (chosen ds) fs → Has (outcomes_of fs) ds) → (t : Bool) → bytes_eq f.decisions ds ≡ t → Has (outcomes_of (f ∷ fs)) ds
+    by again true e = inl ((bytes_eq-Decides f.decisions ds).0 e)
+    by again false e =
         let g : Finding → ℕ = λ x. x.count * chosen ds x.decisions in
         let a = sum_by-cons g f fs in
         let c : g f ≡ f.count * 0 = ap (λ (b : Bool). f.count * cond b 1 0) e in
         let z = mul-zero f.count in
-        inr (has_tallied ds fs (omega arith))
+        inr (again (omega arith))
 
 all_tallied : (fs : List Finding) → tallied (λ ds. 1) fs ≡ counted_in fs
 all_tallied [] = refl
@@ -154,7 +154,7 @@ module _ (s : Scenario) (is : IsScenario s) (states : List State) (findings : Li
       let A : List (List ℕ) → Type 0 = λ o. IsOrder oral_kind s o in
       let example : IsOrder oral_kind s f.example = subst A (sym h.example) order in
       let leads : outcome_of oral_kind oral_outcome s f.example ≡ f.decisions = ap (outcome_of oral_kind oral_outcome s) h.example ∙ (outcome ∙ sym h.decisions) in
-      let ways = has_ways s f.decisions (orders oral_kind s) f.example (((orders_are_whole oral_kind oral_campaigns).all s f.example is).1 example) leads in
+      let ways : 0 < ways_to oral_kind oral_outcome s f.decisions = has_ways s f.decisions (orders oral_kind s) f.example (((orders_are_whole oral_kind oral_campaigns).all s f.example is).1 example) leads in
       record { example = example; outcome = leads; some = omega arith }
 
   counts_kept : All (λ (f : Finding). f.count ≡ kept (ways_to oral_kind oral_outcome s f.decisions)) findings
@@ -173,7 +173,7 @@ module _ (s : Scenario) (is : IsScenario s) (states : List State) (findings : Li
       let order = order_of oral_kind s events in
       let ds = outcome_in oral_kind oral_outcome s events in
       let leads : outcome_of oral_kind oral_outcome s order ≡ ds = ap oral_outcome (again oral_kind oral_campaigns s events is c) in
-      let ways = has_ways s ds (orders oral_kind s) order (((orders_are_whole oral_kind oral_campaigns).all s order is).1 (events, c, refl)) leads in
+      let ways : 0 < ways_to oral_kind oral_outcome s ds = has_ways s ds (orders oral_kind s) order (((orders_are_whole oral_kind oral_campaigns).all s order is).1 (events, c, refl)) leads in
       let w = ways_kept ds in
       has_tallied ds findings (omega arith)
 
@@ -184,7 +184,7 @@ module _ (s : Scenario) (is : IsScenario s) (states : List State) (findings : Li
   explored_whole lt =
       let t = total_kept in
       record {
-        each = λ k d l. (let c = each_capped k d l in let f = get_or findings k d in let few = count_by-le-length (λ o. bytes_eq (outcome_of oral_kind oral_outcome s o) f.decisions) (orders oral_kind s) in record { real = c.real; count = (let n = c.count in omega arith) });
+        each = λ k d l. (let c = each_capped k d l in let f = get_or findings k d in let few : ways_to oral_kind oral_outcome s f.decisions ≤ length (orders oral_kind s) = count_by-le-length (λ o. bytes_eq (outcome_of oral_kind oral_outcome s o) f.decisions) (orders oral_kind s) in record { real = c.real; count = (let n = c.count in omega arith) });
         different = found.different;
         whole = none_missed;
         total = omega arith;

@@ -21,7 +21,7 @@ pub mod Weighing
 pub mod Branching
 pub mod Reaching
 pub mod Spreading
-pub mod Gathering
+pub mod Collecting
 pub mod Concluding
 pub mod Comparing
 pub mod Stating

@@ -36,7 +36,7 @@ spread_begins s t old = record {
   states = λ k is all. all;
   weight = λ k f is all common. (let e : weighed f old ≡ weighed f old + t.ways * 0 = omega arith in ap kept e);
   none = λ e. (refl, refl);
-  some = λ e. (let c : false ≡ true = e in cc);
+  some = λ e. absurd (let c : false ≡ true = e in cc);
 }
 
 end_not_empty : {A : Type 0} (xs : List A) (x : A) → xs ++ x ∷ [] ≡ [] → ⊥
@@ -44,8 +44,8 @@ end_not_empty [] x e = (let c : x ∷ [] ≡ [] = e in cc)
 end_not_empty (y ∷ xs) x e = (let c : y ∷ (xs ++ x ∷ []) ≡ [] = e in cc)
 
 pub spread_none : (s : Scenario) (t : State) (n : ℕ) (old new : List State) (asked : Bool) → IsSpread s t n old new asked → will_ask (slice_get t.world.parts n) ≡ false → IsSpread s t (n + 1) old new asked
-spread_none s t n old new asked h no =
-    let e : askers_below t.world (n + 1) ≡ askers_below t.world n = asks_no_more t.world n no in
+spread_none s t n old new asked h idle =
+    let e : askers_below t.world (n + 1) ≡ askers_below t.world n = asks_no_more t.world n idle in
     record {
       states = h.states;
       weight = λ k f is all common. h.weight k f is all common ∙ ap (λ (l : List ℕ). kept (weighed f old + t.ways * sum_by (λ g. f (past oral_kind t.world g)) l)) (sym e);
@@ -68,7 +68,7 @@ spread_some s t next n old mid new asked h past_is entered =
           let times : t.ways * sum_by g (askers_below t.world (n + 1)) ≡ t.ways * sum_by g (askers_below t.world n) + t.ways * g n = ap (λ (x : ℕ). t.ways * x) sum ∙ mul-add t.ways (sum_by g (askers_below t.world n)) (g n) in
           let last : weighed f old + t.ways * sum_by g (askers_below t.world n) + t.ways * g n ≡ weighed f old + t.ways * sum_by g (askers_below t.world (n + 1)) = omega arith in
           one ∙ (before ∙ ap kept last);
-      none = λ a. (let c : true ≡ false = a in cc);
+      none = λ a. absurd (let c : true ≡ false = a in cc);
       some = λ a b. end_not_empty (askers_below t.world n) n (sym e ∙ b);
     }
 
@@ -123,13 +123,13 @@ module _ (s : Scenario) (t : State) (next done new : List State) where
       }
 
 pub expanded_if : (s : Scenario) (t : State) (n : ℕ) (next done new : List State) (asked : Bool) → n ≡ s.generals → asked ≡ true → IsSpread s t n next new asked → IsExpanded s t next done new done
-expanded_if s t n next done new asked all yes h =
-    expanded_on s t next done new (subst (λ (m : ℕ). IsSpread s t m next new true) all (subst (λ (b : Bool). IsSpread s t n next new b) yes h))
+expanded_if s t n next done new asked all so h =
+    expanded_on s t next done new (subst (λ (m : ℕ). IsSpread s t m next new true) all (subst (λ (b : Bool). IsSpread s t n next new b) so h))
 
 pub expanded_else : (s : Scenario) (t : State) (n : ℕ) (next done new : List State) (asked : Bool) (shut : State) (done_new : List State) → n ≡ s.generals → asked ≡ false → IsSpread s t n next new asked →
     shut ≡ record { world = behind oral_kind t.world []; ways = t.ways; rows = t.rows ++ t.names ∷ []; names = [] } → IsEntered done shut done_new → IsScenario s → IsExpanded s t next done new done_new
-expanded_else s t n next done new asked shut done_new all no h is entered good =
-    expanded_out s t next done new shut done_new (subst (λ (m : ℕ). IsSpread s t m next new false) all (subst (λ (b : Bool). IsSpread s t n next new b) no h)) is entered good
+expanded_else s t n next done new asked shut done_new all so h is entered good =
+    expanded_out s t next done new shut done_new (subst (λ (m : ℕ). IsSpread s t m next new false) all (subst (λ (b : Bool). IsSpread s t n next new b) so h)) is entered good
 
 -- so many states of the layer have given way
 pub step_begins : (s : Scenario) (layer done next : List State) → next ≡ [] → IsStep s (take 0 layer) next done done

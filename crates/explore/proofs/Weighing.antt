@@ -34,7 +34,7 @@ kept_times m n f t =
     ⊎_elim (λ (h : nat_lt n m ≡ true). (let lt = ltb-true n m h in short_times m n f t (omega arith))) (λ (h : nat_lt n m ≡ false). long_times m n f t (ltb-false n m h)) (cases_Bool (nat_lt n m))
 
 -- what stands at a place is replaced by one that weighs so much more
-swapped : (m all old new was extra : ℕ) → all + was ≡ old + new → ((t : ℕ) → min (t + new) m ≡ min (t + (was + extra)) m) → was ≤ old → min all m ≡ min (old + extra) m
+pub swapped : (m all old new was extra : ℕ) → all + was ≡ old + new → ((t : ℕ) → min (t + new) m ≡ min (t + (was + extra)) m) → was ≤ old → min all m ≡ min (old + extra) m
 swapped m all old new was extra e h le =
     let k = h (old - was) in
     omega arith
@@ -52,7 +52,7 @@ joined_weighs f states t new common j same =
     let within : g j.was ≤ weighed f states = subst (λ (n : ℕ). n ≤ weighed f states) (ap g (sym j.there)) (get_or-le-sum_by g states j.place j.was j.inside) in
     swapped m (weighed f new) (weighed f states) (g fresh) (g j.was) (t.ways * f t.world) total
     (λ r. kept_times m (j.was.ways + t.ways) (f j.was.world) r
-    ∙ (let a = add-mul j.was.ways t.ways (f j.was.world) in let b : t.ways * f j.was.world ≡ t.ways * f t.world = ap (λ (n : ℕ). t.ways * n) one in omega arith))
+    ∙ ap (λ (x : ℕ). min (r + x) m) (add-mul j.was.ways t.ways (f j.was.world) ∙ ap (λ (x : ℕ). j.was.ways * f j.was.world + t.ways * x) one))
     within
 
 pub entered_weighs : (f : World → ℕ) (states : List State) (t : State) (new : List State) (s : Scenario) → IsCommon f → IsEntered states t new → All (λ (u : State). u.world.scenario ≡ s) states → t.world.scenario ≡ s →

@@ -54,7 +54,7 @@ finding_text K s f =
 -- how many orders there are, or that there are more than were counted, or than can be
 abbrev pub head_text : Reach → ℕ → List ℕ
 head_text Whole count = codes "orders" ++ further count ++ codes "\n"
-head_text Beyond count = codes "orders more than 18446744073709551614" ++ codes "\n"
+head_text Beyond count = codes "orders more than 18446744073709551614\n"
 head_text InPart count = codes "orders more than" ++ further count ++ codes "\n"
 
 abbrev pub exploration_text : Kind → Scenario → Exploration → List ℕ

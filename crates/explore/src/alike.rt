@@ -78,11 +78,22 @@ fn same_parts(parts: &[Part], others: &[Part]) -> bool
     true
 }
 
+/// Whether the words are the same.
+fn same_words(words: &[u64; 64], others: &[u64; 64]) -> bool
+    ensures { IsTrue result ↔ (words.now ≡ others.now) }
+{
+    words.as_slice() == others.as_slice()
+}
+
 /// Whether the worlds, of one scenario, have the same words and activations, and their closed rounds have told the same.
 pub(crate) fn are_alike(world: &World, other: &World) -> bool
     ensures { IsTrue result → world.now.scenario ≡ other.now.scenario → AreAlike world.now other.now }
 {
-    world.words().as_slice() == other.words().as_slice()
-        && same_parts(world.open_parts(), other.open_parts())
-        && rounds_alike(world.closed_rounds(), other.closed_rounds())
+    if !same_words(world.words(), other.words()) {
+        return false;
+    }
+    if !same_parts(world.open_parts(), other.open_parts()) {
+        return false;
+    }
+    rounds_alike(world.closed_rounds(), other.closed_rounds())
 }

@@ -1,5 +1,5 @@
 //! All orders of a campaign, one after another, each played from the start.
-ghost use Rattle.std.specs.Prelude.{◌≡◌, ◌<◌, ◌+◌, ◌-◌, ◌^◌, ℕ, All, IfOk, OnOk, MatchOption, true, false, length, slice_index_or, option_map, bytes_eq};
+ghost use Rattle.std.specs.Prelude.{◌≡◌, ◌↔◌, IsTrue, ◌<◌, ◌+◌, ◌-◌, ◌^◌, ℕ, All, IfOk, OnOk, MatchOption, true, false, length, slice_index_or, option_map, bytes_eq};
 ghost use Rattle.explore.specs.Entering.{entered};
 ghost use Rattle.explore.specs.Exploring.{Finding as Found, IsExploration, counted_in};
 ghost use Rattle.explore.specs.Layers.{kept};
@@ -31,11 +31,17 @@ use world::replay;
 pub fn explore(alloc: Global, scenario: &Scenario, most: u64) -> Result<Exploration, AllocError>
     ensures { IfOk result (λ exploration. IsExploration oral_kind oral_outcome scenario.now most exploration) }
 {
-    if most == u64::MAX {
-        explore_all(alloc, scenario)
-    } else {
-        explore_least(alloc, scenario, most)
+    if is_full(most) {
+        return explore_all(alloc, scenario);
     }
+    explore_least(alloc, scenario, most)
+}
+
+/// Whether it is the greatest number.
+fn is_full(count: u64) -> bool
+    ensures { IsTrue result ↔ (count ≡ 2 ^ 64 - 1) }
+{
+    count == u64::MAX
 }
 
 /// The outcomes of all orders, which are gone through layer by layer.
@@ -46,7 +52,7 @@ fn explore_all(alloc: Global, scenario: &Scenario) -> Result<Exploration, AllocE
     let states = last_states(alloc, scenario)?;
     let findings = gather(alloc, states.as_slice())?;
     let count = most_counted(findings.as_slice());
-    if count == u64::MAX {
+    if is_full(count) {
         return Ok(Exploration {
             findings,
             reach: Reach::Beyond,

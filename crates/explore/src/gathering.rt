@@ -11,8 +11,8 @@ use std::alloc::{AllocError, Global};
 fn find(alloc: Global, findings: &mut Vec<Finding>, state: &State) -> Result<(), AllocError>
     ensures { OnOk result (IsFound findings.old.items state.now findings.new.items) }
 {
-    let decisions = state.world.decisions();
-    let decisions = decisions.as_slice();
+    let outcome = state.world.decisions();
+    let decisions = outcome.as_slice();
     match place_of(findings.as_slice(), decisions) {
         Some(place) => {
             findings[place].count_more(state.ways);

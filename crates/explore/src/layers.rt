@@ -8,7 +8,6 @@ ghost use Rattle.world.specs.Kind.{opening};
 ghost use Rattle.world.specs.Playing.{lists_in};
 ghost use Rattle.world.specs.World.{oral_kind};
 
-use crate::order::copied;
 use crate::scheduling::{instructions, steps_to_access};
 use crate::state::{State, enter};
 use round::Scenario;
@@ -43,22 +42,39 @@ fn past(
     requires { state.now.world ≡ reached (opening oral_kind scenario.now) state.now.rows state.now.names }
     ensures { IfOk result (λ next. IsPastOf state.now general next) }
 {
-    let Some(_) = instructions(state.world.open_parts(), general) else {
-        return Ok(None);
-    };
+    match instructions(state.world.open_parts(), general) {
+        Some(most) => {
+            let _ = most;
+            played_past(alloc, scenario, state, general)
+        }
+        None => Ok(None),
+    }
+}
+
+/// [`past`] of a traitor, whose campaign is played again.
+fn played_past(
+    alloc: Global,
+    scenario: &Scenario,
+    state: &State,
+    general: u8,
+) -> Result<Option<State>, AllocError>
+    requires { state.now.world ≡ reached (opening oral_kind scenario.now) state.now.rows state.now.names }
+    ensures { IfOk result (λ next. IsPastOf state.now general next) }
+{
     let mut world = again(
         alloc,
         scenario,
         state.rows.as_slice(),
         state.names.as_slice(),
     )?;
-    let Some(_) = steps_to_access(&mut world, general)? else {
-        return Ok(None);
-    };
-    let rows = copied(alloc, state.rows.as_slice())?;
-    let mut names = Vec::from_slice(alloc, state.names.as_slice())?;
-    names.push(general)?;
-    Ok(Some(State::new(world, state.ways, rows, names)))
+    match steps_to_access(&mut world, general)? {
+        Some(steps) => {
+            let _ = steps;
+            let next = state.with_access(alloc, world, general)?;
+            Ok(Some(next))
+        }
+        None => Ok(None),
+    }
 }
 
 /// A state in which nobody has an access left, as the next round begins.
@@ -78,9 +94,7 @@ fn closed(alloc: Global, scenario: &Scenario, state: &State) -> Result<State, Al
         state.names.as_slice(),
     )?;
     wind_up(&mut world)?;
-    let mut rows = copied(alloc, state.rows.as_slice())?;
-    rows.push(Vec::from_slice(alloc, state.names.as_slice())?)?;
-    Ok(State::new(world, state.ways, rows, Vec::new(alloc)))
+    state.with_round(alloc, world)
 }
 
 /// Enters a state as a general has made his next access, where he is to make one.

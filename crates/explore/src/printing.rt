@@ -186,6 +186,16 @@ fn counted(findings: &[Finding]) -> u64
     findings.iter().map(|finding| finding.count()).sum()
 }
 
+/// How many orders there are, to the end of the line.
+fn put_count(out: &mut String, findings: &[Finding]) -> Result<(), AllocError>
+    requires { counted_in findings.now < 2 ^ 64 }
+    ensures { OnOk result (string_bytes out.new ≡ string_bytes out.old ++ further (counted_in findings.now) ++ codes "\n") }
+{
+    put_further(out, counted(findings))?;
+    out.push_str("\n")?;
+    Ok(())
+}
+
 /// The first line.
 fn put_head(out: &mut String, reach: Reach, findings: &[Finding]) -> Result<(), AllocError>
     requires { reach ≢ Beyond → counted_in findings.now < 2 ^ 64 }
@@ -194,16 +204,17 @@ fn put_head(out: &mut String, reach: Reach, findings: &[Finding]) -> Result<(), 
     match reach {
         Reach::Whole => {
             out.push_str("orders")?;
-            put_further(out, counted(findings))?;
+            put_count(out, findings)
         }
-        Reach::Beyond => out.push_str("orders more than 18446744073709551614")?,
+        Reach::Beyond => {
+            out.push_str("orders more than 18446744073709551614\n")?;
+            Ok(())
+        }
         Reach::InPart => {
             out.push_str("orders more than")?;
-            put_further(out, counted(findings))?;
+            put_count(out, findings)
         }
     }
-    out.push_str("\n")?;
-    Ok(())
 }
 
 /// The lines of all findings.

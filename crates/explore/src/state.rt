@@ -1,11 +1,13 @@
 //! Worlds to which many beginnings of orders lead.
-ghost use Rattle.std.specs.Prelude.{◌≡◌, ◌+◌, [], IfOk, IfSome, OnOk};
+ghost use Rattle.std.specs.Prelude.{◌≡◌, ◌+◌, ◌++◌, ◌∷◌, [], IfOk, IfSome, IsTrue, OnOk};
 ghost use Rattle.explore.specs.Layers.{State as StateSeen, IsAlikeAt, IsEntered, kept};
-ghost use Rattle.world.specs.Kind.{World as WorldSeen, opening};
+ghost use Rattle.explore.specs.Merging.{AreAlike};
+ghost use Rattle.world.specs.Kind.{opening};
 ghost use Rattle.world.specs.Playing.{lists_in};
 ghost use Rattle.world.specs.World.{oral_kind};
 
 use crate::alike::are_alike;
+use crate::order::copied;
 use round::Scenario;
 use std::alloc::{AllocError, Global};
 use std::marker::Model;
@@ -61,6 +63,39 @@ impl State {
         Ok(State::new(world, 1, Vec::new(alloc), Vec::new(alloc)))
     }
 
+    /// With this world, to which the general has made one access more.
+    ///
+    /// # Errors
+    ///
+    /// `AllocError` where memory is refused.
+    pub(crate) fn with_access(
+        &self,
+        alloc: Global,
+        world: World,
+        general: u8,
+    ) -> Result<State, AllocError>
+        ensures { IfOk result (λ state. state ≡ record { world = world; ways = self.now.ways; rows = self.now.rows; names = self.now.names ++ general ∷ [] }) }
+    {
+        let rows = copied(alloc, self.rows.as_slice())?;
+        let mut names = Vec::from_slice(alloc, self.names.as_slice())?;
+        names.push(general)?;
+        Ok(State::new(world, self.ways, rows, names))
+    }
+
+    /// With this world, in which the open round is closed.
+    ///
+    /// # Errors
+    ///
+    /// `AllocError` where memory is refused.
+    pub(crate) fn with_round(&self, alloc: Global, world: World) -> Result<State, AllocError>
+        ensures { IfOk result (λ state. state ≡ record { world = world; ways = self.now.ways; rows = self.now.rows ++ self.now.names ∷ []; names = [] }) }
+    {
+        let mut rows = copied(alloc, self.rows.as_slice())?;
+        let names = Vec::from_slice(alloc, self.names.as_slice())?;
+        rows.push(names)?;
+        Ok(State::new(world, self.ways, rows, Vec::new(alloc)))
+    }
+
     /// It comes about in so many ways more.
     fn add(&mut self, ways: u64)
         ensures { self.new ≡ record self.old { ways = kept (self.old.ways + ways) } }
@@ -71,9 +106,8 @@ impl State {
 
 /// A number mixed into a mark.
 fn mixed(mark: u64, number: u64) -> u64 {
-    (mark ^ number)
-        .wrapping_mul(0x9E37_79B9_7F4A_7C15)
-        .rotate_left(29)
+    let product = (mark ^ number).wrapping_mul(0x9E37_79B9_7F4A_7C15);
+    product ^ (product >> 32)
 }
 
 /// The mark of a world: its words and how many steps each activation has taken, mixed.
@@ -92,12 +126,19 @@ fn mark_of(world: &World) -> u64 {
     mark
 }
 
+/// Whether their worlds are found to be alike.
+fn is_like(state: &State, other: &State) -> bool
+    ensures { IsTrue result → state.now.world.scenario ≡ other.now.world.scenario → AreAlike state.now.world other.now.world }
+{
+    state.mark == other.mark && are_alike(&state.world, &other.world)
+}
+
 /// Where a state with an alike world stands.
 fn place_of(states: &[State], state: &State) -> Option<usize>
     ensures { IfSome result (λ place. IsAlikeAt states.now state.now place) }
 {
     for (place, other) in states.iter().enumerate() {
-        if other.mark == state.mark && are_alike(&other.world, &state.world) {
+        if is_like(other, state) {
             return Some(place);
         }
     }

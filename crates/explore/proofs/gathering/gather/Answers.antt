@@ -1,6 +1,6 @@
 -- State by state.
 use Rattle.std.proofs.Common.{arith}
-use Rattle.explore.proofs.Gathering.{gather_begins, gather_goes_on, gather_ends}
+use Rattle.explore.proofs.Collecting.{gather_begins, gather_goes_on, gather_ends}
 use Rattle.explore.proofs.gathering.gather.Goals as goal
 
 pub loop-place-init : goal.loop-place-init

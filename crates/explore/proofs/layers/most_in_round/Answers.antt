@@ -16,8 +16,8 @@ loop-general-preserved c =
     let more = sum_by_more instructions programs c.loop-general.general None (omega arith) in
     let sum = c.loop-general.invariant.sum in
     let few = c.loop-general.invariant.few in
-    let count = c.instructions_of.ensures.count in
-    let bound = c.instructions_of.ensures.few in
+    let count = c.instructions_of-sum.ensures.count in
+    let bound = c.instructions_of-sum.ensures.few in
     record { sum = omega arith; few = omega arith }
 
 pub returns : goal.returns

@@ -30,7 +30,7 @@ counted_sums b findings t new j =
     let within : g j.was ≤ tallied b findings = subst (λ (n : ℕ). n ≤ tallied b findings) (ap g (sym j.there)) (get_or-le-sum_by g findings j.place j.was j.here.0) in
     swapped m (tallied b new) (tallied b findings) (g fresh) (g j.was) (t.ways * b (oral_outcome t.world)) total
     (λ r. kept_times m (j.was.count + t.ways) (b j.was.decisions) r
-    ∙ (let a = add-mul j.was.count t.ways (b j.was.decisions) in let c : t.ways * b j.was.decisions ≡ t.ways * b (oral_outcome t.world) = ap (λ (n : ℕ). t.ways * n) one in omega arith))
+    ∙ ap (λ (x : ℕ). min (r + x) m) (add-mul j.was.count t.ways (b j.was.decisions) ∙ ap (λ (x : ℕ). j.was.count * b j.was.decisions + t.ways * x) one))
     within
 
 first_sums : (b : List ℕ → ℕ) (findings : List Finding) (t : State) (new : List Finding) → IsFirstOf findings t new → AsKept (tallied b new) (tallied b findings + t.ways * b (oral_outcome t.world))

@@ -1,0 +1,11 @@
+-- Without a limit, all.
+use Rattle.std.proofs.Common.{ℕ, sym, subst}
+use Rattle.std.specs.Prelude.{IfOk}
+use Rattle.world.specs.World.{oral_kind}
+use Rattle.explore.specs.Exploring.{IsExploration}
+use Rattle.explore.specs.Outcomes.{oral_outcome}
+use Rattle.explore.proofs.exploring.explore.Goals as goal
+
+pub returns-then-is_full : goal.returns-then-is_full
+returns-then-is_full c =
+    subst (λ (n : ℕ). IfOk c.explore_all.result (λ e. IsExploration oral_kind oral_outcome c.args.scenario.now n e)) (sym (c.is_full.ensures.0 c.if-is_full.true)) c.explore_all.ensures
