@@ -110,7 +110,6 @@ abbrev pub over_rounds : ℕ → ℕ → (World → ℕ) → World → ℕ
 over_rounds most zero h w = h w
 over_rounds most (suc k) h w = over_round most (over_rounds most k h) w
 
-
 -- the sums of two numbers over two layers, together
 abbrev pub weighed_both : (World → ℕ) → (World → ℕ) → List State → List State → ℕ
 weighed_both f h next done = weighed f next + weighed h done

@@ -19,12 +19,7 @@ fn find(alloc: Global, findings: &mut Vec<Finding>, state: &State) -> Result<(),
             Ok(())
         }
         None => {
-            findings.push(Finding::of(
-                alloc,
-                decisions,
-                state.ways,
-                state.rows.as_slice(),
-            )?)?;
+            findings.push(Finding::of(alloc, decisions, state.ways, state.rows.as_slice())?)?;
             Ok(())
         }
     }

@@ -109,8 +109,8 @@ fn ask(
     ensures { IfOk result (λ asked. IsAsked state.now general next.old.items asked next.new.items) }
 {
     match past(alloc, scenario, state, general)? {
-        Some(state) => {
-            enter(next, state)?;
+        Some(more) => {
+            enter(next, more)?;
             Ok(true)
         }
         None => Ok(false),

@@ -24,7 +24,10 @@ pub(crate) fn instructions(standing: &[Part], general: u8) -> Option<u16>
 }
 
 /// A general's steps until he has made one more access; none where he is to make none.
-pub(crate) fn steps_to_access<W: Plays>(world: &mut W, general: u8) -> Result<Option<u16>, AllocError>
+pub(crate) fn steps_to_access<W: Plays>(
+    world: &mut W,
+    general: u8,
+) -> Result<Option<u16>, AllocError>
     ensures { IfOk result (IsStepTo W.kind (W.seen world.old) general (W.seen world.new)) }
 {
     world.campaign().recall();

@@ -7,8 +7,8 @@ use Rattle.explore.proofs.layers.whole_round.Goals as goal
 pub step-requires : goal.step-requires
 step-requires c = (c.requires.0, subst (λ (l : List State). AreStatesOf c.args.scenario.now c.requires.0 l) (sym c.as_slice.ensures.value) (c.loop-made.invariant.states c.requires.0 c.requires.1))
 
-pub step-2-requires : goal.step-2-requires
-step-2-requires c = (c.requires.0, subst (λ (l : List State). AreStatesOf c.args.scenario.now c.requires.0 l) (sym c.as_slice-2.ensures.value) (c.loop-made.invariant.states c.requires.0 c.requires.1))
+pub step-requires-2 : goal.step-requires-2
+step-requires-2 c = (c.requires.0, subst (λ (l : List State). AreStatesOf c.args.scenario.now c.requires.0 l) (sym c.as_slice-2.ensures.value) (c.loop-made.invariant.states c.requires.0 c.requires.1))
 
 pub loop-made-init : goal.loop-made-init
 loop-made-init c = way_begins c.args.scenario.now c.args.most c.args.first.items c.new-done.result.items c.new-done.ensures.items
