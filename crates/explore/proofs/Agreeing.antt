@@ -1,5 +1,5 @@
 -- What is found agrees under the bound.
-use Rattle.std.proofs.Common.{◌≡◌, List, ℕ, Bool, true, false, All, refl, sym, subst, ◌∙◌}
+use Rattle.std.proofs.Common.{◌≡◌, List, ℕ, All, refl, sym, subst, ◌∙◌}
 use Rattle.std.proofs.lemmas.List.Elements.{All-weaker}
 use Rattle.label.specs.Lieutenants.{AgreeInList}
 use Rattle.round.specs.Letters.{messages}
@@ -16,7 +16,7 @@ use Rattle.world.proofs.Verdicts.{proved_decisions_agree}
 use Rattle.explore.specs.declared.exploration.Reach.{Reach}
 use Rattle.explore.specs.declared.exploration.Reach.TheVariants.{Whole, Beyond, InPart}
 use Rattle.explore.specs.Outcomes.{oral_outcome}
-use Rattle.explore.specs.Exploring.{Finding, Exploration, IsReal, IsFinding, IsLowerFinding, IsCappedFinding, IsExploration}
+use Rattle.explore.specs.Exploring.{Finding, IsReal, IsFinding, IsLowerFinding, IsCappedFinding}
 use Rattle.explore.specs.Agreeing.{FindingsAgree}
 
 real_agrees : (s : Scenario) → IsScenario s → (f : Finding) → IsReal oral_kind oral_outcome s f → AgreeUnderBound s f.decisions

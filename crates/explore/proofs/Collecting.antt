@@ -1,20 +1,19 @@
 -- Findings from states.
-use Rattle.std.proofs.Common.{◌≡◌, ℕ, zero, suc, ◌+◌, ◌*◌, ◌-◌, ◌^◌, ◌<◌, ◌≤◌, min, List, [], ◌∷◌, ◌++◌, length, take, map, set, get_or, Bool, true, false, cond, refl, sym, ap, subst, ◌∙◌, ◌⊎◌, inl, inr, ⊎_elim, arith, All, length-append}
-use Rattle.std.specs.Prelude.{slice_get, sum_by, bytes_eq}
-use Rattle.std.proofs.Math.Nat.{add-mul, mul-zero, mul-one, zero-mul}
+use Rattle.std.proofs.Common.{◌≡◌, ℕ, suc, ◌+◌, ◌*◌, ◌-◌, ◌^◌, ◌<◌, ◌≤◌, min, List, [], ◌∷◌, ◌++◌, length, take, map, set, get_or, true, false, refl, sym, ap, subst, ◌∙◌, ◌⊎◌, inl, inr, ⊎_elim, arith, All, length-append}
+use Rattle.std.specs.Prelude.{sum_by, bytes_eq}
+use Rattle.std.proofs.Math.Nat.{add-mul}
 use Rattle.std.proofs.Math.Seq.{map-set_same}
 use Rattle.std.proofs.lemmas.Slice.Eq.{bytes_eq-Decides}
 use Rattle.std.proofs.lemmas.List.{take_more, take_all, map-append, get_or_append_left, get_or_push}
-use Rattle.std.proofs.lemmas.List.Sums.{sum_by_push, sum_by-set, sum_by_more, sum_by-cons, get_or-le-sum_by}
+use Rattle.std.proofs.lemmas.List.Sums.{sum_by_push, sum_by-set, sum_by_more, get_or-le-sum_by}
 use Rattle.std.proofs.lemmas.List.Elements.{All-weaker, All-nil, All-push, All-set}
-use Rattle.round.specs.Scenario.{Scenario, IsScenario}
 use Rattle.world.specs.Kind.{World}
-use Rattle.explore.specs.Exploring.{Finding, outcomes_of, counted_in}
+use Rattle.explore.specs.Exploring.{Finding, outcomes_of}
 use Rattle.explore.specs.Gathering.{IsCountedOn, IsFirstOf, IsFound, IsOfState, tallied, AreGathered}
 use Rattle.explore.specs.Layers.{State, kept, AsKept, weighed}
 use Rattle.explore.specs.Listing.{Has, AreDifferent}
 use Rattle.explore.specs.Outcomes.{oral_outcome}
-use Rattle.explore.specs.Places.{AreElsewhere, IsNowhere, IsPlaceOf}
+use Rattle.explore.specs.Places.{IsNowhere, IsPlaceOf}
 use Rattle.explore.proofs.Having.{different-append}
 use Rattle.explore.proofs.Weighing.{as_more, kept_times, swapped}
 

@@ -1,26 +1,23 @@
 -- The findings of the last states are those of all orders.
-use Rattle.std.proofs.Common.{◌≡◌, ℕ, zero, suc, ◌+◌, ◌*◌, ◌-◌, ◌^◌, ◌<◌, ◌≤◌, min, List, [], ◌∷◌, ◌++◌, length, get_or, Bool, true, false, cond, refl, sym, ap, subst, ◌∙◌, ◌⊎◌, inl, inr, ⊎_elim, arith, All}
+use Rattle.std.proofs.Common.{◌≡◌, ℕ, zero, suc, ◌+◌, ◌*◌, ◌-◌, ◌^◌, ◌<◌, ◌≤◌, List, [], ◌∷◌, ◌++◌, length, get_or, Bool, true, false, cond, refl, sym, ap, subst, ◌∙◌, ◌⊎◌, inl, inr, ⊎_elim, arith, All}
 use Rattle.std.specs.Prelude.{sum_by, count_by, bytes_eq}
 use Rattle.std.proofs.Math.Nat.{mul-zero, mul-one}
 use Rattle.std.proofs.lemmas.Slice.Eq.{bytes_eq-Decides}
-use Rattle.std.proofs.lemmas.List.Sums.{sum_by-cons, get_or-le-sum_by, count_by-le-length}
-use Rattle.std.proofs.lemmas.List.Elements.{All-weaker, All-head, All-tail}
+use Rattle.std.proofs.lemmas.List.Sums.{sum_by-cons, count_by-le-length}
 use Rattle.round.specs.Letters.{messages}
 use Rattle.round.specs.Scenario.{Scenario, IsScenario}
 use Rattle.world.specs.Chronicle.{decisions}
 use Rattle.world.specs.declared.event.Event.{Event}
 use Rattle.world.specs.Kind.{World, opening, run}
-use Rattle.world.specs.KindLists.{IsComplete, replayed, replayed_rounds, names_events, wound_up}
+use Rattle.world.specs.KindLists.{IsComplete, replayed_rounds, names_events, wound_up}
 use Rattle.world.specs.World.{oral_kind}
 use Rattle.world.proofs.Campaigns.{oral_campaigns}
 use Rattle.world.proofs.Moves.{run-append}
-use Rattle.explore.specs.declared.exploration.Reach.{Reach}
 use Rattle.explore.specs.declared.exploration.Reach.TheVariants.{Whole, Beyond, InPart}
-use Rattle.explore.specs.Exploring.{Finding, outcomes_of, counted_in, ways_to, IsReal, IsFinding, IsCappedFinding, IsExplored, IsExploredBeyond, IsExploration}
+use Rattle.explore.specs.Exploring.{Finding, outcomes_of, counted_in, ways_to, IsReal, IsCappedFinding, IsExplored, IsExploredBeyond, IsExploration}
 use Rattle.explore.specs.Gathering.{IsOfState, tallied, AreGathered}
-use Rattle.explore.specs.Layers.{State, kept, AsKept, IsStateOf, IsFreshOf, AreFreshOf, AreRounds, behind_all, reached, IsCommon, weighed, over_rounds, AreLayers}
+use Rattle.explore.specs.Layers.{State, kept, AsKept, IsFreshOf, AreRounds, behind_all, reached, IsCommon, over_rounds, AreLayers}
 use Rattle.explore.specs.Listing.{Has, AreDifferent, orders, most_in_round}
-use Rattle.explore.specs.Merging.{AreAlike}
 use Rattle.explore.specs.Orders.{IsFrom, IsOrder, behind, order_of}
 use Rattle.explore.specs.Outcomes.{oral_outcome, outcome_of, outcome_in}
 use Rattle.explore.proofs.Bounded.{orders_are_whole}

@@ -1,5 +1,5 @@
 -- Worlds by their ways: an access more, and a round more.
-use Rattle.std.proofs.Common.{◌≡◌, ℕ, zero, suc, ◌+◌, ◌<◌, ◌≤◌, List, [], ◌∷◌, ◌++◌, length, true, false, Bool, refl, sym, ap, subst, ◌∙◌, ⊎_elim, arith, length-append, append-nil, take, get_or, Vec, Option, None, Some}
+use Rattle.std.proofs.Common.{◌≡◌, ℕ, zero, suc, ◌+◌, ◌<◌, ◌≤◌, List, [], ◌∷◌, ◌++◌, length, true, false, Bool, refl, sym, ap, subst, ◌∙◌, ⊎_elim, arith, length-append, append-nil, take, get_or, Vec, None, Some}
 use Rattle.std.specs.Prelude.{◌-◌, slice_get, slice_index_or, filter, cond, nat_lt, sum_by}
 use Rattle.std.specs.Global.{Global}
 use Rattle.std.specs.List.{range_with_len}
@@ -8,7 +8,6 @@ use Rattle.std.proofs.lemmas.Bool.{ltb-true, ltb-false, cases_Bool}
 use Rattle.std.proofs.lemmas.List.Elements.{filter-append}
 use Rattle.label.specs.Labels.{generals}
 use Rattle.round.specs.Scenario.{Scenario, IsScenario}
-use Rattle.world.specs.declared.event.Event.{Event}
 use Rattle.world.specs.declared.part.Part.{Part}
 use Rattle.world.specs.declared.part.Part.TheVariants.{Silent}
 use Rattle.world.specs.Kind.{World, opening, run}

@@ -1,5 +1,5 @@
 -- What the replay of some names tells of its order and its outcome, in oral campaigns.
-use Rattle.std.proofs.Common.{◌≡◌, ℕ, suc, ◌+◌, ◌<◌, ◌≤◌, List, [], All, Bool, true, false, refl, sym, ap, subst, ◌∙◌, Some, None, Result, Ok, Err, Vec, arith}
+use Rattle.std.proofs.Common.{◌≡◌, ℕ, suc, ◌+◌, ◌<◌, ◌≤◌, List, [], All, refl, sym, ap, subst, ◌∙◌, Some, None, Result, Ok, Err, Vec, arith}
 use Rattle.std.specs.Prelude.{OnOk, IfOk}
 use Rattle.std.specs.Global.{Global}
 use Rattle.std.proofs.lemmas.List.Elements.{All-weaker}

@@ -1,5 +1,5 @@
 -- A layer gives way to the next, state by state and access by access.
-use Rattle.std.proofs.Common.{◌≡◌, ℕ, zero, suc, ◌+◌, ◌*◌, ◌-◌, ◌^◌, ◌<◌, ◌≤◌, min, List, [], ◌∷◌, ◌++◌, length, take, get_or, Bool, true, false, refl, sym, ap, subst, ◌∙◌, arith, All, Option, None, Some, length-append}
+use Rattle.std.proofs.Common.{◌≡◌, ℕ, suc, ◌+◌, ◌*◌, ◌-◌, ◌^◌, ◌<◌, ◌≤◌, List, [], ◌∷◌, ◌++◌, length, take, get_or, Bool, true, false, refl, sym, ap, subst, ◌∙◌, arith, All, Some, length-append}
 use Rattle.std.specs.Prelude.{slice_get, sum_by, ◌||◌}
 use Rattle.std.proofs.Math.Nat.{mul-add, mul-zero, one-mul}
 use Rattle.std.proofs.lemmas.List.{take_more, take_all, get_or_append_left, get_or_push}
@@ -12,9 +12,8 @@ use Rattle.explore.specs.Orders.{will_ask, past, behind}
 use Rattle.explore.specs.Listing.{askers, most_in_round}
 use Rattle.explore.specs.Layers.{State, kept, AsKept, IsStateOf, AreStatesOf, IsFreshOf, AreFreshOf, IsEntered, IsPastOf, IsAsked, IsCommon, weighed, weighed_both, stepped, over_round, over_rounds, or_sum, IsExpanded, IsStep, IsRoundOn, AreLayers}
 use Rattle.explore.proofs.Branching.{last_step, next_step, round_common, rounds_common}
-use Rattle.explore.proofs.Merging.{past_alike}
 use Rattle.explore.proofs.Reaching.{past_state, closed_state, scenario_is, few_parts, askers_below, asks_more, asks_no_more, all_askers, or_some}
-use Rattle.explore.proofs.Weighing.{as_more, as_both, entered_weighs, entered_states, entered_fresh}
+use Rattle.explore.proofs.Weighing.{as_more, entered_weighs, entered_states, entered_fresh}
 
 -- all of one scenario
 pub states_scenario : (s : Scenario) (k : ℕ) (states : List State) → AreStatesOf s k states → All (λ (u : State). u.world.scenario ≡ s) states

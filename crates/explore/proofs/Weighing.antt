@@ -1,11 +1,11 @@
 -- Sums over states, as far as they are kept.
-use Rattle.std.proofs.Common.{◌≡◌, ℕ, zero, suc, ◌+◌, ◌*◌, ◌<◌, ◌≤◌, min, List, [], ◌∷◌, ◌++◌, length, set, get_or, refl, sym, ap, subst, ◌∙◌, ◌⊎◌, inl, inr, ⊎_elim, arith, All}
+use Rattle.std.proofs.Common.{◌≡◌, ℕ, zero, suc, ◌+◌, ◌*◌, ◌<◌, ◌≤◌, min, List, set, get_or, sym, ap, subst, ◌∙◌, ◌⊎◌, inl, inr, ⊎_elim, arith, All}
 use Rattle.std.specs.Prelude.{sum_by, nat_lt, true, false, ◌-◌, ◌^◌}
-use Rattle.std.proofs.Math.Nat.{add-mul, mul-suc, mul-zero, mul-add}
+use Rattle.std.proofs.Math.Nat.{add-mul, mul-suc, mul-zero}
 use Rattle.std.proofs.lemmas.Bool.{ltb-true, ltb-false, cases_Bool}
 use Rattle.std.proofs.lemmas.List.Sums.{sum_by_push, sum_by-set, get_or-le-sum_by}
-use Rattle.std.proofs.lemmas.List.Elements.{All-push, All-set, All-get_or}
-use Rattle.round.specs.Scenario.{Scenario, IsScenario}
+use Rattle.std.proofs.lemmas.List.Elements.{All-push, All-set}
+use Rattle.round.specs.Scenario.{Scenario}
 use Rattle.world.specs.Kind.{World}
 use Rattle.explore.specs.Merging.{AreAlike}
 use Rattle.explore.specs.Layers.{State, kept, AsKept, IsStateOf, AreStatesOf, IsFreshOf, AreFreshOf, IsAlikeAt, IsJoined, IsEntered, IsCommon, weighed}

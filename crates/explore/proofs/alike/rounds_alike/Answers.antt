@@ -1,5 +1,5 @@
 -- One round more, and all.
-use Rattle.std.proofs.Common.{List, sym, subst, arith}
+use Rattle.std.proofs.Common.{List, subst, arith}
 use Rattle.round.specs.Letters.{Letter}
 use Rattle.explore.specs.Merging.{TellAlike}
 use Rattle.explore.proofs.Comparing.{rounds_more, rounds_all}

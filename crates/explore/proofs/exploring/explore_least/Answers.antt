@@ -1,6 +1,5 @@
 -- From visit to visit, to the last order or to the limit.
 use Rattle.std.proofs.Common.{◌≡◌, arith}
-use Rattle.explore.specs.declared.exploration.Reach.{Reach}
 use Rattle.explore.specs.declared.exploration.Reach.TheVariants.{Whole, Beyond, InPart}
 use Rattle.explore.proofs.Replaying.{visits_begin, visits_go_on, visits_end, visits_few, visits_cut}
 use Rattle.explore.proofs.exploring.explore_least.Goals as goal

@@ -1,9 +1,8 @@
 -- General by general.
-use Rattle.std.proofs.Common.{◌≡◌, ◌∙◌, ◌+◌, ◌*◌, ◌<◌, ◌≤◌, ℕ, List, Option, None, ap, length, arith, take}
+use Rattle.std.proofs.Common.{◌≡◌, ◌∙◌, ◌*◌, None, ap, length, arith}
 use Rattle.std.specs.Prelude.{sum_by}
 use Rattle.std.proofs.lemmas.List.{take_all}
 use Rattle.std.proofs.lemmas.List.Sums.{sum_by_more}
-use Rattle.insn.specs.declared.insn.Insn.{Insn}
 use Rattle.explore.specs.Listing.{instructions}
 use Rattle.explore.proofs.layers.most_in_round.Goals as goal
 

@@ -1,7 +1,5 @@
 -- State by state.
-use Rattle.std.proofs.Common.{◌≡◌, sym, subst, arith}
-use Rattle.world.specs.Kind.{opening}
-use Rattle.world.specs.World.{oral_kind}
+use Rattle.std.proofs.Common.{sym, subst, arith}
 use Rattle.explore.specs.Layers.{State, IsStateOf}
 use Rattle.explore.proofs.Spreading.{step_begins, step_goes_on, step_ends}
 use Rattle.explore.proofs.layers.step.Goals as goal
