@@ -1,5 +1,5 @@
 //! Orders layer by layer: each layer has one access more, and alike worlds of a layer are one state.
-ghost use Rattle.std.specs.Prelude.{◌≡◌, ◌<◌, ◌≤◌, ◌*◌, ◌++◌, ◌∷◌, ℕ, [], suc, IfOk, OnOk};
+ghost use Rattle.std.specs.Prelude.{◌≡◌, ◌<◌, ◌≤◌, ◌*◌, ◌++◌, ◌∷◌, ◌||◌, ℕ, [], suc, IfOk, OnOk};
 ghost use Rattle.explore.specs.Layers.{AreLayers, AreStatesOf, IsAsked, IsExpanded, IsPastOf, IsRoundOn, IsStep, reached};
 ghost use Rattle.explore.specs.Listing.{instructions, most_in_round};
 ghost use Rattle.explore.specs.Orders.{behind};
@@ -117,6 +117,13 @@ fn ask(
     }
 }
 
+/// Whether one of both is so.
+fn either(one: bool, other: bool) -> bool
+    ensures { result ≡ one || other }
+{
+    one || other
+}
+
 /// Enters what can come next of a state: it as each of those who have accesses left has made one; where nobody has,
 /// it as the next round begins.
 fn expand(
@@ -133,7 +140,7 @@ fn expand(
     let mut asked = false;
     for general in 0..scenario.generals() {
         let one = ask(alloc, scenario, state, general, next)?;
-        asked = asked || one;
+        asked = either(asked, one);
     }
     if asked {
         return Ok(());
@@ -176,7 +183,8 @@ fn whole_round(
     let mut done = Vec::new(alloc);
     for made in 0..most {
         let _ = made;
-        layer = step(alloc, scenario, layer.as_slice(), &mut done)?;
+        let next = step(alloc, scenario, layer.as_slice(), &mut done)?;
+        layer = next;
     }
     step(alloc, scenario, layer.as_slice(), &mut done)?;
     Ok(done)
@@ -228,7 +236,8 @@ pub(crate) fn last_states(alloc: Global, scenario: &Scenario) -> Result<Vec<Stat
     states.push(State::opening(alloc, scenario)?)?;
     for made in 0..scenario.bound() + 1 {
         let _ = made;
-        states = whole_round(alloc, scenario, states, most)?;
+        let next = whole_round(alloc, scenario, states, most)?;
+        states = next;
     }
     Ok(states)
 }

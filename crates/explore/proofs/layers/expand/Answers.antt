@@ -1,6 +1,6 @@
 -- General by general.
-use Rattle.std.proofs.Common.{arith}
-use Rattle.explore.proofs.Spreading.{spread_begins, spread_more, expanded_if, expanded_else}
+use Rattle.std.proofs.Common.{◌+◌, Bool, sym, subst, arith}
+use Rattle.explore.proofs.Spreading.{IsSpread, spread_begins, spread_more, expanded_if, expanded_else}
 use Rattle.explore.proofs.layers.expand.Goals as goal
 
 pub loop-general-init : goal.loop-general-init
@@ -8,7 +8,9 @@ loop-general-init c = spread_begins c.args.scenario.now c.args.state.now c.args.
 
 pub loop-general-preserved : goal.loop-general-preserved
 loop-general-preserved c =
-    spread_more c.args.scenario.now c.args.state.now c.loop-general.general c.args.next.now.items c.loop-general.next.items c.ask.new.next.items c.loop-general.asked c.in_ok-one.one c.loop-general.invariant c.in_ok-one.ensures
+    let A : Bool → Type 0 = λ b. IsSpread c.args.scenario.now c.args.state.now (c.loop-general.general + 1) c.args.next.now.items c.ask.new.next.items b in
+    subst A (sym c.either-asked.ensures)
+    (spread_more c.args.scenario.now c.args.state.now c.loop-general.general c.args.next.now.items c.loop-general.next.items c.ask.new.next.items c.loop-general.asked c.in_ok-one.one c.loop-general.invariant c.in_ok-one.ensures)
 
 pub returns-then-asked : goal.returns-then-asked
 returns-then-asked c =

@@ -15,10 +15,10 @@ loop-made-init c = way_begins c.args.scenario.now c.args.most c.args.first.items
 
 pub loop-made-preserved : goal.loop-made-preserved
 loop-made-preserved c =
-    let stepped = subst (λ (l : List State). IsStep c.args.scenario.now l c.in_ok-step.field-0.items c.loop-made.done.items c.step.new.done.items) c.as_slice.ensures.value c.in_ok-step.ensures in
-    way_goes_on c.args.scenario.now c.args.most c.loop-made.made c.args.first.items c.loop-made.layer.items c.loop-made.done.items c.in_ok-step.field-0.items c.step.new.done.items c.recall.ensures c.loop-made-test.true c.loop-made.invariant stepped
+    let stepped = subst (λ (l : List State). IsStep c.args.scenario.now l c.in_ok-next.next.items c.loop-made.done.items c.step.new.done.items) c.as_slice.ensures.value c.in_ok-next.ensures in
+    way_goes_on c.args.scenario.now c.args.most c.loop-made.made c.args.first.items c.loop-made.layer.items c.loop-made.done.items c.in_ok-next.next.items c.step.new.done.items c.recall.ensures c.loop-made-test.true c.loop-made.invariant stepped
 
 pub returns : goal.returns
 returns c =
-    let stepped = subst (λ (l : List State). IsStep c.args.scenario.now l c.in_ok-step-2.field-0.items c.loop-made.done.items c.step-2.new.done.items) c.as_slice-2.ensures.value c.in_ok-step-2.ensures in
-    way_ends c.args.scenario.now c.args.most c.loop-made.made c.args.first.items c.loop-made.layer.items c.loop-made.done.items c.in_ok-step-2.field-0.items c.step-2.new.done.items (omega arith) (omega arith) c.loop-made.invariant stepped
+    let stepped = subst (λ (l : List State). IsStep c.args.scenario.now l c.in_ok-step.field-0.items c.loop-made.done.items c.step-2.new.done.items) c.as_slice-2.ensures.value c.in_ok-step.ensures in
+    way_ends c.args.scenario.now c.args.most c.loop-made.made c.args.first.items c.loop-made.layer.items c.loop-made.done.items c.in_ok-step.field-0.items c.step-2.new.done.items (omega arith) (omega arith) c.loop-made.invariant stepped
