@@ -119,7 +119,7 @@ fn ask(
 
 /// Whether one of both is so.
 fn either(one: bool, other: bool) -> bool
-    ensures { result ≡ one || other }
+    ensures { result ≡ (one || other) }
 {
     one || other
 }

@@ -12,7 +12,7 @@ loop-made-init c =
 
 pub loop-made-preserved : goal.loop-made-preserved
 loop-made-preserved c =
-    rounds_go_on c.args.scenario.now (c.args.scenario.now.bound + 1) c.loop-made.made c.most_in_round.result c.loop-made.states.items c.in_ok-next.next.items c.recall.ensures c.most_in_round.ensures (omega arith) c.loop-made.invariant c.in_ok-next.ensures
+    rounds_go_on c.args.scenario.now (c.args.scenario.now.bound + 1) c.loop-made.made c.most_in_round-most.result c.loop-made.states.items c.in_ok-next.next.items c.recall.ensures c.most_in_round-most.ensures (omega arith) c.loop-made.invariant c.in_ok-next.ensures
 
 pub returns : goal.returns
 returns c = rounds_end c.args.scenario.now (c.args.scenario.now.bound + 1) c.loop-made.made c.loop-made.states.items (omega arith) (omega arith) (omega arith) c.loop-made.invariant
