@@ -16,7 +16,7 @@ use crate::shapes::{
 use crate::stroke::Stroke;
 use crate::words::{put_general, role_words};
 use board::Access;
-use book::Table;
+use book::Heard;
 use round::Scenario;
 use std::alloc::{AllocError, Global};
 use world::Chronicle;
@@ -27,12 +27,12 @@ use world::Chronicle;
 ///
 /// No memory for the text.
 #[tactic(auto, unfolding(crate::specs::Svg::svg_text))]
-pub fn campaign_svg(
+pub fn campaign_svg<H: Heard>(
     alloc: Global,
-    table: &Table,
+    table: &H,
     chronicle: &Chronicle,
 ) -> Result<String, AllocError>
-    ensures { IfOk result (λ text. string_bytes text ≡ svg_text table.now chronicle.now) }
+    ensures { IfOk result (λ text. string_bytes text ≡ svg_text (H.seen table.now) chronicle.now) }
 {
     let scenario = chronicle.scenario();
     let accesses = chronicle.accesses();
@@ -60,15 +60,19 @@ pub fn campaign_svg(
 
 /// What every picture begins with.
 #[tactic(auto, unfolding(crate::specs::Svg::start))]
-fn start() -> &'static str
+pub fn start() -> &'static str
     ensures { result.now ≡ start }
 {
     "<svg xmlns=\"http://www.w3.org/2000/svg\" role=\"img\""
 }
 
 /// Adds the size of a picture, and its units, which are those of its size, and ends its first tag.
+///
+/// # Errors
+///
+/// No memory for the text; so of every function here.
 #[tactic(auto, unfolding(crate::specs::Svg::box_words))]
-fn put_box(out: &mut String, width: u128, height: u128) -> Result<(), AllocError>
+pub fn put_box(out: &mut String, width: u128, height: u128) -> Result<(), AllocError>
     ensures { OnOk result (string_bytes out.new ≡ string_bytes out.old ++ box_words width height) }
 {
     write!(
@@ -105,7 +109,7 @@ fn put_head(out: &mut String, scenario: &Scenario) -> Result<(), AllocError>
 
 /// Adds a campaign's numbers, in words.
 #[tactic(auto, unfolding(crate::specs::Svg::campaign_words))]
-fn put_campaign(
+pub fn put_campaign(
     out: &mut String,
     generals: u8,
     bound: u8,
@@ -133,7 +137,7 @@ fn key() -> &'static str
 
 /// How it looks: on paper, and on a dark ground where one is wished for.
 #[tactic(auto, unfolding(crate::specs::Svg::look))]
-fn look() -> &'static str
+pub fn look() -> &'static str
     ensures { result.now ≡ look }
 {
     "<style>svg{background:#fff}text{fill:#111;font:13px sans-serif}.head{font:bold 16px sans-serif}.round{font-weight:bold}\
@@ -147,7 +151,11 @@ fn look() -> &'static str
 }
 
 /// Adds who has which column.
-fn put_heads(out: &mut String, scenario: &Scenario, accesses: &[Access]) -> Result<(), AllocError>
+pub fn put_heads(
+    out: &mut String,
+    scenario: &Scenario,
+    accesses: &[Access],
+) -> Result<(), AllocError>
     ensures { OnOk result (string_bytes out.new ≡ string_bytes out.old ++ heads scenario.now accesses.now) }
 {
     put_board_head(out, scenario.generals(), accesses)?;

@@ -1,0 +1,32 @@
+-- The items of the labels below a label.
+use Rattle.std.proofs.Common.{ℕ, zero, suc, ◌≡◌, List, [], ◌∷◌, ◌++◌, refl, ap, ◌∙◌, arith}
+use Rattle.std.specs.List.{flat_map}
+use Rattle.label.specs.Labels.{others}
+use Rattle.book.specs.Table.{MessageTable}
+use Rattle.drawing.specs.declared.node.Mark.{Mark}
+use Rattle.drawing.specs.declared.node.Node.{Node}
+use Rattle.drawing.specs.declared.node.View.{View}
+use Rattle.drawing.specs.Facts.{mark_at, node_at}
+use Rattle.drawing.specs.Shown.{deeper}
+use Rattle.campaign_page.specs.Trees.{item_by, items_below, label_item}
+
+-- where no relay is left
+pub items_last : (t : MessageTable) (traitors : List ℕ) (view : View) (r : ℕ) (w : List ℕ) (p : ℕ) → r ≡ 0 → items_below t traitors view r w p ≡ []
+unfolding items_below
+items_last t traitors view zero w p e = refl
+items_last t traitors view (suc k) w p e = absurd (omega arith)
+
+-- and where there are relays
+pub items_more : (t : MessageTable) (traitors : List ℕ) (view : View) (r k : ℕ) (w : List ℕ) (p : ℕ) → r ≡ suc k
+    → items_below t traitors view r w p ≡ flat_map (item_by t traitors view k w p) (others t.generals (p ∷ w))
+unfolding items_below
+items_more t traitors view r k w p e = ap (λ (i : ℕ). items_below t traitors view i w p) e
+
+-- that of a general who goes on with a label
+pub item_same : (t : MessageTable) (traitors : List ℕ) (view : View) (k : ℕ) (w : List ℕ) (j p : ℕ) (v next : List ℕ) (mark : Mark) (node : Node)
+    → v ≡ w ++ j ∷ [] → next ≡ w ++ j ∷ [] → mark ≡ mark_at t traitors w j p → node ≡ node_at t traitors view mark k v p
+    → label_item node (items_below t traitors (deeper view) k next p) ≡ item_by t traitors view k w p j
+item_same t traitors view k w j p v next mark node same_v same_next same_mark same_node =
+    ap (λ x. label_item x (items_below t traitors (deeper view) k next p))
+    (same_node ∙ (ap (λ m. node_at t traitors view m k v p) same_mark ∙ ap (λ u. node_at t traitors view (mark_at t traitors w j p) k u p) same_v))
+    ∙ ap (λ u. label_item (node_at t traitors view (mark_at t traitors w j p) k (w ++ j ∷ []) p) (items_below t traitors (deeper view) k u p)) same_next
