@@ -25,14 +25,14 @@ use Rattle.diagram.specs.Words.{access_words, answer_words, asked_words, copy_wo
 
 -- ---- words
 
-many : (a b : List ℕ) → IsText a → IsText b → IsText (a ++ b)
+pub many : (a b : List ℕ) → IsText a → IsText b → IsText (a ++ b)
 many a b s t = text-append b s t
 
-order_text : (told : Option ℕ) → IsText (order_words told)
+pub order_text : (told : Option ℕ) → IsText (order_words told)
 order_text None = bare_text (codes "nothing") refl
 order_text (Some order) = decimal_text order
 
-labels_text : (labels : ℕ) → IsText (labels_words labels)
+pub labels_text : (labels : ℕ) → IsText (labels_words labels)
 labels_text labels =
     cond_both (labels == 1) [] (codes ", " ++ decimal labels ++ codes " labels") IsText (λ _. no_text)
     (λ _. many (codes ", " ++ decimal labels) (codes " labels") (many (codes ", ") (decimal labels) (bare_text (codes ", ") refl) (decimal_text labels)) (bare_text (codes " labels") refl))
@@ -63,18 +63,18 @@ row_text : (st : Stroke) → IsText (row_words st)
 row_text st =
     many (from_words st.teller ++ order_words st.told) (labels_words st.labels) (many (from_words st.teller) (order_words st.told) (from_text st.teller) (order_text st.told)) (labels_text st.labels)
 
-kind_text : (differs : Bool) (told : Option ℕ) → IsText (kind_of differs told)
+pub kind_text : (differs : Bool) (told : Option ℕ) → IsText (kind_of differs told)
 kind_text false told = bare_text (codes "told") refl
 kind_text true (Some order) = bare_text (codes "lie") refl
 kind_text true None = bare_text (codes "none") refl
 
-outline_text : (differs : Bool) (told : Option ℕ) → IsText (outline_of differs told)
+pub outline_text : (differs : Bool) (told : Option ℕ) → IsText (outline_of differs told)
 outline_text false told = bare_text (codes "M0-4a4 4 0 0 1 0 8a4 4 0 0 1 0-8z") refl
 outline_text true (Some order) = bare_text (codes "M0-6l6 6l-6 6l-6-6z") refl
 outline_text true None = bare_text (codes "M-5-5L5 5M5-5L-5 5") refl
 
 -- a number behind words
-numbered : (words : List ℕ) (n : ℕ) → IsText words → IsText (words ++ decimal n)
+pub numbered : (words : List ℕ) (n : ℕ) → IsText words → IsText (words ++ decimal n)
 numbered words n t = many words (decimal n) t (decimal_text n)
 
 swap_text : (value slot : ℕ) → IsText (swap_words value slot)
@@ -106,13 +106,13 @@ answer_text words =
 general_text : (g : ℕ) → IsText (general_words g)
 general_text g = numbered (codes "general ") g (bare_text (codes "general ") refl)
 
-access_text : (a : Access) → IsText (access_words a)
+pub access_text : (a : Access) → IsText (access_words a)
 access_text a =
     many (general_words a.general ++ codes " " ++ asked_words a.request) (answer_words a.reply)
     (many (general_words a.general ++ codes " ") (asked_words a.request) (many (general_words a.general) (codes " ") (general_text a.general) (bare_text (codes " ") refl)) (asked_text a.request))
     (answer_text a.reply)
 
-shown_text : (a : Access) → IsText (shown_words a)
+pub shown_text : (a : Access) → IsText (shown_words a)
 shown_text a =
     cond_both (is_copy a.request) [] (answer_words a.reply) (λ xs. IsText (asked_words a.request ++ xs)) (λ _. many (asked_words a.request) [] (asked_text a.request) no_text)
     (λ _. many (asked_words a.request) (answer_words a.reply) (asked_text a.request) (answer_text a.reply))
@@ -123,7 +123,7 @@ role_text true false = bare_text (codes "commander, loyal") refl
 role_text false true = bare_text (codes "lieutenant, traitor") refl
 role_text false false = bare_text (codes "lieutenant, loyal") refl
 
-round_text : (round : ℕ) → IsText (round_words round)
+pub round_text : (round : ℕ) → IsText (round_words round)
 unfolding round_words
 round_text round = numbered (codes "round ") round (bare_text (codes "round ") refl)
 
@@ -139,11 +139,11 @@ shape_text : (b : Bool) → IsText (shape_of b)
 shape_text true = bare_text (codes "M-6-6h12v12h-12z") refl
 shape_text false = bare_text (codes "M0-6a6 6 0 0 1 0 12a6 6 0 0 1 0-12z") refl
 
-alike_text : (b : Bool) → IsText (alike_words b)
+pub alike_text : (b : Bool) → IsText (alike_words b)
 alike_text true = bare_text (codes "The loyal lieutenants decide alike.") refl
 alike_text false = bare_text (codes "The loyal lieutenants do not decide alike.") refl
 
-obeyed_text : (o : Option Bool) → IsText (obeyed_words o)
+pub obeyed_text : (o : Option Bool) → IsText (obeyed_words o)
 obeyed_text (Some true) = bare_text (codes "They obey the loyal commander.") refl
 obeyed_text (Some false) = bare_text (codes "They do not obey the loyal commander.") refl
 obeyed_text None = bare_text (codes "The commander is a traitor, whom nobody has to obey.") refl
@@ -152,7 +152,7 @@ bound_text : (b : Bool) → IsText (bound_words b)
 bound_text true = bare_text (codes "The bound holds: there are few enough traitors.") refl
 bound_text false = bare_text (codes "The bound does not hold, by too few generals or too many traitors: no promise.") refl
 
-campaign_text : (n m c order : ℕ) → IsText (campaign_words n m c order)
+pub campaign_text : (n m c order : ℕ) → IsText (campaign_words n m c order)
 unfolding campaign_words
 campaign_text n m c order =
     many (decimal n) (codes " generals, traitors provided for: " ++ (decimal m ++ (codes "; commander " ++ (decimal c ++ (codes " was given order " ++ decimal order))))) (decimal_text n)
@@ -163,16 +163,16 @@ campaign_text n m c order =
 
 -- ---- elements
 
-bare_tag : (name : List ℕ) → is_name name ≡ true → IsTag name []
+pub bare_tag : (name : List ℕ) → is_name name ≡ true → IsTag name []
 bare_tag name h = record { named = h; names = []; attributed_so = no_attributes }
 
-feed : IsContent (codes "\n")
+pub feed : IsContent (codes "\n")
 feed = text (codes "\n") (bare_text (codes "\n") refl)
 
-fed : (cs : List ℕ) → IsContent cs → IsContent (cs ++ codes "\n")
+pub fed : (cs : List ℕ) → IsContent cs → IsContent (cs ++ codes "\n")
 fed cs c = joined cs (codes "\n") c feed
 
-all : {A : Type 0} (f : A → List ℕ) (xs : List A) → ((x : A) → IsContent (f x)) → IsContent (flat_map f xs)
+pub all : {A : Type 0} (f : A → List ℕ) (xs : List A) → ((x : A) → IsContent (f x)) → IsContent (flat_map f xs)
 all f [] h = text [] no_text
 all f (x ∷ xs) h = joined (f x) (flat_map f xs) (h x) (all f xs h)
 
@@ -197,7 +197,7 @@ text_whole : (class x y words : List ℕ)
     ≡ element (codes "text") (text_attributes class x y) words ++ codes "\n"
 text_whole class x y words = text_parts (codes "<text") (codes " class=\"") class (codes "\"") (codes " x=\"") x (codes " y=\"") y (codes ">") words (codes "</text>") (codes "\n")
 
-text_content : (class : List ℕ) (x y : ℕ) (words : List ℕ) → IsText class → IsText words → IsContent (text_at class x y words)
+pub text_content : (class : List ℕ) (x y : ℕ) (words : List ℕ) → IsText class → IsText words → IsContent (text_at class x y words)
 unfolding text_start
 text_content class x y words c t =
     subst IsContent (sym (text_whole class (decimal x) (decimal y) words))
@@ -236,7 +236,7 @@ line_whole : (class x y u v : List ℕ)
     ≡ empty (codes "path") (path_attributes class (way_of x y u v)) ++ codes "\n"
 line_whole class x y u v = line_parts (codes "<path") (codes " class=\"") class (codes "\"") (codes " d=\"") (codes "M") x (codes " ") y (codes "L") u v (codes "/>") (codes "\n")
 
-line_content : (class : List ℕ) (x y u v : ℕ) → IsText class → IsContent (line class x y u v)
+pub line_content : (class : List ℕ) (x y u v : ℕ) → IsText class → IsContent (line class x y u v)
 unfolding line
 line_content class x y u v c =
     let way : List ℕ = way_of (decimal x) (decimal y) (decimal u) (decimal v) in
@@ -251,7 +251,7 @@ mark_whole : (sort way : List ℕ)
     → codes "<path class=\"mark " ++ (sort ++ (codes "\" d=\"" ++ (way ++ codes "\"/>\n"))) ≡ empty (codes "path") (path_attributes (codes "mark " ++ sort) way) ++ codes "\n"
 mark_whole sort way = mark_parts (codes "<path") (codes " class=\"") (codes "mark ") sort (codes "\"") (codes " d=\"") way (codes "/>") (codes "\n")
 
-mark_content : (kind outline : List ℕ) → IsText kind → IsText outline → IsContent (mark kind outline)
+pub mark_content : (kind outline : List ℕ) → IsText kind → IsText outline → IsContent (mark kind outline)
 unfolding mark
 mark_content kind outline k o =
     subst IsContent (sym (mark_whole kind outline))
@@ -264,7 +264,7 @@ title_parts first words close feed = simp append_assoc
 title_whole : (words : List ℕ) → codes "<title>" ++ words ++ codes "</title>\n" ≡ element (codes "title") [] words ++ codes "\n"
 title_whole words = title_parts (codes "<title>") words (codes "</title>") (codes "\n")
 
-title_content : (words : List ℕ) → IsText words → IsContent (title words)
+pub title_content : (words : List ℕ) → IsText words → IsContent (title words)
 title_content words t =
     subst IsContent (sym (title_whole words)) (fed (element (codes "title") [] words) (nested (codes "title") [] words (bare_tag (codes "title") refl) (text words t)))
 
@@ -291,7 +291,7 @@ stroke_whole : (sort wide x y u v inside : List ℕ)
 stroke_whole sort wide x y u v inside =
     stroke_parts (codes "<path") (codes " class=\"") (codes "stroke ") sort (codes "\"") (codes " stroke-width=\"") wide (codes " d=\"") (codes "M") x (codes " ") y (codes "L") u v (codes ">") inside (codes "</path>") (codes "\n")
 
-stroke_content : (kind : List ℕ) (width x y u v : ℕ) (words : List ℕ) → IsText kind → IsText words → IsContent (stroke_at kind width x y u v words)
+pub stroke_content : (kind : List ℕ) (width x y u v : ℕ) (words : List ℕ) → IsText kind → IsText words → IsContent (stroke_at kind width x y u v words)
 unfolding stroke_open stroke_way
 stroke_content kind width x y u v words k t =
     let way : List ℕ = way_of (decimal x) (decimal y) (decimal u) (decimal v) in
@@ -314,7 +314,7 @@ group_whole : (x y inside : List ℕ)
     ≡ element (codes "g") (attribute (codes "transform") (place_words x y) ++ []) (codes "\n" ++ inside) ++ codes "\n"
 group_whole x y inside = group_parts (codes "<g") (codes " transform=\"") (codes "translate(") x (codes " ") y (codes ")") (codes "\"") (codes ">") inside (codes "</g>") (codes "\n")
 
-group_content : (x y : ℕ) (inside : List ℕ) → IsContent inside → IsContent (group_at x y inside)
+pub group_content : (x y : ℕ) (inside : List ℕ) → IsContent inside → IsContent (group_at x y inside)
 unfolding group_start
 group_content x y inside c =
     let place : List ℕ = place_words (decimal x) (decimal y) in
@@ -329,7 +329,7 @@ group_content x y inside c =
 
 -- ---- bands
 
-small : IsText (codes "small")
+pub small : IsText (codes "small")
 small = bare_text (codes "small") refl
 
 life_content : (x h : ℕ) → IsContent (life x h)
@@ -339,7 +339,7 @@ board_content : (n : ℕ) (accesses : List Access) (h : ℕ) → IsContent (boar
 board_content n [] h = text [] no_text
 board_content n (a ∷ accesses) h = life_content (board n) h
 
-lives_content : (n : ℕ) (accesses : List Access) (h : ℕ) → IsContent (lives n accesses h)
+pub lives_content : (n : ℕ) (accesses : List Access) (h : ℕ) → IsContent (lives n accesses h)
 lives_content n accesses h =
     joined (board_line n accesses h) (flat_map (general_life h) (range_with_len 0 n)) (board_content n accesses h)
     (all (general_life h) (range_with_len 0 n) (λ g. life_content (column g) h))
@@ -360,7 +360,7 @@ access_content n top round a =
     let far : ℕ = board n - column a.general in
     cond_both (a.round == round) (group_at (column a.general) top (point far a)) [] IsContent (λ _. group_content (column a.general) top (point far a) (point_content far a)) (λ _. text [] no_text)
 
-accesses_content : (n : ℕ) (whole : List Access) (round place : ℕ) (rest : List Access) → IsContent (accesses_from n whole round place rest)
+pub accesses_content : (n : ℕ) (whole : List Access) (round place : ℕ) (rest : List Access) → IsContent (accesses_from n whole round place rest)
 unfolding accesses_from
 accesses_content n whole round place [] = text [] no_text
 accesses_content n whole round place (a ∷ rest) =
@@ -403,7 +403,7 @@ band_content n strokes accesses wide before =
 
 -- ---- the foot
 
-name : IsText (codes "name")
+pub name : IsText (codes "name")
 name = bare_text (codes "name") refl
 
 decided_content : (g : ℕ) (traitor : Bool) (o : Option ℕ) → IsContent (decided_if g traitor o)
@@ -414,7 +414,7 @@ decided_content g traitor (Some order) =
     group_content (column g) 24 (m ++ w)
     (joined m w (mark_content (sort_of traitor) (shape_of traitor) (sort_text traitor) (shape_text traitor)) (text_content (codes "name") 12 4 (decides_words order) name (decides_text order)))
 
-decisions_content : (s : Scenario) (ds : List ℕ) → IsContent (decided_all s ds)
+pub decisions_content : (s : Scenario) (ds : List ℕ) → IsContent (decided_all s ds)
 decisions_content s ds =
     all (decided s ds) (range_with_len 0 s.generals)
     (λ g. cond_both (g == s.commander) [] (decided_if g (is_traitor s g) (slice_get ds (place_of s.commander g))) IsContent (λ _. text [] no_text)
@@ -464,7 +464,7 @@ look_words =
     ++ codes "fill:#6cb8f5;stroke:#6cb8f5}.stroke.lie,.stroke.none,.mark.none{stroke:#ff8095}.mark.lie{fill:#ff8095;stroke:#ff8095}.mark.tra"
     ++ codes "itor{fill:#ff8095}}"
 
-look_content : IsContent look
+pub look_content : IsContent look
 unfolding look
 look_content = fed (element (codes "style") [] look_words) (nested (codes "style") [] look_words (bare_tag (codes "style") refl) (text look_words (bare_text look_words refl)))
 
@@ -489,14 +489,14 @@ board_head_content : (n : ℕ) (accesses : List Access) → IsContent (board_hea
 board_head_content n [] = text [] no_text
 board_head_content n (a ∷ accesses) = text_content (codes "name") (board n) 54 (codes "board") name (bare_text (codes "board") refl)
 
-heads_content : (s : Scenario) (accesses : List Access) → IsContent (heads s accesses)
+pub heads_content : (s : Scenario) (accesses : List Access) → IsContent (heads s accesses)
 heads_content s accesses =
     joined (board_head s.generals accesses) (flat_map (head_of s) (range_with_len 0 s.generals)) (board_head_content s.generals accesses)
     (all (head_of s) (range_with_len 0 s.generals) (λ g. general_content g (g == s.commander) (is_traitor s g)))
 
 -- ---- the whole
 
-abbrev attributes : List ℕ → List ℕ → List ℕ
+abbrev pub attributes : List ℕ → List ℕ → List ℕ
 attributes w h =
     attribute (codes "xmlns") (codes "http://www.w3.org/2000/svg")
     ++ (attribute (codes "role") (codes "img") ++ (attribute (codes "width") w ++ (attribute (codes "height") h ++ (attribute (codes "viewBox") (codes "0 0 " ++ (w ++ (codes " " ++ h))) ++ []))))
@@ -516,14 +516,14 @@ tag_parts : (first role wide high box inside close : List ℕ)
     ≡ ((first ++ (role ++ (wide ++ (high ++ (box ++ [])))) ++ codes ">") ++ (codes "\n" ++ inside) ++ close) ++ codes "\n"
 tag_parts first role wide high box inside close = simp (append_assoc, append-nil)
 
-picture_is : (w h : ℕ) (inside : List ℕ) → picture w h inside ≡ element (codes "svg") (attributes (decimal w) (decimal h)) (codes "\n" ++ inside) ++ codes "\n"
+pub picture_is : (w h : ℕ) (inside : List ℕ) → picture w h inside ≡ element (codes "svg") (attributes (decimal w) (decimal h)) (codes "\n" ++ inside) ++ codes "\n"
 unfolding start box_words
 picture_is w h inside =
     ap (λ xs. start ++ xs ++ inside ++ codes "</svg>\n") (box_whole (decimal w) (decimal h))
     ∙ (tag_parts (codes "<svg" ++ attribute (codes "xmlns") (codes "http://www.w3.org/2000/svg")) (attribute (codes "role") (codes "img")) (attribute (codes "width") (decimal w)) (attribute (codes "height") (decimal h))
     (attribute (codes "viewBox") (codes "0 0 " ++ (decimal w ++ (codes " " ++ decimal h)))) inside (codes "</svg>"))
 
-svg_tag : (w h : ℕ) → IsTag (codes "svg") (attributes (decimal w) (decimal h))
+pub svg_tag : (w h : ℕ) → IsTag (codes "svg") (attributes (decimal w) (decimal h))
 svg_tag w h =
     let box = many (codes "0 0 ") (decimal w ++ (codes " " ++ decimal h)) (bare_text (codes "0 0 ") refl) (many (decimal w) (codes " " ++ decimal h) (decimal_text w) (many (codes " ") (decimal h) (bare_text (codes " ") refl) (decimal_text h))) in
     record {

@@ -82,7 +82,11 @@ fn put_inside(
 }
 
 /// Adds the number of a round beside its band.
-fn put_round_text(out: &mut String, round: u32) -> Result<(), AllocError>
+///
+/// # Errors
+///
+/// No memory for the text; so of every function here.
+pub fn put_round_text(out: &mut String, round: u32) -> Result<(), AllocError>
     ensures { OnOk result (string_bytes out.new ≡ string_bytes out.old ++ text_at (codes "round") 16 24 (round_words round)) }
 {
     put_text_start(out, "round", 16, 24)?;
@@ -99,7 +103,7 @@ fn put_round(out: &mut String, round: u32) -> Result<(), AllocError>
 }
 
 /// Adds the line of each general, and of the board where there are accesses.
-fn put_lives(
+pub fn put_lives(
     out: &mut String,
     generals: u8,
     accesses: &[Access],
@@ -151,7 +155,7 @@ fn put_board(
 }
 
 /// Adds the accesses of a round, in the board's order.
-fn put_accesses(
+pub fn put_accesses(
     out: &mut String,
     generals: u8,
     accesses: &[Access],

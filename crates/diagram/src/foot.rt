@@ -30,7 +30,11 @@ pub(crate) fn put_foot(
 }
 
 /// Adds what each lieutenant decides.
-fn put_decisions(out: &mut String, scenario: &Scenario, decisions: &[u32]) -> Result<(), AllocError>
+///
+/// # Errors
+///
+/// No memory for the text.
+pub fn put_decisions(out: &mut String, scenario: &Scenario, decisions: &[u32]) -> Result<(), AllocError>
     ensures { OnOk result (string_bytes out.new ≡ string_bytes out.old ++ decided_all scenario.now decisions.now) }
 {
     for general in 0..scenario.generals() {
@@ -123,7 +127,7 @@ fn put_verdict(out: &mut String, verdict: Verdict) -> Result<(), AllocError>
 }
 
 /// Whether the loyal lieutenants decide alike.
-fn alike_words(alike: bool) -> &'static str
+pub fn alike_words(alike: bool) -> &'static str
     ensures { result.now ≡ alike_words alike }
 {
     if alike {
@@ -134,7 +138,7 @@ fn alike_words(alike: bool) -> &'static str
 }
 
 /// Whether they obey a loyal commander.
-fn obeyed_words(obeyed: Option<bool>) -> &'static str
+pub fn obeyed_words(obeyed: Option<bool>) -> &'static str
     ensures { result.now ≡ obeyed_words obeyed }
 {
     match obeyed {

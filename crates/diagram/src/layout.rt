@@ -11,7 +11,7 @@ use std::alloc::{AllocError, Global};
 const LEAST: u128 = 760;
 
 /// Where the column of a general is: as far from the next as the longest row of a list is.
-pub(crate) fn column(general: u32) -> u128
+pub fn column(general: u32) -> u128
     ensures { result ≡ column general }
 {
     120 + 208 * u128::from(general)
@@ -25,7 +25,11 @@ pub(crate) fn board(generals: u8) -> u128
 }
 
 /// How wide the picture is: with room beside the board for what is said of accesses.
-pub(crate) fn width(alloc: Global, generals: u8, accesses: &[Access]) -> Result<u128, AllocError>
+///
+/// # Errors
+///
+/// No memory for what is said of an access.
+pub fn width(alloc: Global, generals: u8, accesses: &[Access]) -> Result<u128, AllocError>
     ensures value { IfOk result (λ wide. wide ≡ width generals accesses.now) }
     ensures small { IfOk result (λ wide. wide < 2 ^ 101) }
 {
@@ -76,7 +80,7 @@ pub(crate) fn access_top(accesses: &[Access], round: u32, place: usize) -> u128
 }
 
 /// Where the strokes of a round begin in its band.
-pub(crate) fn fan_top(accesses: &[Access], round: u32) -> u128
+pub fn fan_top(accesses: &[Access], round: u32) -> u128
     ensures value { result ≡ fan_top accesses.now round }
     ensures small { result < 2 ^ 80 }
 {
@@ -84,7 +88,7 @@ pub(crate) fn fan_top(accesses: &[Access], round: u32) -> u128
 }
 
 /// Where the lists of what each was told begin in the band.
-pub(crate) fn rows_top(generals: u8, accesses: &[Access], round: u32) -> u128
+pub fn rows_top(generals: u8, accesses: &[Access], round: u32) -> u128
     ensures value { result ≡ rows_top generals accesses.now round }
     ensures small { result < 2 ^ 81 }
 {
@@ -116,7 +120,7 @@ fn reach(stroke: &Stroke, round: u32) -> u128
 }
 
 /// How high the band is.
-pub(crate) fn height(generals: u8, strokes: &[Stroke], accesses: &[Access], round: u32) -> u128
+pub fn height(generals: u8, strokes: &[Stroke], accesses: &[Access], round: u32) -> u128
     ensures value { result ≡ height generals strokes.now accesses.now round }
     ensures small { result < 2 ^ 82 }
 {
@@ -125,7 +129,7 @@ pub(crate) fn height(generals: u8, strokes: &[Stroke], accesses: &[Access], roun
 
 /// Where the band behind so many rounds is.
 #[tactic(auto, using(crate::proofs::LayoutLemmas::none_above, crate::proofs::LayoutLemmas::one_above))]
-pub(crate) fn top_of(generals: u8, strokes: &[Stroke], accesses: &[Access], rounds: u8) -> u128
+pub fn top_of(generals: u8, strokes: &[Stroke], accesses: &[Access], rounds: u8) -> u128
     ensures value { result ≡ top_of generals strokes.now accesses.now rounds }
     ensures small { result < (rounds + 1) * 2 ^ 82 }
 {

@@ -1,15 +1,16 @@
 //! A campaign as a picture in SVG, a space-time diagram: a column for each general and the board, a band for each round.
+//! Its parts are public, for diagrams of other campaigns.
 #![tactic(auto)]
 
-mod bands;
+pub mod bands;
 mod facts;
-mod foot;
+pub mod foot;
 mod laws;
-mod layout;
-mod shapes;
+pub mod layout;
+pub mod shapes;
 mod stroke;
-mod svg;
-mod words;
+pub mod svg;
+pub mod words;
 
 pub use facts::strokes;
 pub use laws::diagrams_are_elements;

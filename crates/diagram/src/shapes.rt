@@ -5,8 +5,12 @@ ghost use Rattle.diagram.specs.Shapes.{group_start, line, mark, stroke_open, str
 use std::alloc::AllocError;
 
 /// Adds what a text at a place begins with.
+///
+/// # Errors
+///
+/// No memory for the text; so of every function here.
 #[tactic(auto, unfolding(crate::specs::Shapes::text_start))]
-pub(crate) fn put_text_start(
+pub fn put_text_start(
     out: &mut String,
     class: &str,
     x: u128,
@@ -18,14 +22,14 @@ pub(crate) fn put_text_start(
 }
 
 /// Adds what it ends in.
-pub(crate) fn put_text_end(out: &mut String) -> Result<(), AllocError>
+pub fn put_text_end(out: &mut String) -> Result<(), AllocError>
     ensures { OnOk result (string_bytes out.new ≡ string_bytes out.old ++ text_end) }
 {
     out.push_str("</text>\n")
 }
 
 /// Adds words at a place.
-pub(crate) fn put_words(
+pub fn put_words(
     out: &mut String,
     class: &str,
     x: u128,
@@ -41,7 +45,7 @@ pub(crate) fn put_words(
 
 /// Adds a line from one place to another.
 #[tactic(auto, unfolding(crate::specs::Shapes::line))]
-pub(crate) fn put_line(
+pub fn put_line(
     out: &mut String,
     class: &str,
     x: u128,
@@ -55,7 +59,7 @@ pub(crate) fn put_line(
 }
 
 /// Adds what a stroke from one place to another begins with.
-pub(crate) fn put_stroke_start(
+pub fn put_stroke_start(
     out: &mut String,
     kind: &str,
     width: u128,
@@ -90,7 +94,7 @@ fn put_way(out: &mut String, x: u128, y: u128, u: u128, v: u128) -> Result<(), A
 }
 
 /// Adds what it ends in.
-pub(crate) fn put_stroke_end(out: &mut String) -> Result<(), AllocError>
+pub fn put_stroke_end(out: &mut String) -> Result<(), AllocError>
     ensures { OnOk result (string_bytes out.new ≡ string_bytes out.old ++ stroke_end) }
 {
     out.push_str("</path>\n")
@@ -98,14 +102,14 @@ pub(crate) fn put_stroke_end(out: &mut String) -> Result<(), AllocError>
 
 /// Adds what a group at a place begins with.
 #[tactic(auto, unfolding(crate::specs::Shapes::group_start))]
-pub(crate) fn put_group_start(out: &mut String, x: u128, y: u128) -> Result<(), AllocError>
+pub fn put_group_start(out: &mut String, x: u128, y: u128) -> Result<(), AllocError>
     ensures { OnOk result (string_bytes out.new ≡ string_bytes out.old ++ group_start x y) }
 {
     write!(out, "<g transform=\"translate({x} {y})\">\n")
 }
 
 /// Adds what it ends in.
-pub(crate) fn put_group_end(out: &mut String) -> Result<(), AllocError>
+pub fn put_group_end(out: &mut String) -> Result<(), AllocError>
     ensures { OnOk result (string_bytes out.new ≡ string_bytes out.old ++ group_end) }
 {
     out.push_str("</g>\n")
@@ -113,21 +117,21 @@ pub(crate) fn put_group_end(out: &mut String) -> Result<(), AllocError>
 
 /// Adds a mark of this outline.
 #[tactic(auto, unfolding(crate::specs::Shapes::mark))]
-pub(crate) fn put_mark(out: &mut String, kind: &str, outline: &str) -> Result<(), AllocError>
+pub fn put_mark(out: &mut String, kind: &str, outline: &str) -> Result<(), AllocError>
     ensures { OnOk result (string_bytes out.new ≡ string_bytes out.old ++ mark kind.now outline.now) }
 {
     write!(out, "<path class=\"mark {kind}\" d=\"{outline}\"/>\n")
 }
 
 /// Adds what a title begins with.
-pub(crate) fn put_title_start(out: &mut String) -> Result<(), AllocError>
+pub fn put_title_start(out: &mut String) -> Result<(), AllocError>
     ensures { OnOk result (string_bytes out.new ≡ string_bytes out.old ++ title_start) }
 {
     out.push_str("<title>")
 }
 
 /// Adds what it ends in.
-pub(crate) fn put_title_end(out: &mut String) -> Result<(), AllocError>
+pub fn put_title_end(out: &mut String) -> Result<(), AllocError>
     ensures { OnOk result (string_bytes out.new ≡ string_bytes out.old ++ title_end) }
 {
     out.push_str("</title>\n")

@@ -60,15 +60,19 @@ pub fn campaign_svg(
 
 /// What every picture begins with.
 #[tactic(auto, unfolding(crate::specs::Svg::start))]
-fn start() -> &'static str
+pub fn start() -> &'static str
     ensures { result.now ≡ start }
 {
     "<svg xmlns=\"http://www.w3.org/2000/svg\" role=\"img\""
 }
 
 /// Adds the size of a picture, and its units, which are those of its size, and ends its first tag.
+///
+/// # Errors
+///
+/// No memory for the text; so of every function here.
 #[tactic(auto, unfolding(crate::specs::Svg::box_words))]
-fn put_box(out: &mut String, width: u128, height: u128) -> Result<(), AllocError>
+pub fn put_box(out: &mut String, width: u128, height: u128) -> Result<(), AllocError>
     ensures { OnOk result (string_bytes out.new ≡ string_bytes out.old ++ box_words width height) }
 {
     write!(
@@ -105,7 +109,7 @@ fn put_head(out: &mut String, scenario: &Scenario) -> Result<(), AllocError>
 
 /// Adds a campaign's numbers, in words.
 #[tactic(auto, unfolding(crate::specs::Svg::campaign_words))]
-fn put_campaign(
+pub fn put_campaign(
     out: &mut String,
     generals: u8,
     bound: u8,
@@ -133,7 +137,7 @@ fn key() -> &'static str
 
 /// How it looks: on paper, and on a dark ground where one is wished for.
 #[tactic(auto, unfolding(crate::specs::Svg::look))]
-fn look() -> &'static str
+pub fn look() -> &'static str
     ensures { result.now ≡ look }
 {
     "<style>svg{background:#fff}text{fill:#111;font:13px sans-serif}.head{font:bold 16px sans-serif}.round{font-weight:bold}\
@@ -147,7 +151,7 @@ fn look() -> &'static str
 }
 
 /// Adds who has which column.
-fn put_heads(out: &mut String, scenario: &Scenario, accesses: &[Access]) -> Result<(), AllocError>
+pub fn put_heads(out: &mut String, scenario: &Scenario, accesses: &[Access]) -> Result<(), AllocError>
     ensures { OnOk result (string_bytes out.new ≡ string_bytes out.old ++ heads scenario.now accesses.now) }
 {
     put_board_head(out, scenario.generals(), accesses)?;

@@ -76,7 +76,7 @@ fn put_from(out: &mut String, teller: u8) -> Result<(), AllocError>
 }
 
 /// The class of what was told.
-pub(crate) fn kind(stroke: &Stroke) -> &'static str
+pub fn kind(stroke: &Stroke) -> &'static str
     ensures { result.now ≡ kind stroke.now }
 {
     kind_of(stroke.differs, stroke.told)
@@ -94,7 +94,7 @@ fn kind_of(differs: bool, told: Option<u32>) -> &'static str
 }
 
 /// Its outline: a circle, a diamond or a cross.
-pub(crate) fn outline(stroke: &Stroke) -> &'static str
+pub fn outline(stroke: &Stroke) -> &'static str
     ensures { result.now ≡ outline stroke.now }
 {
     outline_of(stroke.differs, stroke.told)
