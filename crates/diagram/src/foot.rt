@@ -34,7 +34,11 @@ pub(crate) fn put_foot(
 /// # Errors
 ///
 /// No memory for the text.
-pub fn put_decisions(out: &mut String, scenario: &Scenario, decisions: &[u32]) -> Result<(), AllocError>
+pub fn put_decisions(
+    out: &mut String,
+    scenario: &Scenario,
+    decisions: &[u32],
+) -> Result<(), AllocError>
     ensures { OnOk result (string_bytes out.new ≡ string_bytes out.old ++ decided_all scenario.now decisions.now) }
 {
     for general in 0..scenario.generals() {

@@ -10,12 +10,7 @@ use std::alloc::AllocError;
 ///
 /// No memory for the text; so of every function here.
 #[tactic(auto, unfolding(crate::specs::Shapes::text_start))]
-pub fn put_text_start(
-    out: &mut String,
-    class: &str,
-    x: u128,
-    y: u128,
-) -> Result<(), AllocError>
+pub fn put_text_start(out: &mut String, class: &str, x: u128, y: u128) -> Result<(), AllocError>
     ensures { OnOk result (string_bytes out.new ≡ string_bytes out.old ++ text_start class.now x y) }
 {
     write!(out, "<text class=\"{class}\" x=\"{x}\" y=\"{y}\">")

@@ -151,7 +151,11 @@ pub fn look() -> &'static str
 }
 
 /// Adds who has which column.
-pub fn put_heads(out: &mut String, scenario: &Scenario, accesses: &[Access]) -> Result<(), AllocError>
+pub fn put_heads(
+    out: &mut String,
+    scenario: &Scenario,
+    accesses: &[Access],
+) -> Result<(), AllocError>
     ensures { OnOk result (string_bytes out.new ≡ string_bytes out.old ++ heads scenario.now accesses.now) }
 {
     put_board_head(out, scenario.generals(), accesses)?;
