@@ -1,2 +1,2 @@
-mod AccountLaws
-mod ChainLemmas
+pub mod AccountLaws
+pub mod ChainLemmas

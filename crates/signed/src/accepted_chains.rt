@@ -72,8 +72,8 @@ fn add_round<'a>(
     Ok(())
 }
 
-/// The chains that bring a general the orders that he accepts in the first so many rounds, in the order in which he accepts
-/// them.
+/// The chains that bring a general the orders that he accepts in the first so many rounds, in the order in which he
+/// accepts them.
 ///
 /// # Errors
 ///

@@ -209,8 +209,8 @@ fn all_lieutenants(alloc: Global, chronicle: &SignedChronicle) -> Result<String,
     Ok(lines)
 }
 
-/// How this general comes to his decision: the orders that he accepts, with the chain that brought him each first, and what he
-/// decides of them; nothing where he is no lieutenant.
+/// How this general comes to his decision: the orders that he accepts, with the chain that brought him each first, and
+/// what he decides of them; nothing where he is no lieutenant.
 ///
 /// # Errors
 ///
