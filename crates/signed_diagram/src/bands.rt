@@ -1,6 +1,5 @@
 //! The bands of a picture, one for each round.
-ghost use Rattle.std.specs.Prelude.{◌≡◌, ◌++◌, ◌+◌, ◌<◌, ◌≤◌, ◌^◌, codes, flat_map, string_bytes, OnOk};
-ghost use Rattle.std.specs.List.{range_with_len};
+ghost use Rattle.std.specs.Prelude.{◌≡◌, ◌++◌, ◌+◌, ◌<◌, ◌^◌, codes, flat_map, string_bytes, OnOk};
 ghost use Rattle.diagram.specs.Shapes.{text_at, title};
 ghost use Rattle.signed_diagram.specs.Bands.{band, bands, drawn, inside, row, stroke_line};
 ghost use Rattle.signed_diagram.specs.Words.{row_words, stroke_words};

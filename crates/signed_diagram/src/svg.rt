@@ -1,5 +1,5 @@
 //! A campaign of signed messages as a picture in SVG.
-ghost use Rattle.std.specs.Prelude.{◌≡◌, ◌++◌, codes, string_bytes, IfOk, OnOk};
+ghost use Rattle.std.specs.Prelude.{◌≡◌, ◌++◌, string_bytes, IfOk, OnOk};
 ghost use Rattle.diagram.specs.Svg.{campaign_words};
 ghost use Rattle.signed_diagram.specs.Svg.{head, headline, key, signed_svg, signed_words};
 

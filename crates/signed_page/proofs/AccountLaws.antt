@@ -1,5 +1,5 @@
 -- Signed campaigns' pages are elements.
-use Rattle.std.proofs.Common.{ℕ, ◌≡◌, ◌==◌, List, [], ◌++◌, codes, encode_utf8, refl, subst, sym}
+use Rattle.std.proofs.Common.{ℕ, ◌==◌, List, [], ◌++◌, codes, encode_utf8, refl, subst, sym}
 use Rattle.std.specs.List.{flat_map, range_with_len}
 use Rattle.std.proofs.lemmas.Bool.{cond_both}
 use Rattle.markup.specs.Grammar.{IsContent, joined, no_text, text}
@@ -16,7 +16,7 @@ use Rattle.signed_diagram.proofs.PictureLaws.{proved_signed_diagrams_are_element
 use Rattle.trace.specs.SignedText.{signed_text}
 use Rattle.world.specs.Chronicle.{Chronicle}
 use Rattle.world.specs.declared.verdict.Verdict.{Verdict}
-use Rattle.signed_page.specs.Account.{bound_told, chronicle_heading, chronicle_part, lieutenant_part, lieutenant_told, lieutenant_words, lieutenants_heading, lieutenants_part, parts, picture_heading, picture_name, picture_part, signed_page, verdict_heading, verdict_part}
+use Rattle.signed_page.specs.Account.{bound_told, chronicle_heading, chronicle_part, lieutenant_part, lieutenant_told, lieutenant_words, lieutenants_heading, lieutenants_part, parts, picture_heading, picture_name, picture_part, verdict_heading, verdict_part}
 use Rattle.signed_page.specs.Laws.{SignedPagesAreElements}
 
 picture_content : (c : Chronicle) → IsContent (picture_part c)

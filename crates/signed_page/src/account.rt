@@ -3,8 +3,10 @@ ghost use Rattle.std.specs.Prelude.{◌≡◌, ◌++◌, string_bytes, IfOk, OnO
 ghost use Rattle.signed_diagram.specs.Svg.{signed_words};
 ghost use Rattle.signed_page.specs.Account.{parts, signed_page};
 
-use crate::sections::{put_chronicle, put_diagram, put_lieutenants, put_verdict};
-use campaign_page::{put_listed, put_programs_of, put_scenario};
+use crate::sections::{
+    put_accesses, put_chronicle, put_diagram, put_lieutenants, put_programs, put_verdict,
+};
+use campaign_page::put_scenario;
 use page::{finish, start};
 use round::Scenario;
 use signed::SignedChronicle;
@@ -40,12 +42,12 @@ fn put_parts(
     ensures { OnOk result (string_bytes out.new ≡ string_bytes out.old ++ parts scenario_text.now chronicle.now) }
 {
     put_scenario(out, scenario_text)?;
-    put_programs_of(alloc, out, chronicle.scenario())?;
+    put_programs(alloc, out, chronicle)?;
     put_diagram(alloc, out, chronicle)?;
     put_lieutenants(alloc, out, chronicle)?;
-    put_listed(alloc, out, chronicle.accesses())?;
+    put_accesses(alloc, out, chronicle)?;
     put_chronicle(alloc, out, chronicle)?;
-    put_verdict(out, chronicle.verdict())?;
+    put_verdict(out, chronicle)?;
     Ok(())
 }
 

@@ -1,10 +1,11 @@
 //! The sections that only signed campaigns have.
 ghost use Rattle.std.specs.Prelude.{◌≡◌, ◌<◌, ◌++◌, encode_utf8, flat_map, string_bytes, IfOk, OnOk};
 ghost use Rattle.std.specs.List.{range_with_len};
+ghost use Rattle.campaign_page.specs.Account.{accesses_part, programs_part};
 ghost use Rattle.signed_page.specs.Account.{bound_told, chronicle_part, lieutenant_part, lieutenant_words, lieutenants_part, picture_part, verdict_part};
 ghost use Rattle.trace.specs.SignedText.{signed_text};
 
-use campaign_page::text_of;
+use campaign_page::{put_listed, put_programs_of, text_of};
 use diagram::foot::{alike_words, obeyed_words};
 use page::{put_fold_end, put_fold_start, put_heading, put_lines, put_paragraph, put_picture};
 use signed::{SignedChronicle, explain_one_signed};
@@ -13,11 +14,33 @@ use std::alloc::{AllocError, Global};
 use trace::{Latch, write_signed};
 use world::Verdict;
 
-/// Adds the picture.
+/// Adds the traitors' programs, each with what the verifier knows of it.
 ///
 /// # Errors
 ///
 /// No memory for the text; so of every function here.
+pub(crate) fn put_programs(
+    alloc: Global,
+    out: &mut String,
+    chronicle: &SignedChronicle,
+) -> Result<(), AllocError>
+    ensures { OnOk result (string_bytes out.new ≡ string_bytes out.old ++ programs_part chronicle.now.scenario) }
+{
+    put_programs_of(alloc, out, chronicle.scenario())
+}
+
+/// Adds the accesses to the board, if there are any.
+pub(crate) fn put_accesses(
+    alloc: Global,
+    out: &mut String,
+    chronicle: &SignedChronicle,
+) -> Result<(), AllocError>
+    ensures { OnOk result (string_bytes out.new ≡ string_bytes out.old ++ accesses_part chronicle.now.accesses) }
+{
+    put_listed(alloc, out, chronicle.accesses())
+}
+
+/// Adds the picture.
 pub(crate) fn put_diagram(
     alloc: Global,
     out: &mut String,
@@ -109,8 +132,15 @@ fn chronicle_text(alloc: Global, chronicle: &SignedChronicle) -> Result<String, 
     }
 }
 
-/// Adds the verdict, a paragraph for each of its parts.
-pub(crate) fn put_verdict(out: &mut String, verdict: Verdict) -> Result<(), AllocError>
+/// Adds the verdict.
+pub(crate) fn put_verdict(out: &mut String, chronicle: &SignedChronicle) -> Result<(), AllocError>
+    ensures { OnOk result (string_bytes out.new ≡ string_bytes out.old ++ verdict_part chronicle.now.verdict) }
+{
+    put_told(out, chronicle.verdict())
+}
+
+/// Adds this verdict, a paragraph for each of its parts.
+fn put_told(out: &mut String, verdict: Verdict) -> Result<(), AllocError>
     ensures { OnOk result (string_bytes out.new ≡ string_bytes out.old ++ verdict_part verdict) }
 {
     put_heading(out, "Verdict, and what was promised")?;

@@ -1,8 +1,5 @@
 use Rattle.std.proofs.Common.{◌≡◌, ◌∙◌, ◌+◌, ℕ, suc, ap, arith, sym}
 use Rattle.signed.specs.Explained.{bringing}
-use Rattle.signed.specs.Accepted.{came}
-use Rattle.signed.specs.Gathered.{gathered}
-use Rattle.signed.specs.Sending.{lent}
 use Rattle.signed.specs.Sent.{delivered, sent_in}
 use Rattle.signed.proofs.Gathering.{bringing_more, bringing_none}
 use Rattle.signed.proofs.accepted_chains.bringing_in.Goals as goal

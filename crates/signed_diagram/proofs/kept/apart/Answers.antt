@@ -1,5 +1,4 @@
 use Rattle.std.proofs.Common.{ap, arith, not}
-use Rattle.label.specs.Labels.{on}
 use Rattle.signed_diagram.specs.Owed.{is_among}
 use Rattle.signed_diagram.proofs.StrokeLemmas.{kept_more}
 use Rattle.signed_diagram.proofs.kept.apart.Goals as goal

@@ -1,6 +1,5 @@
 use Rattle.std.proofs.Common.{◌≡◌, not, take}
-use Rattle.std.specs.Prelude.{◌==◌, filter}
-use Rattle.label.specs.Labels.{on}
+use Rattle.std.specs.Prelude.{filter}
 use Rattle.signed_diagram.specs.Owed.{is_among}
 use Rattle.signed_diagram.proofs.kept.apart.Given as goal
 

@@ -1,7 +1,5 @@
-use Rattle.std.proofs.Common.{◌≡◌, not, take}
+use Rattle.std.proofs.Common.{◌≡◌, take}
 use Rattle.std.specs.Prelude.{◌==◌, filter}
-use Rattle.label.specs.Labels.{on}
-use Rattle.signed_diagram.specs.Owed.{is_among}
 use Rattle.signed_diagram.proofs.kept.of_order.Given as goal
 
 -- those of the chains so far

@@ -1,6 +1,5 @@
 use Rattle.std.proofs.Common.{ap, arith, not}
 use Rattle.label.specs.Labels.{on}
-use Rattle.signed_diagram.specs.Owed.{is_among}
 use Rattle.signed_diagram.proofs.StrokeLemmas.{kept_more}
 use Rattle.signed_diagram.proofs.kept.unsigned.Goals as goal
 

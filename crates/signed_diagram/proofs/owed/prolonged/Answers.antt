@@ -1,9 +1,8 @@
-use Rattle.std.proofs.Common.{List, ◌≡◌, ◌+◌, ◌∙◌, ap, map, length, drop, arith}
+use Rattle.std.proofs.Common.{List, ◌≡◌, ◌+◌, ◌∙◌, ap, map, arith}
 use Rattle.std.specs.Borrow.{Bor}
 use Rattle.std.proofs.lemmas.Result.{IfOk-weaker}
 use Rattle.signed.specs.Accepted.{added}
 use Rattle.signed.specs.Chains.{Chain, signed_also}
-use Rattle.signed.specs.Explained.{bringing}
 use Rattle.signed.specs.Sending.{lent}
 use Rattle.signed.specs.Sent.{delivered, sent_in}
 use Rattle.signed_diagram.proofs.OwedLemmas.{added_behind, fewer_before}

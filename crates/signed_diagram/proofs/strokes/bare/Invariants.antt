@@ -1,4 +1,4 @@
-use Rattle.std.proofs.Common.{◌≡◌, map, take}
+use Rattle.std.proofs.Common.{◌≡◌, take}
 use Rattle.signed_diagram.specs.Strokes.{bare}
 use Rattle.signed_diagram.proofs.strokes.bare.Given as goal
 

@@ -1,6 +1,4 @@
-use Rattle.std.proofs.Common.{◌++◌, ◌∙◌, ap, arith, sym}
-use Rattle.signed.specs.Chains.{orders}
-use Rattle.signed.specs.Accepted.{firsts}
+use Rattle.std.proofs.Common.{◌∙◌, ap, arith}
 use Rattle.signed.specs.Sending.{added_also}
 use Rattle.signed_diagram.proofs.StrokeLemmas.{order_more, orders_all}
 use Rattle.signed_diagram.proofs.strokes.orders_of.Goals as goal

@@ -1,6 +1,5 @@
-use Rattle.std.proofs.Common.{◌++◌, ◌∙◌, ap}
+use Rattle.std.proofs.Common.{◌++◌}
 use Rattle.std.specs.String.{string_bytes}
-use Rattle.round.specs.Scenario.{Scenario}
 use Rattle.campaign_page.specs.Account.{accesses_part, programs_part, scenario_part}
 use Rattle.campaign_page.proofs.ChainLemmas.{chained}
 use Rattle.signed_page.specs.Account.{chronicle_part, lieutenants_part, parts, picture_part, verdict_part}
@@ -23,9 +22,9 @@ returns c =
     (chained start (one ++ two ++ three ++ four) five _ _
     (chained start (one ++ two ++ three) four _ _
     (chained start (one ++ two) three _ _
-    (chained start one two _ _ c.in_ok-put_scenario.ensures ?)
+    (chained start one two _ _ c.in_ok-put_scenario.ensures c.in_ok-put_programs.ensures)
     c.in_ok-put_diagram.ensures)
     c.in_ok-put_lieutenants.ensures)
-    ?)
+    c.in_ok-put_accesses.ensures)
     c.in_ok-put_chronicle.ensures)
-    ?
+    c.in_ok-put_verdict.ensures
