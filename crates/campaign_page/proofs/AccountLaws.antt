@@ -24,22 +24,22 @@ use Rattle.world.specs.declared.verdict.Verdict.{Verdict}
 use Rattle.campaign_page.specs.Account.{access_rows, accesses_heading, accesses_part, alike_told, bound_told, chronicle_heading, chronicle_part, general_name, lieutenant_part, lieutenant_told, lieutenant_words, lieutenants_heading, lieutenants_part, obeyed_told, page_text, parts, picture_heading, picture_name, picture_part, program_if, program_part, programs_heading, programs_part, scenario_heading, scenario_part, title, verdict_heading, verdict_part, view, why_part}
 use Rattle.campaign_page.specs.Laws.{CampaignPagesAreElements}
 
-pub all : (f : ℕ → List ℕ) (xs : List ℕ) → ((x : ℕ) → IsContent (f x)) → IsContent (flat_map f xs)
+all : (f : ℕ → List ℕ) (xs : List ℕ) → ((x : ℕ) → IsContent (f x)) → IsContent (flat_map f xs)
 all f [] h = text [] no_text
 all f (x ∷ xs) h = joined (f x) (flat_map f xs) (h x) (all f xs h)
 
 -- a heading, and what stands below it
-pub below : (words parts : List ℕ) → IsContent parts → IsContent (heading words ++ parts)
+below : (words parts : List ℕ) → IsContent parts → IsContent (heading words ++ parts)
 below words parts c = joined (heading words) parts (proved_parts_are_content.heading words) c
 
-pub scenario_content : (words : List ℕ) → IsContent (scenario_part words)
+scenario_content : (words : List ℕ) → IsContent (scenario_part words)
 scenario_content words = below scenario_heading (lines words) (proved_parts_are_content.lines words)
 
 program_content : (g : ℕ) (program : Option (List Insn)) → IsContent (program_if g program)
 program_content g None = text [] no_text
 program_content g (Some program) = proved_parts_are_content.fold (general_name g) (lines (explained program)) (proved_parts_are_content.lines (explained program))
 
-pub programs_content : (s : Scenario) → IsContent (programs_part s)
+programs_content : (s : Scenario) → IsContent (programs_part s)
 programs_content s =
     below programs_heading (flat_map (program_part s) (range_with_len 0 s.generals)) (all (program_part s) (range_with_len 0 s.generals) (λ g. program_content g (program_of s g)))
 
@@ -68,7 +68,7 @@ lieutenants_content : (t : MessageTable) (traitors : List ℕ) → IsContent (li
 lieutenants_content t traitors =
     below lieutenants_heading (flat_map (lieutenant_part t traitors) (range_with_len 0 t.generals)) (all (lieutenant_part t traitors) (range_with_len 0 t.generals) (one_content t traitors))
 
-pub accesses_content : (accesses : List Access) → IsContent (accesses_part accesses)
+accesses_content : (accesses : List Access) → IsContent (accesses_part accesses)
 accesses_content [] = text [] no_text
 accesses_content (a ∷ accesses) = below accesses_heading (lines (access_rows (a ∷ accesses))) (proved_parts_are_content.lines (access_rows (a ∷ accesses)))
 

@@ -1,2 +1,2 @@
-pub mod AccountLaws
-pub mod ChainLemmas
+mod AccountLaws
+mod ChainLemmas

@@ -84,11 +84,7 @@ fn title_of(
 }
 
 /// Adds the scenario's text.
-///
-/// # Errors
-///
-/// No memory for the text.
-pub fn put_scenario(out: &mut String, text: &str) -> Result<(), AllocError>
+fn put_scenario(out: &mut String, text: &str) -> Result<(), AllocError>
     ensures { OnOk result (string_bytes out.new ≡ string_bytes out.old ++ scenario_part text.now) }
 {
     put_heading(out, scenario_heading())?;
@@ -130,11 +126,7 @@ fn chronicle_text(alloc: Global, chronicle: &Chronicle) -> Result<String, AllocE
 }
 
 /// The text whose characters have these numbers.
-///
-/// # Errors
-///
-/// No memory for the text.
-pub fn text_of(alloc: Global, bytes: &[u8]) -> Result<String, AllocError>
+fn text_of(alloc: Global, bytes: &[u8]) -> Result<String, AllocError>
     ensures { IfOk result (λ text. string_bytes text ≡ flat_map encode_utf8 bytes.now) }
 {
     let mut text = String::with_capacity(alloc, bytes.len())?;

@@ -6,6 +6,5 @@ mod laws;
 mod sections;
 mod verdict;
 
-pub use account::{page_text, put_scenario, text_of};
+pub use account::page_text;
 pub use laws::campaign_pages_are_elements;
-pub use sections::{put_listed, put_programs_of};

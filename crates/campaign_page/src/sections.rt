@@ -25,23 +25,8 @@ pub(crate) fn put_programs(
 ) -> Result<(), AllocError>
     ensures { OnOk result (string_bytes out.new ≡ string_bytes out.old ++ programs_part chronicle.now.scenario) }
 {
-    put_programs_of(alloc, out, chronicle.scenario())
-}
-
-/// Adds those of a scenario.
-///
-/// # Errors
-///
-/// No memory for the text.
-pub fn put_programs_of(
-    alloc: Global,
-    out: &mut String,
-    scenario: &Scenario,
-) -> Result<(), AllocError>
-    ensures { OnOk result (string_bytes out.new ≡ string_bytes out.old ++ programs_part scenario.now) }
-{
     put_heading(out, programs_heading())?;
-    put_each_program(alloc, out, scenario)
+    put_each_program(alloc, out, chronicle.scenario())
 }
 
 /// Adds that of each traitor.
@@ -184,11 +169,7 @@ pub(crate) fn put_accesses(
 }
 
 /// Adds these accesses, if there are any.
-///
-/// # Errors
-///
-/// No memory for the text.
-pub fn put_listed(alloc: Global, out: &mut String, accesses: &[Access]) -> Result<(), AllocError>
+fn put_listed(alloc: Global, out: &mut String, accesses: &[Access]) -> Result<(), AllocError>
     ensures { OnOk result (string_bytes out.new ≡ string_bytes out.old ++ accesses_part accesses.now) }
 {
     if accesses.is_empty() {
