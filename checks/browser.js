@@ -1,6 +1,6 @@
-// What checks/browser asks of a page or a picture, in a world of the browser of its own: the value is an object of questions,
-// each of which answers a list of what is wrong.
-(() => {
+// What checks/browser asks of a page or a picture, in a world of the browser of its own: questions, most of which answer a list
+// of what is wrong. They are made anew for each look, since they keep what they found.
+globalThis.questions = () => {
     "use strict";
 
     const SILENT = "head, style, script, title, desc, metadata";
@@ -108,6 +108,24 @@
         return wrong;
     }
 
+    // ---- words that stand on two lines
+
+    // No word of so few letters needs to be broken.
+    const SHORT_WORDS = /(?<![\p{L}\p{N}_.])\p{L}{2,12}(?![\p{L}\p{N}_.])/gu;
+
+    function breaks() {
+        const wrong = [];
+        const range = document.createRange();
+        for (const node of texts().filter((node) => isShown(node) && !node.parentElement.closest("pre, svg"))) {
+            for (const word of node.data.matchAll(SHORT_WORDS)) {
+                range.setStart(node, word.index);
+                range.setEnd(node, word.index + word[0].length);
+                if (new Set([...range.getClientRects()].map((box) => Math.round(box.top))).size > 1) wrong.push(`the word ${word[0]} is broken in ${short(node.data)}`);
+            }
+        }
+        return wrong;
+    }
+
     // ---- scrolling
 
     function scrolls() {
@@ -127,7 +145,8 @@
 
     // ---- contrast (WCAG 2.1, 1.4.3)
 
-    const isDark = () => matchMedia("(prefers-color-scheme: dark)").matches && !matchMedia("print").matches;
+    const isPaper = () => matchMedia("print").matches;
+    const isDark = () => matchMedia("(prefers-color-scheme: dark)").matches && !isPaper();
 
     function colour(words) {
         const numbers = words.match(/^rgba?\(([^)]*)\)$/);
@@ -151,12 +170,13 @@
         return (more + 0.05) / (less + 0.05);
     }
 
-    // The ground of an element: the colours of those above, and of shapes that are drawn before it and on which its middle stands.
+    // The ground of an element: the colours of those above, which are not printed, and of shapes that are drawn before it and on
+    // which its middle stands.
     function ground(element) {
         const layers = [];
         for (let above = element; above; above = above.parentElement) {
             if (above instanceof SVGTextElement) layers.push(...shapesBelow(above));
-            layers.push(colour(getComputedStyle(above).backgroundColor));
+            if (!isPaper()) layers.push(colour(getComputedStyle(above).backgroundColor));
         }
         const scheme = getComputedStyle(document.documentElement).colorScheme;
         const canvas = isDark() && scheme.includes("dark") ? "rgb(18, 18, 18)" : "rgb(255, 255, 255)";
@@ -256,5 +276,5 @@
         return { width: page.scrollWidth, height: page.scrollHeight, texts: texts().filter(isShown).length };
     };
 
-    return { overlaps, cuts, scrolls, faint, structure, hidden, focused, folds, open, size };
-})()
+    return { overlaps, cuts, breaks, scrolls, faint, structure, hidden, focused, folds, open, size };
+};

@@ -4,6 +4,7 @@ import json
 import os
 import select
 import shutil
+import signal
 import subprocess
 import time
 
@@ -44,6 +45,7 @@ class Browser:
         os.close(ours[0])
         os.close(theirs[1])
         self.writes, self.reads = ours[1], theirs[0]
+        self.call("Browser.getVersion")
         return self
 
     def __exit__(self, *_):
@@ -56,7 +58,7 @@ class Browser:
         try:
             self.ran.wait(20)
         except subprocess.TimeoutExpired:
-            self.ran.kill()
+            os.killpg(self.ran.pid, signal.SIGKILL)
             self.ran.wait()
 
     def message(self, until):
@@ -76,7 +78,10 @@ class Browser:
         asked = {"id": self.number, "method": method, "params": words} | ({"sessionId": session} if session else {})
         sent = json.dumps(asked).encode() + b"\0"
         while sent:
-            sent = sent[os.write(self.writes, sent) :]
+            try:
+                sent = sent[os.write(self.writes, sent) :]
+            except BrokenPipeError:
+                raise Trouble("the browser has ended") from None
         until = time.monotonic() + PATIENCE
         while True:
             told = self.message(until)
