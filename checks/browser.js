@@ -32,13 +32,15 @@ globalThis.questions = () => {
         return found;
     }
 
-    const isShown = (node) => node.parentElement.checkVisibility({ opacityProperty: true, visibilityProperty: true });
-
     function rectangles(node) {
         const range = document.createRange();
         range.selectNodeContents(node);
-        return [...range.getClientRects()].filter((box) => box.width >= 1 && box.height >= 1);
+        return [...range.getClientRects()];
     }
+
+    const LOOKED_AT = { opacityProperty: true, visibilityProperty: true };
+    const isShown = (node) => node.parentElement.checkVisibility(LOOKED_AT) && rectangles(node).length > 0;
+    const boxes = (node) => rectangles(node).filter((box) => box.width >= 1 && box.height >= 1);
 
     // ---- overlaps
 
@@ -47,21 +49,17 @@ globalThis.questions = () => {
     const DOWN = 2;
 
     function overlaps() {
-        const boxes = [];
-        for (const node of texts().filter(isShown)) {
-            for (const box of rectangles(node)) boxes.push({ box, node });
-        }
-        boxes.sort((one, other) => one.box.top - other.box.top);
+        const all = texts().filter(isShown).flatMap((node) => boxes(node).map((box) => ({ box, node })));
+        all.sort((one, other) => one.box.top - other.box.top);
         const wrong = [];
         let open = [];
-        for (const one of boxes) {
+        for (const one of all) {
             open = open.filter((other) => other.box.bottom > one.box.top + DOWN);
             for (const other of open) {
                 const isAcross = Math.min(one.box.right, other.box.right) > Math.max(one.box.left, other.box.left) + ACROSS;
                 const isDown = Math.min(one.box.bottom, other.box.bottom) > one.box.top + DOWN;
-                if (isAcross && isDown) {
-                    wrong.push(`${short(other.node.data)} and ${short(one.node.data)} stand in each other at ${at(one.box)}`);
-                }
+                const both = `${short(other.node.data)} and ${short(one.node.data)}`;
+                if (isAcross && isDown) wrong.push(`${both} stand in each other at ${at(one.box)}`);
             }
             open.push(one);
         }
@@ -100,7 +98,7 @@ globalThis.questions = () => {
     function cuts() {
         const wrong = [];
         for (const node of texts().filter(isShown)) {
-            for (const box of rectangles(node)) {
+            for (const box of boxes(node)) {
                 const by = cutBy(node.parentElement, box);
                 if (by) wrong.push(`${short(node.data)} is cut by ${named(by)} at ${at(box)}`);
             }
@@ -120,7 +118,8 @@ globalThis.questions = () => {
             for (const word of node.data.matchAll(SHORT_WORDS)) {
                 range.setStart(node, word.index);
                 range.setEnd(node, word.index + word[0].length);
-                if (new Set([...range.getClientRects()].map((box) => Math.round(box.top))).size > 1) wrong.push(`the word ${word[0]} is broken in ${short(node.data)}`);
+                const lines = new Set([...range.getClientRects()].map((box) => Math.round(box.top)));
+                if (lines.size > 1) wrong.push(`the word ${word[0]} is broken in ${short(node.data)}`);
             }
         }
         return wrong;
@@ -161,7 +160,8 @@ globalThis.questions = () => {
     };
 
     function light({ red, green, blue }) {
-        const [r, g, b] = [red, green, blue].map((part) => part / 255).map((part) => (part <= 0.04045 ? part / 12.92 : ((part + 0.055) / 1.055) ** 2.4));
+        const linear = (part) => (part <= 0.04045 ? part / 12.92 : ((part + 0.055) / 1.055) ** 2.4);
+        const [r, g, b] = [red, green, blue].map((part) => linear(part / 255));
         return 0.2126 * r + 0.7152 * g + 0.0722 * b;
     }
 
@@ -216,7 +216,8 @@ globalThis.questions = () => {
             const size = parseFloat(style.fontSize);
             const least = size >= 24 || (size >= 18.66 && style.fontWeight >= 700) ? 3 : 4.5;
             const had = contrast(over({ ...ink, alpha }, below), below);
-            if (had < least) wrong.add(`${named(element)} ${element.getAttribute("class") ?? ""} has contrast ${had.toFixed(2)}, as ${short(node.data)}`);
+            const kind = `${named(element)} ${element.getAttribute("class") ?? ""}`.trim();
+            if (had < least) wrong.add(`${kind} has contrast ${had.toFixed(2)}, as ${short(node.data)}`);
         }
         return [...wrong];
     }
@@ -234,12 +235,15 @@ globalThis.questions = () => {
             if (!wide?.content.includes("width=device-width")) wrong.push("no width of a phone is asked for");
             if (!policy?.content.includes("default-src 'none'")) wrong.push("no policy forbids what is not in the page");
         }
-        for (const element of document.querySelectorAll("script, iframe, object, embed, base, link, form")) wrong.push(`${named(element)} stands in it`);
+        for (const element of document.querySelectorAll("script, iframe, object, embed, base, link, form")) {
+            wrong.push(`${named(element)} stands in it`);
+        }
         const ids = new Set();
         for (const element of document.querySelectorAll("*")) {
             for (const { name, value } of element.attributes) {
                 if (name.startsWith("on")) wrong.push(`${named(element)} has a script in ${name}`);
-                if (name === "href" && value.startsWith("#") && !document.getElementById(value.slice(1))) wrong.push(`a link leads to ${value}, which is not there`);
+                const isLost = name === "href" && value.startsWith("#") && !document.getElementById(value.slice(1));
+                if (isLost) wrong.push(`a link leads to ${value}, which is not there`);
                 if (name === "id" && ids.has(value)) wrong.push(`two elements are called ${value}`);
                 if (name === "id") ids.add(value);
             }
@@ -262,7 +266,8 @@ globalThis.questions = () => {
         const style = getComputedStyle(element);
         const fold = element.localName === "summary" ? element.parentElement : null;
         const place = [...document.querySelectorAll("details")].indexOf(fold);
-        return { name: `${named(element)} ${short(element.textContent)}`, isSeen: style.outlineStyle !== "none" && parseFloat(style.outlineWidth) >= 1, place, isOpen: fold?.open ?? null };
+        const isSeen = style.outlineStyle !== "none" && parseFloat(style.outlineWidth) >= 1;
+        return { name: `${named(element)} ${short(element.textContent)}`, isSeen, place, isOpen: fold?.open ?? null };
     }
 
     const folds = () => [...document.querySelectorAll("details")].map((fold) => fold.open);
