@@ -131,9 +131,10 @@ globalThis.questions = () => {
         const page = document.scrollingElement ?? document.documentElement;
         const wrong = [];
         if (page.scrollWidth > page.clientWidth) {
-            const right = (element) => element.getBoundingClientRect().right + scrollX;
-            const far = [...body().querySelectorAll("*")].find((element) => element.checkVisibility() && right(element) > page.clientWidth + 1);
-            wrong.push(`the page is ${page.scrollWidth} wide in a window of ${page.clientWidth}` + (far ? `, by ${named(far)}` : ""));
+            const isFar = (element) => element.checkVisibility() && element.getBoundingClientRect().right > page.clientWidth + 1;
+            const far = [...body().querySelectorAll("*")].find(isFar);
+            const by = far ? `, by ${named(far)}` : "";
+            wrong.push(`the page is ${page.scrollWidth} wide in a window of ${page.clientWidth}${by}`);
         }
         for (const element of body().querySelectorAll("*")) {
             const isWide = element.scrollWidth > element.clientWidth && /auto|scroll/.test(getComputedStyle(element).overflowX);

@@ -65,7 +65,7 @@ PAGE = """<!DOCTYPE html><html><head><title> </title><style>summary{outline:none
 <figure style="overflow-x:auto;width:50px"><svg width="60" height="50"><text x="40" y="20">outside</text></svg></figure>
 <img src="https://example.org/a.png"><img src="none.png"><script>console.log("hello"); nope()</script>
 <a href="#nope" id="a" onclick="1"></a><b id="a">b</b>
-<details><summary tabindex="-1">one</summary>1</details><details><summary>two</summary>2</details></body></html>
+<details><summary tabindex="-1">one</summary><p>1</p></details><details><summary>two</summary>2</details></body></html>
 """
 SEEN_IN_PAGE = """no language
 no title
