@@ -92,10 +92,10 @@ class Browser:
             if "method" in told:
                 self.events.append(told)
 
-    def wait(self, method, session):
-        """Until this event has come in this session."""
+    def wait(self, is_there):
+        """Until the events are such."""
         until = time.monotonic() + PATIENCE
-        while not any(event["method"] == method and event.get("sessionId") == session for event in self.events):
+        while not is_there():
             told = self.message(until)
             if "method" in told:
                 self.events.append(told)
@@ -116,9 +116,17 @@ class Tab:
         opened = self.call("Page.navigate", url=self.address)
         if opened.get("errorText"):
             raise Trouble(f"{self.address}: {opened['errorText']}")
-        self.browser.wait("Page.loadEventFired", self.session)
+        self.browser.wait(self.is_loaded)
         self.world = self.call("Page.createIsolatedWorld", frameId=opened["frameId"], worldName="checks")["executionContextId"]
         return self
+
+    def is_loaded(self):
+        """Whether the file has been loaded, and not only the empty page before it."""
+        came = [event for event in self.browser.events if event.get("sessionId") == self.session]
+        for place, event in enumerate(came):
+            if event["method"] == "Page.frameNavigated" and event["params"]["frame"]["url"] != "about:blank":
+                return any(later["method"] == "Page.loadEventFired" for later in came[place:])
+        return False
 
     def __exit__(self, *_):
         self.browser.call("Target.closeTarget", targetId=self.target)
