@@ -68,14 +68,70 @@ globalThis.questions = () => {
 
     const at = (box) => `${Math.round(box.left + scrollX)}, ${Math.round(box.top + scrollY)}`;
 
+    // ---- lines through texts
+
+    // What is drawn in a picture but texts, with where it stands and how a point of the window is told to it.
+    const drawn = once((svg) =>
+        [...svg.querySelectorAll("path, line, polyline, rect, circle, ellipse, polygon")].map((shape) => ({
+            shape,
+            box: shape.getBoundingClientRect(),
+            back: shape.getScreenCTM().inverse(),
+            isStroked: getComputedStyle(shape).stroke !== "none",
+            isFilled: getComputedStyle(shape).fill !== "none",
+        })),
+    );
+
+    // Points of a text's box, but for its rim.
+    function points(box) {
+        const found = [];
+        for (const part of [0.3, 0.5, 0.7]) {
+            for (let x = box.left + 1; x < box.right - 1; x += 2) found.push(new DOMPoint(x, box.top + part * box.height));
+        }
+        return found;
+    }
+
+    const isNear = (one, other) =>
+        one.left < other.right + 2 && other.left < one.right + 2 && one.top < other.bottom + 2 && other.top < one.bottom + 2;
+
+    // Whether a line goes through a box, or a shape covers a part of it: one that covers all of it is its ground.
+    function isStruck(box, { shape, back, isStroked, isFilled }) {
+        const inside = points(box).map((point) => point.matrixTransform(back));
+        if (isStroked && inside.some((point) => shape.isPointInStroke(point))) return true;
+        const covered = isFilled ? inside.filter((point) => shape.isPointInFill(point)).length : 0;
+        return covered > 0 && covered < inside.length;
+    }
+
+    function strikes() {
+        const wrong = [];
+        for (const node of texts().filter((node) => node.parentElement instanceof SVGElement && isShown(node))) {
+            for (const box of boxes(node)) {
+                const by = drawn(node.parentElement.ownerSVGElement).find((one) => isNear(box, one.box) && isStruck(box, one));
+                if (by) wrong.push(`a ${by.shape.getAttribute("class") ?? by.shape.localName} goes through ${short(node.data)} at ${at(box)}`);
+            }
+        }
+        return wrong;
+    }
+
+    // Has texts of pictures in one of the widest of the fonts in use.
+    function widen() {
+        const sheet = new CSSStyleSheet();
+        sheet.replaceSync('text, tspan { font-family: "DejaVu Sans", Verdana !important }');
+        document.adoptedStyleSheets = [sheet];
+        return [];
+    }
+
     // ---- cuts
 
     const cutter = once((element) => {
         const style = getComputedStyle(element);
-        // (the root's and the body's overflow is the window's)
-        const isWindow = element === document.documentElement || element === document.body;
         const isOuter = element instanceof SVGSVGElement && !(element.parentElement instanceof SVGElement);
-        const kind = (overflow) => (isOuter && overflow !== "visible" ? "hidden" : isWindow || overflow === "visible" ? "" : overflow);
+        const isRoot = element === document.documentElement;
+        const kind = (overflow) => {
+            // (a picture on its own is cut where another page shows it)
+            if (isOuter && (isRoot || overflow !== "visible")) return "hidden";
+            // (the root's and the body's overflow is the window's)
+            return isRoot || element === document.body || overflow === "visible" ? "" : overflow;
+        };
         return { across: kind(style.overflowX), down: kind(style.overflowY), box: element.getBoundingClientRect() };
     });
 
@@ -282,5 +338,5 @@ globalThis.questions = () => {
         return { width: page.scrollWidth, height: page.scrollHeight, texts: texts().filter(isShown).length };
     };
 
-    return { overlaps, cuts, breaks, scrolls, faint, structure, hidden, focused, folds, open, size };
+    return { overlaps, strikes, widen, cuts, breaks, scrolls, faint, structure, hidden, focused, folds, open, size };
 };

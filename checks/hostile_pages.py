@@ -103,13 +103,16 @@ network: https://example.org/a.png
 none.png is asked for"""
 BROKEN = '<svg xmlns="http://www.w3.org/2000/svg" width="300" height="50"><text x="5" y="20">one &nosuch;</text></svg>\n'
 FAINT = """<svg xmlns="http://www.w3.org/2000/svg" width="300" height="300"><path d="M0 0h99v99h-99z" fill="#111"/>
-<text x="5" y="20">one</text><text x="9" y="24" opacity="0">two</text><text x="9" y="22" fill="#fff">three</text></svg>
+<text x="5" y="20">one</text><text x="9" y="24" opacity="0">two</text><text x="9" y="22" fill="#fff">three</text>
+<text x="9" y="200">struck</text><path class="line" d="M0 220L60 180" stroke="#111"/><text x="205" y="200">too wide font</text></svg>
 """
 SEEN_IN_FAINT = """has no title
 has no desc
 a SvgRoot has no name
 contrast 1.11
-"one" and "three" stand in each other"""
+"one" and "three" stand in each other
+a line goes through "struck"
+in a wider font: "too wide font" is cut"""
 EMPTY = '<svg xmlns="http://www.w3.org/2000/svg" width="300" height="300"><title>t</title></svg>\n'
 # Each by its name, with what must be told of it.
 FAULTY = {
