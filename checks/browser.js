@@ -5,7 +5,7 @@ globalThis.questions = () => {
 
     const SILENT = "head, style, script, title, desc, metadata";
     const short = (text) => {
-        const one = text.replace(/\s+/g, " ").trim();
+        const one = text.trimStart().slice(0, 200).replace(/\s+/g, " ").trim();
         return JSON.stringify(one.length > 40 ? one.slice(0, 37) + "..." : one);
     };
     const named = (element) => element.localName + (element.id ? "#" + element.id : "");
@@ -58,8 +58,8 @@ globalThis.questions = () => {
             for (const other of open) {
                 const isAcross = Math.min(one.box.right, other.box.right) > Math.max(one.box.left, other.box.left) + ACROSS;
                 const isDown = Math.min(one.box.bottom, other.box.bottom) > one.box.top + DOWN;
-                const both = `${short(other.node.data)} and ${short(one.node.data)}`;
-                if (isAcross && isDown) wrong.push(`${both} stand in each other at ${at(one.box)}`);
+                if (!isAcross || !isDown) continue;
+                wrong.push(`${short(other.node.data)} and ${short(one.node.data)} stand in each other at ${at(one.box)}`);
             }
             open.push(one);
         }
