@@ -61,7 +61,8 @@ IsPlaceOf (place.File old) (place.File new) = Unit {0}
 IsPlaceOf _ _ = ⊥
 
 -- what the place holds, as far as standard output and a file, made or not, tell it
-abbrev pub contents_of : {S U M : Type 0} → (S → Option (List ℕ)) → (U → Option (List ℕ)) → (M → Option (List ℕ)) → Place S U M → Option (List ℕ)
+abbrev pub contents_of : {S U M : Type 0} → (S → Option (List ℕ)) → (U → Option (List ℕ)) → (M → Option (List ℕ))
+    → Place S U M → Option (List ℕ)
 contents_of of_standard of_unmade of_file (place.Standard stdout) = of_standard stdout
 contents_of of_standard of_unmade of_file (place.Unmade unmade) = of_unmade unmade
 contents_of of_standard of_unmade of_file (place.File file) = of_file file

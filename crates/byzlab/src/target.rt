@@ -73,7 +73,8 @@ impl<S: Write + Drop, U: Unmade> Place<S, U> {
     fn make(&mut self) -> io::Result<()>
         ensures made { IfOk result (λ _. IsMadeOf self.old self.new) }
         ensures unmade { IfErr result (λ _. self.new ≡ self.old) }
-        ensures contents { contents_of S.contents U.contents U.Made.contents self.new ≡ contents_of S.contents U.contents U.Made.contents self.old }
+        ensures contents { contents_of S.contents U.contents U.Made.contents self.new
+            ≡ contents_of S.contents U.contents U.Made.contents self.old }
     {
         if let Place::Unmade(file) = self {
             let made = file.make()?;
