@@ -1,13 +1,14 @@
 -- Which file stands for a name; what an open file has is not known (own).
 use Rattle.std.specs.Prelude.{ℕ, ◌≡◌, ◌≢◌, List, [], Option, None, Some, codes}
-use Rattle.std.specs.Io.Cursor.{cursor_remaining}
-use Rattle.byzlab.specs.declared.input.Input.{Input}
-use Rattle.byzlab.specs.declared.input.Input.TheVariants as input
-use Rattle.byzlab.specs.declared.target.Target.{Target}
-use Rattle.byzlab.specs.declared.target.Target.TheVariants as target
+use Rattle.std.specs.Io.Cursor.{cursor_inner, cursor_position, cursor_remaining}
+use Rattle.byzlab.specs.declared.input.Opened.{Opened}
+use Rattle.byzlab.specs.declared.input.Opened.TheVariants as input
+use Rattle.byzlab.specs.declared.target.Named.{Named}
+use Rattle.byzlab.specs.declared.target.Place.{Place}
+use Rattle.byzlab.specs.declared.target.Place.TheVariants as place
 
 -- a hyphen names standard input, any other name a file, if it opens
-abbrev pub IsInputOf : List ℕ → Option Input → Type 0
+abbrev pub IsInputOf : {F S : Type 0} → List ℕ → Option (Opened F S) → Type 0
 IsInputOf name (Some (input.Standard stdin)) = name ≡ codes "-"
 IsInputOf name (Some (input.File file)) = name ≢ codes "-"
 IsInputOf name (Some (input.Text text)) = ⊥
@@ -15,27 +16,53 @@ IsInputOf name (Some input.Nothing) = ⊥
 IsInputOf name None = name ≢ codes "-"
 
 -- the file of this name; nothing is read where there is no name
-abbrev pub IsInputIf : Option (List ℕ) → Option Input → Type 0
+abbrev pub IsInputIf : {F S : Type 0} → Option (List ℕ) → Option (Opened F S) → Type 0
 IsInputIf None (Some input.Nothing) = Unit {0}
 IsInputIf None _ = ⊥
 IsInputIf (Some name) opened = IsInputOf name opened
 
+-- a text that is read from its first byte on
+abbrev pub IsTextOf : {F S : Type 0} → List ℕ → Opened F S → Type 0
+IsTextOf bytes (input.Text text) = ((cursor_inner text).items ≡ bytes) × (cursor_position text ≡ 0)
+IsTextOf bytes _ = ⊥
+
 -- the second file, of this name; none where there is no name
-abbrev pub IsSecondIf : Option (List ℕ) → Option Input → Type 0
+abbrev pub IsSecondIf : {F S : Type 0} → Option (List ℕ) → Option (Opened F S) → Type 0
 IsSecondIf None None = Unit {0}
 IsSecondIf None (Some file) = ⊥
 IsSecondIf (Some name) None = ⊥
 IsSecondIf (Some name) (Some file) = IsInputOf name (Some file)
 
--- where there is no file nothing is read, of a text what is left of it; what a file or standard input has is not known
-abbrev pub remaining_of : Input → Option (List ℕ)
-remaining_of input.Nothing = Some []
-remaining_of (input.Text text) = cursor_remaining (λ bytes. Some bytes.items) text
-remaining_of _ = None
+-- what is left to read: of a file and of standard input what they have, where that is known, of a text the rest of it
+abbrev pub remaining_of : {F S : Type 0} → (F → Option (List ℕ)) → (S → Option (List ℕ)) → Opened F S → Option (List ℕ)
+remaining_of of_file of_standard (input.File file) = of_file file
+remaining_of of_file of_standard (input.Standard stdin) = of_standard stdin
+remaining_of of_file of_standard (input.Text text) = cursor_remaining (λ bytes. Some bytes.items) text
+remaining_of of_file of_standard input.Nothing = Some []
 
 -- no name and a hyphen stand for standard output, any other name for a file of just this name, which is not made yet
-abbrev pub IsTargetOf : Option (List ℕ) → Target → Type 0
-IsTargetOf None (target.Standard stdout) = Unit {0}
-IsTargetOf (Some name) (target.Standard stdout) = name ≡ codes "-"
-IsTargetOf (Some name) (target.Unmade rt own) = (name ≢ codes "-") × (own.now ≡ name)
+abbrev pub IsTargetOf : {S M : Type 0} → Option (List ℕ) → Place S Named M → Type 0
+IsTargetOf None (place.Standard stdout) = Unit {0}
+IsTargetOf (Some name) (place.Standard stdout) = name ≡ codes "-"
+IsTargetOf (Some name) (place.Unmade file) = (name ≢ codes "-") × (file.name.now ≡ name)
 IsTargetOf _ _ = ⊥
+
+-- a file that was not made yet is made, and any other place is what it was
+abbrev pub IsMadeOf : {S U M : Type 0} → Place S U M → Place S U M → Type 0
+IsMadeOf (place.Unmade unmade) (place.File file) = Unit {0}
+IsMadeOf (place.Unmade unmade) _ = ⊥
+IsMadeOf old new = new ≡ old
+
+-- standard output stands, and any other place is a file that is made
+abbrev pub IsPlaceOf : {S U M : Type 0} → Place S U M → Place S U M → Type 0
+IsPlaceOf (place.Standard old) (place.Standard new) = Unit {0}
+IsPlaceOf (place.Unmade unmade) (place.File new) = Unit {0}
+IsPlaceOf (place.File old) (place.File new) = Unit {0}
+IsPlaceOf _ _ = ⊥
+
+-- what the place holds, as far as standard output and a file, made or not, tell it
+abbrev pub contents_of : {S U M : Type 0} → (S → Option (List ℕ)) → (U → Option (List ℕ)) → (M → Option (List ℕ))
+    → Place S U M → Option (List ℕ)
+contents_of of_standard of_unmade of_file (place.Standard stdout) = of_standard stdout
+contents_of of_standard of_unmade of_file (place.Unmade unmade) = of_unmade unmade
+contents_of of_standard of_unmade of_file (place.File file) = of_file file

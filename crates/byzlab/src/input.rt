@@ -1,54 +1,55 @@
-ghost use Rattle.std.specs.Prelude.{IfOk, IfErr, None, Some};
+ghost use Rattle.std.specs.Prelude.{◌≢◌, IfOk, IfErr, Some, codes};
 ghost use Rattle.byzlab.specs.Files.{IsInputOf};
 
 use std::fs::File;
 use std::io::{self, Cursor, ErrorKind, Read, Stdin};
 
 /// A file of the task.
+pub type Input = Opened<File, Stdin>;
+
+/// A file of the task, where one that is opened by its name is an `F`, and standard input an `S`.
 #[derive(Drop)]
-pub enum Input {
+pub enum Opened<F: Read + Drop, S: Read + Drop> {
     /// It was opened by its name.
-    File(File),
+    File(F),
     /// A hyphen names standard input.
-    Standard(Stdin),
+    Standard(S),
     /// A scenario that was read, with the files that it names.
     Text(Cursor<Vec<u8>>),
     /// The task reads no file.
     Nothing,
 }
 
-impl Input {
-    /// The file of this name.
-    ///
-    /// # Errors
-    ///
-    /// It does not open, or is a folder; a hyphen always opens.
-    pub fn open(rt: &HostRuntime, name: &str) -> io::Result<Input>
-        ensures input { IfOk result (λ input. IsInputOf name.now (Some input)) }
-        ensures closed { IfErr result (λ _. IsInputOf name.now None) }
-    {
-        if name == "-" {
-            return Ok(Input::Standard(rt.stdin()));
-        }
-        let file = File::open(rt, name)?;
-        if file.metadata()?.is_dir() {
-            return Err(io::Error::from(ErrorKind::IsADirectory));
-        }
-        Ok(Input::File(file))
+/// The file of this name.
+///
+/// # Errors
+///
+/// It does not open, or is a folder; a hyphen always opens.
+pub fn open(rt: &HostRuntime, name: &str) -> io::Result<Input>
+    ensures input { IfOk result (λ input. IsInputOf name.now (Some input)) }
+    ensures closed { IfErr result (λ _. name.now ≢ codes "-") }
+{
+    if name == "-" {
+        return Ok(Opened::Standard(rt.stdin()));
     }
+    let file = File::open(rt, name)?;
+    if file.metadata()?.is_dir() {
+        return Err(io::Error::from(ErrorKind::IsADirectory));
+    }
+    Ok(Opened::File(file))
 }
 
-impl Read for Input {
+impl<F: Read + Drop, S: Read + Drop> Read for Opened<F, S> {
     ghost use Rattle.byzlab.specs.Files.{remaining_of};
 
-    ghost remaining = { remaining_of };
+    ghost remaining = { remaining_of F.remaining S.remaining };
 
     fn read(&mut self, buf: &mut [u8]) -> io::Result<usize> {
         match self {
-            Input::File(file) => file.read(buf),
-            Input::Standard(stdin) => stdin.read(buf),
-            Input::Text(text) => text.read(buf),
-            Input::Nothing => Ok(0),
+            Opened::File(file) => file.read(buf),
+            Opened::Standard(stdin) => stdin.read(buf),
+            Opened::Text(text) => text.read(buf),
+            Opened::Nothing => Ok(0),
         }
     }
 }

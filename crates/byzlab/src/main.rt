@@ -6,19 +6,21 @@ mod folder;
 mod input;
 mod progress;
 mod target;
+mod telling;
 mod watched;
 
-ghost use Rattle.std.specs.Prelude.{◌≡◌, IfOk, IfErr, IfSome, Some, max, option_map};
+ghost use Rattle.std.specs.Prelude.{◌≡◌, Ok, IfOk, IfErr, IfSome, Some, false, max, option_map};
 ghost use Rattle.std.specs.IoError.{error_kind};
 ghost use Rattle.command_line.specs.Told.{file_of, second_of};
-ghost use Rattle.byzlab.specs.Files.{IsInputIf, IsSecondIf};
-ghost use Rattle.byzlab.specs.Telling.{IsUnasked, failure_of};
+ghost use Rattle.neighbours.specs.Seen.{reads_scenario};
+ghost use Rattle.byzlab.specs.Files.{IsInputIf, IsSecondIf, IsTextOf};
+ghost use Rattle.byzlab.specs.Telling.{IsStatus, IsUnasked, failure_of};
 
 use command_line::{Request, TaskError, each};
 use desk::{serve, turned_down};
 use folder::FolderOf;
-use input::Input;
-use lab::{FileName, is_explained, reason};
+use input::{Input, Opened};
+use lab::{Failure, is_explained};
 use neighbours::{Untaken, reads_scenario, with_files};
 use own_lines::refused;
 use progress::Progress;
@@ -28,7 +30,8 @@ use std::io::{self, Cursor, ErrorKind, Read};
 use std::process::ExitCode;
 use std::sync::Wait;
 use std::thread::Threads;
-use target::Target;
+use target::target_of;
+use telling::{Explained, why_unwritten};
 use watched::Watched;
 
 fn main(rt: HostRuntime) -> ExitCode {
@@ -65,10 +68,7 @@ fn called<T: Threads + Wait + Sync>(rt: &HostRuntime, threads: &T) -> io::Result
             Err(error) => return unasked(rt, error),
         };
         let _ = progress.clear();
-        let ending = match answered(rt, threads, &request) {
-            Ok(ending) => ending,
-            Err(error) => Ending::with(lacking(rt, error.kind())),
-        };
+        let ending = ended(rt, threads, &request);
         worst = worse(worst, ending.status);
         if ending.is_unwritten {
             break;
@@ -109,12 +109,25 @@ fn worse(first: u8, second: u8) -> u8
     if first < second { second } else { first }
 }
 
+/// Does what is asked for, and says it where there was no memory to open a file.
+fn ended<T: Threads + Wait + Sync>(rt: &HostRuntime, threads: &T, request: &Request) -> Ending
+    ensures status { IsStatus result.status }
+{
+    match answered(rt, threads, request) {
+        Ok(ending) => ending,
+        Err(error) => Ending::with(lacking(rt, error.kind())),
+    }
+}
+
 /// Does what is asked for.
 fn answered<T: Threads + Wait + Sync>(
     rt: &HostRuntime,
     threads: &T,
     request: &Request,
-) -> io::Result<Ending> {
+) -> io::Result<Ending>
+    ensures status { IfOk result (λ ending. IsStatus ending.status) }
+    ensures memory { IfErr result (λ error. error_kind error ≡ ErrorKind.OutOfMemory) }
+{
     let Some((first, second)) = files(rt, request)? else {
         return Ok(Ending::with(1));
     };
@@ -150,8 +163,10 @@ fn served<T: Threads + Wait + Sync>(
     request: &Request,
     first: Input,
     second: Option<Input>,
-) -> Ending {
-    let mut target = Watched::new(Target::of(rt, request.task.target()));
+) -> Ending
+    ensures status { IsStatus result.status }
+{
+    let mut target = Watched::new(target_of(rt, request.task.target()));
     let alloc = rt.alloc();
     let status = serve(
         threads,
@@ -163,8 +178,7 @@ fn served<T: Threads + Wait + Sync>(
         &mut rt.stderr(),
     );
     let fault = target.fault();
-    if let (1, true, Some(kind)) = (status, is_explained(&request.task), fault) {
-        let why = reason(kind);
+    if let Some(why) = why_unwritten(status, &request.task, fault) {
         let _ = rt.eprintln(format_args!("error: {why}"));
     }
     Ending {
@@ -195,7 +209,10 @@ fn unasked(rt: &HostRuntime, error: TaskError) -> io::Result<u8>
 }
 
 /// The first file, in which a scenario has the files that it names; none where one of them is not taken, after what says so.
-fn completed(rt: &HostRuntime, request: &Request, first: Input) -> io::Result<Option<Input>> {
+fn completed(rt: &HostRuntime, request: &Request, first: Input) -> io::Result<Option<Input>>
+    ensures other { reads_scenario request.now.task ≡ false → result ≡ Ok (Some first) }
+    ensures memory { IfErr result (λ error. error_kind error ≡ ErrorKind.OutOfMemory) }
+{
     let name = match request.task.file() {
         Some(name) if reads_scenario(&request.task) => name,
         _ => return Ok(Some(first)),
@@ -222,12 +239,15 @@ fn made(
     request: &Request,
     own: &[u8],
     bytes: Vec<u8>,
-) -> io::Result<Option<Input>> {
+) -> io::Result<Option<Input>>
+    ensures text { IfOk result (λ input. IfSome input (IsTextOf bytes.items)) }
+    ensures memory { IfErr result (λ error. error_kind error ≡ ErrorKind.OutOfMemory) }
+{
     if let Some(lines) = refused(rt.alloc(), &request.task, own, bytes.as_slice())? {
         turn_down(rt, request, lines.as_str())?;
         return Ok(None);
     }
-    Ok(Some(Input::Text(Cursor::new(bytes))))
+    Ok(Some(Opened::Text(Cursor::new(bytes))))
 }
 
 /// Says that the task is not done, by this line.
@@ -247,12 +267,15 @@ fn turn_down<D: Display + Drop>(rt: &HostRuntime, request: &Request, line: D) ->
 }
 
 /// All bytes of the file of this name; none where it cannot be read, after what says so.
-fn read(
+fn read<R: Read + Drop>(
     rt: &HostRuntime,
     request: &Request,
     name: &str,
-    file: Input,
-) -> io::Result<Option<Vec<u8>>> {
+    file: R,
+) -> io::Result<Option<Vec<u8>>>
+    ensures whole { IfOk result (λ all. IfSome all (λ all. IfSome (R.remaining file) (λ known. all.items ≡ known))) }
+    ensures memory { IfErr result (λ error. error_kind error ≡ ErrorKind.OutOfMemory) }
+{
     let mut file = file;
     let mut bytes = Vec::new(rt.alloc());
     match file.read_to_end(&mut bytes) {
@@ -271,9 +294,9 @@ fn opened(rt: &HostRuntime, request: &Request, name: Option<&str>) -> io::Result
     ensures memory { IfErr result (λ error. error_kind error ≡ ErrorKind.OutOfMemory) }
 {
     let Some(name) = name else {
-        return Ok(Some(Input::Nothing));
+        return Ok(Some(Opened::Nothing));
     };
-    match Input::open(rt, name) {
+    match input::open(rt, name) {
         Ok(input) => Ok(Some(input)),
         Err(closed) if closed.kind() == ErrorKind::OutOfMemory => Err(closed),
         Err(closed) => {
@@ -287,8 +310,7 @@ fn opened(rt: &HostRuntime, request: &Request, name: Option<&str>) -> io::Result
 fn tell_unread(rt: &HostRuntime, request: &Request, name: &str, kind: ErrorKind) -> io::Result<()>
     ensures memory { IfErr result (λ error. error_kind error ≡ ErrorKind.OutOfMemory) }
 {
-    let name = FileName(name);
-    tell_untaken(rt, request, format_args!("fault read {name}"), Some(kind))
+    tell_untaken(rt, request, Failure::Read(name), Some(kind))
 }
 
 /// Tells that a file is not taken and, of one that is not read, why, where the task explains what it refuses.
@@ -300,13 +322,12 @@ fn tell_untaken<D: Display + Drop>(
 ) -> io::Result<()>
     ensures memory { IfErr result (λ error. error_kind error ≡ ErrorKind.OutOfMemory) }
 {
-    match kind {
-        Some(kind) if is_explained(&request.task) => {
-            let why = reason(kind);
-            turn_down(rt, request, format_args!("{lines}\nerror: {why}"))
-        }
-        _ => turn_down(rt, request, lines),
-    }
+    let kind = if is_explained(&request.task) {
+        kind
+    } else {
+        None
+    };
+    turn_down(rt, request, Explained { lines, kind })
 }
 
 /// The line and the exit status where the words could not be had, help not be written, or memory to open a file not be had.

@@ -1,57 +1,116 @@
-ghost use Rattle.std.specs.Prelude.{option_map};
-ghost use Rattle.byzlab.specs.Files.{IsTargetOf};
+ghost use Rattle.std.specs.Prelude.{◌≡◌, IfErr, IfOk, option_map};
+ghost use Rattle.std.specs.Io.{WritesAtMost};
+ghost use Rattle.std.specs.Io.KnownBytes.{Keeps, WriteAppends};
+ghost use Rattle.byzlab.specs.Files.{IsMadeOf, IsPlaceOf, IsTargetOf, contents_of};
 
 use std::fs::File;
 use std::io::{self, Stdout, Write};
 
-/// Where a task's answer goes.
-#[derive(Drop)]
-pub enum Target<'a> {
-    /// Standard output.
-    Standard(Stdout),
-    /// A file of this name, which is made by the first write or flush: where there is no answer, none is.
-    Unmade { rt: &'a HostRuntime, name: &'a str },
+/// A file that is not made yet.
+pub trait Unmade: Drop {
+    ghost use Rattle.std.specs.Prelude.{◌≡◌, ℕ, List, None, Option, IfOk};
+
     /// The file, once it is made.
-    File(File),
+    type Made: Write + Drop;
+
+    // What it holds once it is made, where that is known.
+    ghost contents: { Self → Option (List ℕ) } = { λ _. None };
+
+    /// Makes it.
+    ///
+    /// # Errors
+    ///
+    /// It cannot be made.
+    fn make(&self) -> io::Result<Self::Made>
+        ensures made { IfOk result (λ made. Self.Made.contents made ≡ contents self.now) };
 }
 
-impl<'a> Target<'a> {
-    /// The file of this name; where there is none, or a hyphen, standard output.
-    pub fn of(rt: &'a HostRuntime, name: Option<&'a str>) -> Target<'a>
-        ensures { IsTargetOf (option_map (λ n. n.now) name.entry) result }
-    {
-        match name {
-            None | Some("-") => Target::Standard(rt.stdout()),
-            Some(name) => Target::Unmade { rt, name },
-        }
-    }
+/// A file of this name.
+#[derive(Drop)]
+pub struct Named<'a> {
+    pub rt: &'a HostRuntime,
+    pub name: &'a str,
+}
 
+impl Unmade for Named<'_> {
+    type Made = File;
+
+    fn make(&self) -> io::Result<File> {
+        File::create(self.rt, self.name)
+    }
+}
+
+/// Where a task's answer goes, where standard output is an `S`.
+#[derive(Drop)]
+pub enum Place<S: Write + Drop, U: Unmade> {
+    /// Standard output.
+    Standard(S),
+    /// A file that is made by the first write or flush: where there is no answer, none is.
+    Unmade(U),
+    /// The file, once it is made.
+    File(U::Made),
+}
+
+/// Where a task's answer goes.
+pub type Target<'a> = Place<Stdout, Named<'a>>;
+
+/// The file of this name; where there is none, or a hyphen, standard output.
+pub fn target_of<'a>(rt: &'a HostRuntime, name: Option<&'a str>) -> Target<'a>
+    ensures { IsTargetOf (option_map (λ n. n.now) name.entry) result }
+{
+    match name {
+        None | Some("-") => Place::Standard(rt.stdout()),
+        Some(name) => Place::Unmade(Named { rt, name }),
+    }
+}
+
+impl<S: Write + Drop, U: Unmade> Place<S, U> {
     /// Makes the file, if it is one that is not made yet.
-    fn make(&mut self) -> io::Result<()> {
-        if let Target::Unmade { rt, name } = self {
-            let made = File::create(*rt, *name)?;
-            *self = Target::File(made);
+    ///
+    /// # Errors
+    ///
+    /// It cannot be made.
+    fn make(&mut self) -> io::Result<()>
+        ensures made { IfOk result (λ _. IsMadeOf self.old self.new) }
+        ensures unmade { IfErr result (λ _. self.new ≡ self.old) }
+        ensures contents { contents_of S.contents U.contents U.Made.contents self.new
+            ≡ contents_of S.contents U.contents U.Made.contents self.old }
+    {
+        if let Place::Unmade(file) = self {
+            let made = file.make()?;
+            *self = Place::File(made);
         }
         Ok(())
     }
 }
 
-impl Write for Target<'_> {
-    fn write(&mut self, buf: &[u8]) -> io::Result<usize> {
+impl<S: Write + Drop, U: Unmade> Write for Place<S, U> {
+    ghost contents = { contents_of S.contents U.contents U.Made.contents };
+
+    fn write(&mut self, buf: &[u8]) -> io::Result<usize>
+        ensures bound { WritesAtMost result buf.now }
+        ensures bytes { WriteAppends (contents_of S.contents U.contents U.Made.contents self.old)
+            (contents_of S.contents U.contents U.Made.contents self.new) result buf.now }
+        ensures place { IfOk result (λ _. IsPlaceOf self.old self.new) }
+    {
         self.make()?;
         match self {
-            Target::Standard(stdout) => stdout.write(buf),
-            Target::File(file) => file.write(buf),
-            Target::Unmade { .. } => Ok(0),
+            Place::Standard(stdout) => stdout.write(buf),
+            Place::File(file) => file.write(buf),
+            Place::Unmade(_) => Ok(0),
         }
     }
 
-    fn flush(&mut self) -> io::Result<()> {
+    fn flush(&mut self) -> io::Result<()>
+        ensures bytes { Keeps (contents_of S.contents U.contents U.Made.contents self.old)
+            (contents_of S.contents U.contents U.Made.contents self.new) }
+        ensures place { IfOk result (λ _. IsPlaceOf self.old self.new) }
+    {
         self.make()?;
         match self {
-            Target::Standard(stdout) => stdout.flush(),
-            Target::File(file) => file.flush(),
-            Target::Unmade { .. } => Ok(()),
+            Place::Standard(stdout) => stdout.flush(),
+            Place::File(file) => file.flush(),
+            Place::Unmade(_) => Ok(()),
         }
     }
 }

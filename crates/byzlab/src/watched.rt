@@ -1,4 +1,6 @@
 ghost use Rattle.std.specs.Prelude.{◌≡◌, IfErr, IfOk, None, Some};
+ghost use Rattle.std.specs.Io.{WritesAtMost};
+ghost use Rattle.std.specs.Io.KnownBytes.{Keeps, WriteAppends};
 ghost use Rattle.std.specs.IoError.{error_kind};
 
 use std::io::{self, ErrorKind, Write};
@@ -44,12 +46,23 @@ impl<W: Write + Drop> Watched<W> {
 }
 
 impl<W: Write + Drop> Write for Watched<W> {
-    fn write(&mut self, buf: &[u8]) -> io::Result<usize> {
+    ghost contents = { λ watched. W.contents watched.stream };
+
+    fn write(&mut self, buf: &[u8]) -> io::Result<usize>
+        ensures bound { WritesAtMost result buf.now }
+        ensures bytes { WriteAppends (W.contents self.old.stream) (W.contents self.new.stream) result buf.now }
+        ensures well { IfOk result (λ _. self.new.fault ≡ self.old.fault) }
+        ensures failed { IfErr result (λ error. self.new.fault ≡ Some (error_kind error)) }
+    {
         let answer = self.stream.write(buf);
         self.kept(answer)
     }
 
-    fn flush(&mut self) -> io::Result<()> {
+    fn flush(&mut self) -> io::Result<()>
+        ensures bytes { Keeps (W.contents self.old.stream) (W.contents self.new.stream) }
+        ensures well { IfOk result (λ _. self.new.fault ≡ self.old.fault) }
+        ensures failed { IfErr result (λ error. self.new.fault ≡ Some (error_kind error)) }
+    {
         let answer = self.stream.flush();
         self.kept(answer)
     }
