@@ -1,0 +1,92 @@
+//! The line of what a campaign comes to.
+ghost use Rattle.std.specs.Prelude.{◌≡◌, ◌++◌, IfOk, OnOk, string_bytes};
+ghost use Rattle.survey.specs.Lines.{answer_text, back_text, flag_text, front_text, line_text};
+
+use crate::finding::Finding;
+use crate::putting::put_numbered;
+use std::alloc::{AllocError, Global};
+
+/// A flag's word.
+fn flag_text(flag: bool) -> &'static str
+    ensures { result.now ≡ flag_text flag }
+{
+    if flag { "true" } else { "false" }
+}
+
+/// An answer's word.
+fn answer_text(answer: Option<bool>) -> &'static str
+    ensures { result.now ≡ answer_text answer }
+{
+    match answer {
+        None => "null",
+        Some(flag) => flag_text(flag),
+    }
+}
+
+/// Adds a flag behind its name.
+fn put_flag(out: &mut String, name: &str, flag: bool) -> Result<(), AllocError>
+    ensures { OnOk result (string_bytes out.new ≡ string_bytes out.old ++ name.now ++ flag_text flag) }
+{
+    out.push_str(name)?;
+    out.push_str(flag_text(flag))
+}
+
+/// Adds an answer behind its name.
+fn put_answer(out: &mut String, name: &str, answer: Option<bool>) -> Result<(), AllocError>
+    ensures { OnOk result (string_bytes out.new ≡ string_bytes out.old ++ name.now ++ answer_text answer) }
+{
+    out.push_str(name)?;
+    out.push_str(answer_text(answer))
+}
+
+/// Adds the first half of a line.
+fn put_front(out: &mut String, finding: &Finding) -> Result<(), AllocError>
+    ensures { OnOk result (string_bytes out.new ≡ string_bytes out.old ++ front_text finding.now) }
+{
+    put_flag(out, "{\"alike\":", finding.verdict.alike)?;
+    put_numbered(out, ",\"bound\":", u64::from(finding.bound))?;
+    put_numbered(out, ",\"generals\":", u64::from(finding.generals))?;
+    put_flag(out, ",\"kept\":", finding.verdict.bound)?;
+    Ok(())
+}
+
+/// Adds the second half.
+fn put_back(out: &mut String, finding: &Finding) -> Result<(), AllocError>
+    ensures { OnOk result (string_bytes out.new ≡ string_bytes out.old ++ back_text finding.now) }
+{
+    put_answer(
+        out,
+        ",\"line\":\"campaign\",\"obeyed\":",
+        finding.verdict.obeyed,
+    )?;
+    put_numbered(out, ",\"seed\":", finding.seed)?;
+    put_numbered(out, ",\"traitors\":", finding.traitors)?;
+    out.push_str("}\n")?;
+    Ok(())
+}
+
+/// Adds the line of what a campaign comes to: an object of JSON, and a line feed.
+///
+/// # Errors
+///
+/// `AllocError` where memory is refused.
+pub fn put_line(out: &mut String, finding: &Finding) -> Result<(), AllocError>
+    ensures { OnOk result (string_bytes out.new ≡ string_bytes out.old ++ line_text finding.now) }
+{
+    put_front(out, finding)?;
+    put_back(out, finding)?;
+    Ok(())
+}
+
+/// The line of what a campaign comes to: an object of JSON, and a line feed.
+///
+/// # Errors
+///
+/// `AllocError` where memory is refused.
+pub fn line(alloc: Global, finding: &Finding) -> Result<String, AllocError>
+    ensures { IfOk result (λ text. string_bytes text ≡ line_text finding.now) }
+{
+    let mut out = String::new(alloc);
+    put_line(&mut out, finding)?;
+    Ok(out)
+}
