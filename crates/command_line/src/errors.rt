@@ -14,7 +14,7 @@ pub enum TaskError {
 }
 
 /// Why words that `clap` takes name no task.
-#[derive(Debug, Drop, PartialEq, Eq)]
+#[derive(Debug, Drop)]
 pub enum Misuse {
     /// The word behind `--traitors` names no generals.
     Traitors(String),

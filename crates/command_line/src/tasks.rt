@@ -1,5 +1,5 @@
 /// What the words ask for: a task, and how its answer is printed.
-#[derive(Debug, Drop, PartialEq, Eq)]
+#[derive(Drop)]
 pub struct Request {
     pub task: Task,
     /// As JSON Lines, an object for each line.
@@ -9,7 +9,7 @@ pub struct Request {
 }
 
 /// A subcommand with the names of its files, and what its flags say.
-#[derive(Debug, Drop, PartialEq, Eq)]
+#[derive(Drop)]
 pub enum Task {
     /// Verify a program and run it, in the context that a second file tells where one is named. Where it is asked for,
     /// each step of the run is told, and the program explained.
@@ -113,7 +113,7 @@ pub enum Task {
 }
 
 /// How a program is written.
-#[derive(Debug, Drop, PartialEq, Eq)]
+#[derive(Debug, Drop)]
 pub enum Notation {
     /// As raw bytecode.
     Bytecode,
@@ -154,7 +154,7 @@ pub enum Drawing {
 }
 
 /// Which course a campaign takes.
-#[derive(Debug, Drop, PartialEq, Eq)]
+#[derive(Debug, Drop)]
 pub enum Course {
     /// That of the schedule of this file or, where none is named, of the empty one.
     Scheduled(Option<String>),

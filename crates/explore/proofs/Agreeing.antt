@@ -1,5 +1,5 @@
 -- What is found agrees under the bound.
-use Rattle.std.proofs.Common.{◌≡◌, List, ℕ, Bool, true, false, All, refl, sym, subst, ◌∙◌}
+use Rattle.std.proofs.Common.{◌≡◌, List, ℕ, All, refl, sym, subst, ◌∙◌}
 use Rattle.std.proofs.lemmas.List.Elements.{All-weaker}
 use Rattle.label.specs.Lieutenants.{AgreeInList}
 use Rattle.round.specs.Letters.{messages}
@@ -13,8 +13,10 @@ use Rattle.world.proofs.Campaigns.{oral_campaigns}
 use Rattle.world.proofs.Listed.{replayed_finished}
 use Rattle.world.proofs.Punctual.{run_scenario}
 use Rattle.world.proofs.Verdicts.{proved_decisions_agree}
+use Rattle.explore.specs.declared.exploration.Reach.{Reach}
+use Rattle.explore.specs.declared.exploration.Reach.TheVariants.{Whole, Beyond, InPart}
 use Rattle.explore.specs.Outcomes.{oral_outcome}
-use Rattle.explore.specs.Exploring.{Finding, Exploration, IsReal, IsFinding, IsLowerFinding, IsExploration}
+use Rattle.explore.specs.Exploring.{Finding, IsReal, IsFinding, IsLowerFinding, IsCappedFinding}
 use Rattle.explore.specs.Agreeing.{FindingsAgree}
 
 real_agrees : (s : Scenario) → IsScenario s → (f : Finding) → IsReal oral_kind oral_outcome s f → AgreeUnderBound s f.decisions
@@ -27,8 +29,9 @@ real_agrees s is f h bound =
     subst A ((λ i. decisions (sym same i) (messages w.closed)) ∙ h.outcome) (proved_decisions_agree s es is done bound)
 
 pub proved_findings_agree : FindingsAgree
-proved_findings_agree s most e is h = by e.whole refl
+proved_findings_agree s most e is h = by e.reach refl
   where
-    by : (b : Bool) → e.whole ≡ b → All (λ (f : Finding). AgreeUnderBound s f.decisions) e.findings
-    by true t = All-weaker (IsFinding oral_kind oral_outcome s) (λ (f : Finding). AgreeUnderBound s f.decisions) (λ f k. real_agrees s is f k.real) e.findings (h.all t).each
-    by false t = All-weaker (IsLowerFinding oral_kind oral_outcome s) (λ (f : Finding). AgreeUnderBound s f.decisions) (λ f k. real_agrees s is f k.real) e.findings (h.part t).each
+    by : (r : Reach) → e.reach ≡ r → All (λ (f : Finding). AgreeUnderBound s f.decisions) e.findings
+    by Whole t = All-weaker (IsFinding oral_kind oral_outcome s) (λ (f : Finding). AgreeUnderBound s f.decisions) (λ f k. real_agrees s is f k.real) e.findings (h.all t).each
+    by Beyond t = All-weaker (IsCappedFinding oral_kind oral_outcome s) (λ (f : Finding). AgreeUnderBound s f.decisions) (λ f k. real_agrees s is f k.real) e.findings (h.beyond t).each
+    by InPart t = All-weaker (IsLowerFinding oral_kind oral_outcome s) (λ (f : Finding). AgreeUnderBound s f.decisions) (λ f k. real_agrees s is f k.real) e.findings (h.part t).each

@@ -41,7 +41,7 @@ one_of [] g program e = absurd (let f : None ≡ Some program = e in cc)
 one_of (o ∷ ps) zero program e = (let l : instructions o ≡ length program = ap instructions e in omega (arith, sum_by-cons instructions o ps))
 one_of (o ∷ ps) (suc g) program e = (let l = one_of ps g program e in omega (arith, sum_by-cons instructions o ps))
 
-get_of : {A : Type 0} → (xs : List A) (k : ℕ) (d : A) → k < length xs → slice_get xs k ≡ Some (slice_index_or xs k d)
+pub get_of : {A : Type 0} → (xs : List A) (k : ℕ) (d : A) → k < length xs → slice_get xs k ≡ Some (slice_index_or xs k d)
 get_of [] k d lt = absurd (omega arith)
 get_of (x ∷ xs) zero d lt = refl
 get_of (x ∷ xs) (suc k) d lt = get_of xs k d (omega arith)

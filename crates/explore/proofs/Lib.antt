@@ -17,3 +17,11 @@ pub mod Replaying
 pub mod Stepping
 pub mod Planned
 pub mod Agreeing
+pub mod Weighing
+pub mod Branching
+pub mod Reaching
+pub mod Spreading
+pub mod Collecting
+pub mod Concluding
+pub mod Comparing
+pub mod Stating

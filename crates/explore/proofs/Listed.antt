@@ -115,7 +115,7 @@ to_asker w g y = of_passes (λ h. will_ask (slice_get w.parts h)) 0 (length w.pa
 pub of_asker : (w : World) (g : ℕ) → Has (askers w) g → will_ask (slice_get w.parts g) ≡ true
 of_asker w g h = (passes_of (λ h. will_ask (slice_get w.parts h)) 0 (length w.parts) g h).passes
 
-nobody : (w : World) → askers w ≡ [] → (g : ℕ) → will_ask (slice_get w.parts g) ≡ false
+pub nobody : (w : World) → askers w ≡ [] → (g : ℕ) → will_ask (slice_get w.parts g) ≡ false
 nobody w e g = by (will_ask (slice_get w.parts g)) refl
   where
     by : (b : Bool) → will_ask (slice_get w.parts g) ≡ b → will_ask (slice_get w.parts g) ≡ false

@@ -201,7 +201,7 @@ outcome_alike k order w v h =
 pub proved_alike : AlikeWorldsGoOnAlike
 proved_alike = record { runs = run_alike; rounds = round_alike; orders = from_alike; outcomes = outcome_alike }
 
-round_lists : (k : ℕ) (w v : World) → AreAlike w v → round_orders oral_kind k w ≡ round_orders oral_kind k v
+pub round_lists : (k : ℕ) (w v : World) → AreAlike w v → round_orders oral_kind k w ≡ round_orders oral_kind k v
 round_lists zero w v h = ap (λ (ps : List Part). or_end (filter (λ g. will_ask (slice_get ps g)) (generals (length ps))) (λ g. [])) h.parts
 round_lists (suc k) w v h =
     λ i. or_end (filter (λ g. will_ask (slice_get (h.parts i) g)) (generals (length (h.parts i)))) (λ g. round_lists k (past oral_kind w g) (past oral_kind v g) (past_alike w v g h) i)

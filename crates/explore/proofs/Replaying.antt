@@ -1,5 +1,5 @@
 -- What the replay of some names tells of its order and its outcome, in oral campaigns.
-use Rattle.std.proofs.Common.{◌≡◌, ℕ, suc, ◌+◌, ◌<◌, ◌≤◌, List, [], All, Bool, true, false, refl, sym, ap, subst, ◌∙◌, Some, None, Result, Ok, Err, Vec, arith}
+use Rattle.std.proofs.Common.{◌≡◌, ℕ, suc, ◌+◌, ◌<◌, ◌≤◌, List, [], All, refl, sym, ap, subst, ◌∙◌, Some, None, Result, Ok, Err, Vec, arith}
 use Rattle.std.specs.Prelude.{OnOk, IfOk}
 use Rattle.std.specs.Global.{Global}
 use Rattle.std.proofs.lemmas.List.Elements.{All-weaker}
@@ -14,8 +14,10 @@ use Rattle.world.specs.World.{oral_kind}
 use Rattle.world.proofs.Campaigns.{oral_campaigns}
 use Rattle.world.proofs.Lasting.{replayed_complete}
 use Rattle.world.proofs.Replaying.{runs_are_replays}
+use Rattle.explore.specs.declared.exploration.Reach.{Reach}
+use Rattle.explore.specs.declared.exploration.Reach.TheVariants.{Whole, Beyond, InPart}
 use Rattle.explore.specs.Entering.{entered}
-use Rattle.explore.specs.Exploring.{Finding, Exploration, counted_in, IsFinding, IsLowerFinding, IsExploredInPart, IsExplored, IsExploration}
+use Rattle.explore.specs.Exploring.{Finding, Exploration, counted_in, IsFinding, IsLowerFinding, IsCappedFinding, IsExploredInPart, IsExplored, IsExploration}
 use Rattle.explore.specs.Orders.{order_of}
 use Rattle.explore.specs.Outcomes.{oral_outcome, outcome_in}
 use Rattle.explore.specs.Succession.{next_order}
@@ -96,11 +98,12 @@ module _ (s : Scenario) (is : IsScenario s) where
 
   -- the examples of an exploration have schedules
   pub all_walk : (most : ℕ) (e : Exploration) → IsExploration oral_kind oral_outcome s most e → All (λ (f : Finding). AreWalks oral_kind (kind.opening oral_kind s) f.example) e.findings
-  all_walk most e h = by e.whole refl
+  all_walk most e h = by e.reach refl
     where
-      by : (b : Bool) → e.whole ≡ b → All (λ (f : Finding). AreWalks oral_kind (kind.opening oral_kind s) f.example) e.findings
-      by true t = All-weaker (IsFinding oral_kind oral_outcome s) (λ (f : Finding). AreWalks oral_kind (kind.opening oral_kind s) f.example) (λ f k. orders_walk oral_kind oral_campaigns s f.example is k.real.example) e.findings (h.all t).each
-      by false t = All-weaker (IsLowerFinding oral_kind oral_outcome s) (λ (f : Finding). AreWalks oral_kind (kind.opening oral_kind s) f.example) (λ f k. orders_walk oral_kind oral_campaigns s f.example is k.real.example) e.findings (h.part t).each
+      by : (r : Reach) → e.reach ≡ r → All (λ (f : Finding). AreWalks oral_kind (kind.opening oral_kind s) f.example) e.findings
+      by Whole t = All-weaker (IsFinding oral_kind oral_outcome s) (λ (f : Finding). AreWalks oral_kind (kind.opening oral_kind s) f.example) (λ f k. orders_walk oral_kind oral_campaigns s f.example is k.real.example) e.findings (h.all t).each
+      by Beyond t = All-weaker (IsCappedFinding oral_kind oral_outcome s) (λ (f : Finding). AreWalks oral_kind (kind.opening oral_kind s) f.example) (λ f k. orders_walk oral_kind oral_campaigns s f.example is k.real.example) e.findings (h.beyond t).each
+      by InPart t = All-weaker (IsLowerFinding oral_kind oral_outcome s) (λ (f : Finding). AreWalks oral_kind (kind.opening oral_kind s) f.example) (λ f k. orders_walk oral_kind oral_campaigns s f.example is k.real.example) e.findings (h.part t).each
 
   pub visits_cut : (n most : ℕ) (names : List (Vec ℕ Global)) (findings : List Finding) → IsVisited oral_kind oral_outcome s n (lists_in names) findings → n ≡ most → IsExploredInPart oral_kind oral_outcome s most findings
   visits_cut n most names findings v e =

@@ -1,9 +1,11 @@
 -- What an exploration of a campaign's orders answers (own).
-use Rattle.std.specs.Prelude.{ℕ, ◌≡◌, ◌<◌, ◌≤◌, Bool, true, false, List, All, length, map, sum_by, count_by, bytes_eq}
+use Rattle.std.specs.Prelude.{ℕ, ◌≡◌, ◌≢◌, ◌<◌, ◌≤◌, ◌-◌, ◌^◌, min, List, All, length, map, sum_by, count_by, bytes_eq}
 use Rattle.round.specs.Scenario.{Scenario}
 use Rattle.world.specs.declared.event.Event.{Event}
 use Rattle.world.specs.Kind.{Kind}
 use Rattle.world.specs.KindLists.{IsComplete}
+use Rattle.explore.specs.declared.exploration.Reach.{Reach}
+use Rattle.explore.specs.declared.exploration.Reach.TheVariants.{Whole, Beyond, InPart}
 use Rattle.explore.specs.Orders.{IsOrder}
 use Rattle.explore.specs.Listing.{orders, Has, AreDifferent}
 use Rattle.explore.specs.Outcomes.{Outcome, outcome_in, outcome_of}
@@ -59,13 +61,27 @@ pub record IsExploredInPart (K : Kind) (D : Outcome) (s : Scenario) (most : ℕ)
   pub total : counted_in findings ≡ most
   pub more : most < length (orders K s)
 
--- findings, and whether they are all
+-- and its count stops at 2 ^ 64 - 1
+pub record IsCappedFinding (K : Kind) (D : Outcome) (s : Scenario) (f : Finding) : Type 0 where
+  pub real : IsReal K D s f
+  pub count : f.count ≡ min (ways_to K D s f.decisions) (2 ^ 64 - 1)
+
+-- the findings of an exploration of so many orders that counts stop: each is one, no two are of one outcome, no complete run comes to
+-- another, and there are at least 2 ^ 64 - 1 orders
+pub record IsExploredBeyond (K : Kind) (D : Outcome) (s : Scenario) (findings : List Finding) : Type 0 where
+  pub each : All (IsCappedFinding K D s) findings
+  pub different : AreDifferent (outcomes_of findings)
+  pub whole : (events : List Event) → IsComplete K s events → Has (outcomes_of findings) (outcome_in K D s events)
+  pub many : 2 ^ 64 - 1 ≤ length (orders K s)
+
+-- findings, and how far they reach
 pub record Exploration : Type 0 where
   pub findings : List Finding
-  pub whole : Bool
+  pub reach : Reach
 
--- of all orders, or of so many where there are more
+-- of all orders, counted or too many for that, or of so many where there are more
 pub record IsExploration (K : Kind) (D : Outcome) (s : Scenario) (most : ℕ) (e : Exploration) : Type 0 where
-  pub few : counted_in e.findings ≤ most
-  pub all : e.whole ≡ true → IsExplored K D s e.findings
-  pub part : e.whole ≡ false → IsExploredInPart K D s most e.findings
+  pub few : e.reach ≢ Beyond → counted_in e.findings ≤ most
+  pub all : e.reach ≡ Whole → IsExplored K D s e.findings
+  pub beyond : e.reach ≡ Beyond → IsExploredBeyond K D s e.findings
+  pub part : e.reach ≡ InPart → IsExploredInPart K D s most e.findings

@@ -10,4 +10,6 @@ pub mod Succession
 pub mod Entering
 pub mod Places
 pub mod Text
+pub mod Layers
+pub mod Gathering
 pub mod Agreeing

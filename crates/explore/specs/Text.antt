@@ -1,9 +1,11 @@
 -- What is printed of an exploration (own).
-use Rattle.std.specs.Prelude.{ℕ, ◌+◌, cond, Bool, true, false, List, [], ◌∷◌, ◌++◌, flat_map, decimal, codes, Option, None, Some}
+use Rattle.std.specs.Prelude.{ℕ, ◌+◌, Bool, true, false, List, [], ◌∷◌, ◌++◌, flat_map, decimal, codes, Option, None, Some}
 use Rattle.round.specs.Scenario.{Scenario}
 use Rattle.world.specs.declared.schedule.Repeat.{Repeat}
 use Rattle.world.specs.Chronicle.{verdict_of}
 use Rattle.world.specs.Kind.{Kind, opening}
+use Rattle.explore.specs.declared.exploration.Reach.{Reach}
+use Rattle.explore.specs.declared.exploration.Reach.TheVariants.{Whole, Beyond, InPart}
 use Rattle.explore.specs.Exploring.{Finding, Exploration, counted_in}
 use Rattle.explore.specs.Schedules.{schedule_from}
 
@@ -49,9 +51,11 @@ abbrev pub finding_text : Kind → Scenario → Finding → List ℕ
 finding_text K s f =
     outcome_text f.count (verdict_of s f.decisions).alike (verdict_of s f.decisions).obeyed f.decisions ++ rounds_text 1 (schedule_from K (opening K s) f.example)
 
--- how many orders there are, or that there are more than were counted
-abbrev pub head_text : Bool → ℕ → List ℕ
-head_text whole count = cond whole (codes "orders") (codes "orders more than") ++ further count ++ codes "\n"
+-- how many orders there are, or that there are more than were counted, or than can be
+abbrev pub head_text : Reach → ℕ → List ℕ
+head_text Whole count = codes "orders" ++ further count ++ codes "\n"
+head_text Beyond count = codes "orders more than 18446744073709551614\n"
+head_text InPart count = codes "orders more than" ++ further count ++ codes "\n"
 
 abbrev pub exploration_text : Kind → Scenario → Exploration → List ℕ
-exploration_text K s e = head_text e.whole (counted_in e.findings) ++ flat_map (finding_text K s) e.findings
+exploration_text K s e = head_text e.reach (counted_in e.findings) ++ flat_map (finding_text K s) e.findings

@@ -4,11 +4,22 @@ ghost use Rattle.std.specs.Prelude.{◌≡◌};
 use crate::finding::Finding;
 use std::marker::Model;
 
-/// The outcomes that were found, in the order in which they were found, and whether all orders were visited.
+/// Of how many orders an exploration tells.
+#[derive(Clone, Copy)]
+pub enum Reach {
+    /// Of all, less than 2^64 - 1: there is no other outcome, and the counts are those of all orders.
+    Whole,
+    /// Of all, 2^64 - 1 or more: there is no other outcome, and a count of 2^64 - 1 stands for that or more.
+    Beyond,
+    /// Of some: the outcomes are real, and the counts lower bounds.
+    InPart,
+}
+
+/// The outcomes that were found, in the order in which they were found, and of how many orders they tell.
 #[derive(Drop)]
 pub struct Exploration {
     pub(crate) findings: Vec<Finding>,
-    pub(crate) whole: bool,
+    pub(crate) reach: Reach,
 }
 
 impl Model for Exploration {
@@ -16,7 +27,7 @@ impl Model for Exploration {
 
     ghost Value = { Explored };
 
-    ghost view = { λ e. record { findings = e.findings.items; whole = e.whole } };
+    ghost view = { λ e. record { findings = e.findings.items; reach = e.reach } };
 }
 
 impl Exploration {
@@ -27,10 +38,10 @@ impl Exploration {
         self.findings.as_slice()
     }
 
-    /// Whether all orders were visited: then there is no other outcome, and the counts are those of all orders.
-    pub fn is_whole(&self) -> bool
-        ensures { result ≡ self.now.whole }
+    /// Of how many orders they tell.
+    pub fn reach(&self) -> Reach
+        ensures { result ≡ self.now.reach }
     {
-        self.whole
+        self.reach
     }
 }

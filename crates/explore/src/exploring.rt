@@ -1,7 +1,8 @@
 //! All orders of a campaign, one after another, each played from the start.
-ghost use Rattle.std.specs.Prelude.{◌≡◌, ◌<◌, ◌+◌, ◌^◌, ℕ, All, IfOk, OnOk, MatchOption, true, false, length, slice_index_or, option_map, bytes_eq};
+ghost use Rattle.std.specs.Prelude.{◌≡◌, ◌↔◌, IsTrue, ◌<◌, ◌+◌, ◌-◌, ◌^◌, ℕ, All, IfOk, OnOk, MatchOption, true, false, length, slice_index_or, option_map, bytes_eq};
 ghost use Rattle.explore.specs.Entering.{entered};
 ghost use Rattle.explore.specs.Exploring.{Finding as Found, IsExploration, counted_in};
+ghost use Rattle.explore.specs.Layers.{kept};
 ghost use Rattle.explore.specs.Orders.{order_of};
 ghost use Rattle.explore.specs.Outcomes.{oral_outcome, outcome_in};
 ghost use Rattle.explore.specs.Places.{IsPlaceOf, IsNowhere};
@@ -10,8 +11,10 @@ ghost use Rattle.world.specs.Playing.{lists_in};
 ghost use Rattle.world.specs.KindLists.{replayed};
 ghost use Rattle.world.specs.World.{oral_kind};
 
-use crate::exploration::Exploration;
+use crate::exploration::{Exploration, Reach};
 use crate::finding::Finding;
+use crate::gathering::gather;
+use crate::layers::last_states;
 use crate::order::order_in;
 use crate::succession::next_order;
 use round::Scenario;
@@ -19,12 +22,61 @@ use std::alloc::{AllocError, Global};
 use world::replay;
 
 /// The outcomes of all orders in which the traitors of an oral campaign can come to the board, where these are no more
-/// than `most`; else those of the `most` least orders, and that there are more.
+/// than `most`; else those of the `most` least orders, and that there are more. `u64::MAX` is no limit: then all orders
+/// are counted, however many there are, in time and memory that grow as the number of worlds that are not alike.
 ///
 /// # Errors
 ///
 /// `AllocError` where memory is refused.
 pub fn explore(alloc: Global, scenario: &Scenario, most: u64) -> Result<Exploration, AllocError>
+    ensures { IfOk result (λ exploration. IsExploration oral_kind oral_outcome scenario.now most exploration) }
+{
+    if is_full(most) {
+        return explore_all(alloc, scenario);
+    }
+    explore_least(alloc, scenario, most)
+}
+
+/// Whether it is the greatest number.
+fn is_full(count: u64) -> bool
+    ensures { IsTrue result ↔ (count ≡ 2 ^ 64 - 1) }
+{
+    count == u64::MAX
+}
+
+/// The outcomes of all orders, which are gone through layer by layer.
+fn explore_all(alloc: Global, scenario: &Scenario) -> Result<Exploration, AllocError>
+    ensures { IfOk result (λ exploration. IsExploration oral_kind oral_outcome scenario.now (2 ^ 64 - 1) exploration) }
+{
+    scenario.recall();
+    let states = last_states(alloc, scenario)?;
+    let findings = gather(alloc, states.as_slice())?;
+    let count = most_counted(findings.as_slice());
+    if is_full(count) {
+        return Ok(Exploration {
+            findings,
+            reach: Reach::Beyond,
+        });
+    }
+    Ok(Exploration {
+        findings,
+        reach: Reach::Whole,
+    })
+}
+
+/// How many orders were counted; 2^64 - 1 stands for that or more.
+fn most_counted(findings: &[Finding]) -> u64
+    ensures { result ≡ kept (counted_in findings.now) }
+{
+    let mut count: u64 = 0;
+    for finding in findings {
+        count = count.saturating_add(finding.count());
+    }
+    count
+}
+
+/// The outcomes of the `most` least orders, each of which is played.
+fn explore_least(alloc: Global, scenario: &Scenario, most: u64) -> Result<Exploration, AllocError>
     ensures { IfOk result (λ exploration. IsExploration oral_kind oral_outcome scenario.now most exploration) }
 {
     scenario.recall();
@@ -37,14 +89,14 @@ pub fn explore(alloc: Global, scenario: &Scenario, most: u64) -> Result<Explorat
             None => {
                 return Ok(Exploration {
                     findings,
-                    whole: true,
+                    reach: Reach::Whole,
                 });
             }
         }
     }
     Ok(Exploration {
         findings,
-        whole: false,
+        reach: Reach::InPart,
     })
 }
 
@@ -91,7 +143,7 @@ fn enter(
 }
 
 /// Where these decisions were found first.
-fn place_of(findings: &[Finding], decisions: &[u32]) -> Option<usize>
+pub(crate) fn place_of(findings: &[Finding], decisions: &[u32]) -> Option<usize>
     ensures { MatchOption result (IsNowhere findings.now decisions.now) (λ place. IsPlaceOf findings.now decisions.now place) }
 {
     for (place, finding) in findings.iter().enumerate() {

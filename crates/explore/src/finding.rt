@@ -1,5 +1,6 @@
 //! What explorations find.
 ghost use Rattle.std.specs.Prelude.{◌≡◌, ◌+◌, ◌<◌, ◌^◌, IfOk};
+ghost use Rattle.explore.specs.Layers.{kept};
 ghost use Rattle.world.specs.Playing.{lists_in};
 
 use crate::order::copied;
@@ -41,6 +42,33 @@ impl Finding {
             count: 1,
             example: copied(alloc, order)?,
         })
+    }
+
+    /// Decisions that come about in so many orders so far, of which this is one.
+    ///
+    /// # Errors
+    ///
+    /// `AllocError` where memory is refused.
+    pub(crate) fn of(
+        alloc: Global,
+        decisions: &[u32],
+        count: u64,
+        order: &[Vec<u8>],
+    ) -> Result<Finding, AllocError>
+        ensures { IfOk result (λ finding. finding ≡ record { decisions = decisions.now; count = kept count; example = lists_in order.now }) }
+    {
+        Ok(Finding {
+            decisions: Vec::from_slice(alloc, decisions)?,
+            count,
+            example: copied(alloc, order)?,
+        })
+    }
+
+    /// They come about in so many orders more; more than 2^64 - 1 are not counted.
+    pub(crate) fn count_more(&mut self, ways: u64)
+        ensures { self.new ≡ record self.old { count = kept (self.old.count + ways) } }
+    {
+        self.count = self.count.saturating_add(ways);
     }
 
     /// They come about in one order more.

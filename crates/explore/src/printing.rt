@@ -1,5 +1,6 @@
 //! What is printed of an exploration.
-ghost use Rattle.std.specs.Prelude.{◌≡◌, ◌≤◌, ◌<◌, ◌+◌, ◌^◌, ◌++◌, All, IfOk, OnOk, cond, codes, decimal, flat_map, string_bytes};
+ghost use Rattle.std.specs.Prelude.{◌≡◌, ◌≢◌, ◌≤◌, ◌<◌, ◌+◌, ◌^◌, ◌++◌, All, IfOk, OnOk, codes, decimal, flat_map, string_bytes};
+ghost use Rattle.explore.specs.declared.exploration.Reach.TheVariants.{Whole, Beyond, InPart};
 ghost use Rattle.explore.specs.Exploring.{Exploration as Explored, IsExploration, counted_in};
 ghost use Rattle.explore.specs.Outcomes.{oral_outcome};
 ghost use Rattle.explore.specs.Text.{entry_text, exploration_text, finding_text, further, head_text, line_text, outcome_text, round_text, rounds_text, schedule_text, yes_no, yes_no_none};
@@ -8,7 +9,7 @@ ghost use Rattle.world.specs.Chronicle.{verdict_of};
 ghost use Rattle.world.specs.Kind.{opening};
 ghost use Rattle.world.specs.World.{oral_kind};
 
-use crate::exploration::Exploration;
+use crate::exploration::{Exploration, Reach};
 use crate::exploring::explore;
 use crate::finding::Finding;
 use crate::scheduled::Scheduled;
@@ -185,18 +186,35 @@ fn counted(findings: &[Finding]) -> u64
     findings.iter().map(|finding| finding.count()).sum()
 }
 
-/// The first line.
-fn put_head(out: &mut String, whole: bool, count: u64) -> Result<(), AllocError>
-    ensures { OnOk result (string_bytes out.new ≡ string_bytes out.old ++ head_text whole count) }
+/// How many orders there are, to the end of the line.
+fn put_count(out: &mut String, findings: &[Finding]) -> Result<(), AllocError>
+    requires { counted_in findings.now < 2 ^ 64 }
+    ensures { OnOk result (string_bytes out.new ≡ string_bytes out.old ++ further (counted_in findings.now) ++ codes "\n") }
 {
-    if whole {
-        out.push_str("orders")?;
-    } else {
-        out.push_str("orders more than")?;
-    }
-    put_further(out, count)?;
+    put_further(out, counted(findings))?;
     out.push_str("\n")?;
     Ok(())
+}
+
+/// The first line.
+fn put_head(out: &mut String, reach: Reach, findings: &[Finding]) -> Result<(), AllocError>
+    requires { reach ≢ Beyond → counted_in findings.now < 2 ^ 64 }
+    ensures { OnOk result (string_bytes out.new ≡ string_bytes out.old ++ head_text reach (counted_in findings.now)) }
+{
+    match reach {
+        Reach::Whole => {
+            out.push_str("orders")?;
+            put_count(out, findings)
+        }
+        Reach::Beyond => {
+            out.push_str("orders more than 18446744073709551614\n")?;
+            Ok(())
+        }
+        Reach::InPart => {
+            out.push_str("orders more than")?;
+            put_count(out, findings)
+        }
+    }
 }
 
 /// The lines of all findings.
@@ -221,21 +239,17 @@ fn exploration_text(
     scenario: &Scenario,
     exploration: &Exploration,
 ) -> Result<String, AllocError>
-    requires few { counted_in exploration.now.findings < 2 ^ 64 }
+    requires few { exploration.now.reach ≢ Beyond → counted_in exploration.now.findings < 2 ^ 64 }
     requires walks { All (λ f. AreWalks oral_kind (opening oral_kind scenario.now) f.example) exploration.now.findings }
     ensures { IfOk result (λ text. string_bytes text ≡ exploration_text oral_kind scenario.now exploration.now) }
 {
     let mut out = String::new(alloc);
-    put_head(
-        &mut out,
-        exploration.is_whole(),
-        counted(exploration.findings()),
-    )?;
+    put_head(&mut out, exploration.reach(), exploration.findings())?;
     put_findings(alloc, &mut out, scenario, exploration.findings())?;
     Ok(out)
 }
 
-/// What is printed of all orders of an oral campaign, or of the `most` least ones where there are more.
+/// What is printed of all orders of an oral campaign, or of the `most` least ones where there are more: `u64::MAX` is no limit.
 ///
 /// # Errors
 ///

@@ -11,7 +11,7 @@ use std::alloc::{AllocError, Global};
 use world::{Entries, Part, Plays, Repeat, Schedule, World, parts, wind_up};
 
 /// How many instructions the program of an acting general has, 1 to 4,096; none where nobody acts.
-fn instructions(standing: &[Part], general: u8) -> Option<u16>
+pub(crate) fn instructions(standing: &[Part], general: u8) -> Option<u16>
     ensures same { result ≡ program_length (slice_get standing.now general) }
     ensures few { IfSome result (λ most. most ≤ 4096) }
 {
@@ -24,7 +24,10 @@ fn instructions(standing: &[Part], general: u8) -> Option<u16>
 }
 
 /// A general's steps until he has made one more access; none where he is to make none.
-fn steps_to_access<W: Plays>(world: &mut W, general: u8) -> Result<Option<u16>, AllocError>
+pub(crate) fn steps_to_access<W: Plays>(
+    world: &mut W,
+    general: u8,
+) -> Result<Option<u16>, AllocError>
     ensures { IfOk result (IsStepTo W.kind (W.seen world.old) general (W.seen world.new)) }
 {
     world.campaign().recall();

@@ -8,7 +8,7 @@ use Rattle.scenario.specs.Told.{Tells}
 use Rattle.world.specs.Promises.{AgreeUnderBound}
 use Rattle.world.specs.World.{oral_kind}
 
--- so many orders are played at most: all, where no number is given, since no campaign is played in 2 ^ 64
+-- so many orders are played at most; where no number is given, all are counted
 abbrev pub limit : Option ℕ → ℕ
 limit most = unwrap_or most (2 ^ 64 - 1)
 

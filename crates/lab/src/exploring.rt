@@ -6,7 +6,7 @@ use round::Scenario;
 use std::alloc::{AllocError, Global};
 
 /// What an oral campaign comes to in all orders of its accesses or, where there are more, in the `most` least ones. Without
-/// a number all are played, in time that grows as their number does.
+/// a number all are counted, in time and memory that grow as the number of worlds that are not alike.
 ///
 /// # Errors
 ///

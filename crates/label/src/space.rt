@@ -1,4 +1,5 @@
-use thiserror::Error;
+use std::error::Error;
+use std::fmt;
 
 /// Which labels are ranked: those of a campaign that lack one lieutenant.
 #[derive(Clone, Copy, Debug, PartialEq, Eq)]
@@ -12,12 +13,26 @@ pub struct Space {
 }
 
 /// Why there is no rank or no label.
-#[derive(Clone, Copy, Debug, PartialEq, Eq, Error)]
+#[derive(Clone, Copy, Debug, PartialEq, Eq)]
 pub enum LabelError {
-    /// No label of the space.
-    #[error("L1")]
+    /// L1: no label of the space.
     NotALabel,
-    /// No rank below the number of labels.
-    #[error("L2")]
+    /// L2: no rank below the number of labels.
     Rank,
 }
+
+impl fmt::Display for LabelError {
+    ghost use Rattle.std.specs.Prelude.{Some};
+    ghost use Rattle.label.specs.Telling.{told};
+
+    ghost output = { λ error. Some (told error) };
+
+    fn fmt<W: fmt::Write>(&self, f: &mut fmt::Formatter<W>) -> fmt::Result {
+        f.write_str(match self {
+            LabelError::NotALabel => "L1",
+            LabelError::Rank => "L2",
+        })
+    }
+}
+
+impl Error for LabelError {}

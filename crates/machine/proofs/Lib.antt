@@ -2,3 +2,4 @@ pub mod TurnLemmas
 pub mod AdvanceLemmas
 pub mod RegisterLemmas
 pub mod OperationLemmas
+pub mod Alike

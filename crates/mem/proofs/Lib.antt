@@ -8,3 +8,4 @@ pub mod Kept
 pub mod FirstCell
 pub mod KnownCells
 pub mod LittleWrites
+pub mod Alike

@@ -1,5 +1,5 @@
 //! Numbers and pointers in cells, looked at one by one.
-ghost use Rattle.std.specs.Prelude.{◌≡◌, ◌+◌, ◌≤◌, take, drop};
+ghost use Rattle.std.specs.Prelude.{◌≡◌, ◌+◌, ◌≤◌, ◌↔◌, IsTrue, take, drop};
 ghost use Rattle.insn.specs.Insn.{bytes_of};
 ghost use Rattle.semantics.specs.Memory.{are_pieces, is_same_region};
 ghost use Rattle.mem.specs.Reading.{Reads, is_piece};
@@ -98,4 +98,18 @@ pub fn are_pieces(stack: &Stack, place: usize, region: Region, offset: i32) -> b
         }
     }
     true
+}
+
+/// Whether the same stands in both cells.
+pub fn same_cell(cell: Cell, other: Cell) -> bool
+    ensures { IsTrue result ↔ (cell ≡ other) }
+{
+    match (cell, other) {
+        (Cell::Empty, Cell::Empty) => true,
+        (Cell::Byte(byte), Cell::Byte(second)) => byte == second,
+        (Cell::Piece(piece, region, offset), Cell::Piece(i, second, at)) => {
+            piece == i && region == second && offset == at
+        }
+        _ => false,
+    }
 }

@@ -1,4 +1,4 @@
-ghost use Rattle.std.specs.Prelude.{◌≡◌, ◌+◌, ◌<◌, ◌≤◌, replicate, take, drop, map, length, slice_index_or, IsOk, Ok};
+ghost use Rattle.std.specs.Prelude.{◌≡◌, ◌+◌, ◌<◌, ◌≤◌, ◌↔◌, IsTrue, replicate, take, drop, map, length, slice_index_or, IsOk, Ok};
 ghost use Rattle.word.specs.Bytes.{little_bytes};
 ghost use Rattle.insn.specs.Insn.{bytes_of};
 ghost use Rattle.semantics.specs.Memory.{value_in, overwritten, pieces_of};
@@ -6,7 +6,7 @@ ghost use Rattle.mem.specs.Answers.{IsAnswer};
 ghost use Rattle.mem.specs.Reading.{number_in};
 ghost use Rattle.mem.specs.Layout.{region_of, pieces};
 
-use crate::cells::{are_pieces, read_number, word_at};
+use crate::cells::{are_pieces, read_number, same_cell, word_at};
 use crate::fault::MemoryFault;
 use crate::little::{number_at, put};
 use insn::Size;
@@ -71,6 +71,31 @@ impl Stack {
         ensures { length self.now ≡ 512 }
     {
         let _ = &self.kinds;
+    }
+
+    /// The same stack.
+    pub fn copy(&self) -> Stack
+        ensures { result ≡ self.now }
+    {
+        Stack {
+            kinds: self.kinds,
+            bytes: self.bytes,
+            offsets: self.offsets,
+        }
+    }
+
+    /// Whether the same stands in each cell.
+    pub fn same(&self, other: &Stack) -> bool
+        ensures { IsTrue result ↔ (self.now ≡ other.now) }
+    {
+        self.recall();
+        other.recall();
+        for place in 0..512usize {
+            if !same_cell(self.cell(place), other.cell(place)) {
+                return false;
+            }
+        }
+        true
     }
 
     /// What stands in a cell.

@@ -1,5 +1,5 @@
 //! A traitor's activation with what it runs on.
-ghost use Rattle.std.specs.Prelude.{◌≡◌, ◌<◌, ◌≤◌, List, [], length};
+ghost use Rattle.std.specs.Prelude.{◌≡◌, ◌<◌, ◌≤◌, ◌↔◌, IfOk, IsTrue, List, [], length};
 ghost use Rattle.std.specs.Arc.{arc_value};
 ghost use Rattle.semantics.specs.Outbox.{empty_outbox};
 ghost use Rattle.semantics.specs.Relay.{IsContext};
@@ -10,6 +10,7 @@ ghost use Rattle.round.specs.Told.{WasTold};
 ghost use Rattle.round.specs.Runs.{IsWithin, IsLetter};
 ghost use Rattle.round.specs.Running.{letter_left};
 
+use crate::code::same_code;
 use crate::letter::Letter;
 use crate::scenario::Scenario;
 use crate::seat::Seat;
@@ -18,6 +19,7 @@ use board::Access;
 use machine::Activation;
 use mem::Context;
 use outbox::Outbox;
+use std::alloc::{AllocError, Global};
 use std::marker::Model;
 use std::sync::Arc;
 use verify::Verified;
@@ -81,6 +83,37 @@ impl Running {
             activation,
             over: false,
         }
+    }
+
+    /// The same, kept apart.
+    ///
+    /// # Errors
+    ///
+    /// `AllocError` where memory for its context or its outbox is refused, or the program cannot be shared once more.
+    pub fn copy(&self, alloc: Global) -> Result<Running, AllocError>
+        ensures { IfOk result (λ running. running ≡ self.now) }
+    {
+        Ok(Running {
+            program: self.program.clone()?,
+            context: Vec::from_slice(alloc, self.context.as_slice())?,
+            patience: self.patience,
+            activation: self.activation.twin(alloc)?,
+            over: self.over,
+        })
+    }
+
+    /// Whether they run the same program in the same context, with the same patience, and stand alike.
+    pub fn same(&self, other: &Running) -> bool
+        ensures { IsTrue result ↔ (self.now ≡ other.now) }
+    {
+        self.over == other.over
+            && same_patience(self.patience, other.patience)
+            && self.activation.same(&other.activation)
+            && self.context.as_slice() == other.context.as_slice()
+            && same_code(
+                self.program.program().instructions(),
+                other.program.program().instructions(),
+            )
     }
 
     /// Tells an activation, before its first step, what its general is told as the next round begins, in place of what it
@@ -176,5 +209,16 @@ pub(crate) fn is_reached(patience: Option<u32>, steps: u32) -> bool
     match patience {
         Some(most) => most <= steps,
         None => false,
+    }
+}
+
+/// Whether both have the same patience, or none.
+fn same_patience(patience: Option<u32>, other: Option<u32>) -> bool
+    ensures { IsTrue result ↔ (patience ≡ other) }
+{
+    match (patience, other) {
+        (None, None) => true,
+        (Some(most), Some(second)) => most == second,
+        _ => false,
     }
 }

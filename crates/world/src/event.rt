@@ -1,5 +1,6 @@
 use std::alloc::AllocError;
-use thiserror::Error;
+use std::error::Error;
+use std::fmt;
 
 /// What happens in a campaign.
 #[derive(Clone, Copy, Debug, PartialEq, Eq)]
@@ -13,18 +14,32 @@ pub enum Event {
 }
 
 /// Why an event does not happen.
-#[derive(Clone, Copy, Debug, PartialEq, Eq, Error)]
+#[derive(Clone, Copy, Debug, PartialEq, Eq)]
 pub enum EventError {
-    /// All rounds are closed.
-    #[error("E1")]
+    /// E1: all rounds are closed.
     NotOpen,
-    /// There is no such general, or he is not of that kind: no traitor to tick, or no loyal general to post.
-    #[error("E2")]
+    /// E2: there is no such general, or he is not of that kind: no traitor to tick, or no loyal general to post.
     NoGeneral,
     /// The memory that it takes is refused.
-    #[error("out of memory")]
     Memory,
 }
+
+impl fmt::Display for EventError {
+    ghost use Rattle.std.specs.Prelude.{Some};
+    ghost use Rattle.world.specs.Telling.{told};
+
+    ghost output = { λ error. Some (told error) };
+
+    fn fmt<W: fmt::Write>(&self, f: &mut fmt::Formatter<W>) -> fmt::Result {
+        f.write_str(match self {
+            EventError::NotOpen => "E1",
+            EventError::NoGeneral => "E2",
+            EventError::Memory => "out of memory",
+        })
+    }
+}
+
+impl Error for EventError {}
 
 impl From<AllocError> for EventError {
     ghost use Rattle.std.specs.Prelude.{◌≡◌};

@@ -9,6 +9,7 @@ mod events;
 pub mod judging;
 mod laws;
 pub mod letters;
+mod looking;
 mod outcome;
 mod part;
 pub mod parts;
@@ -29,7 +30,7 @@ pub use laws::{
 };
 pub use part::Part;
 pub use player::{play, replay};
-pub use playing::{play_listed, play_named, wind_up};
+pub use playing::{named_round, play_listed, play_named, play_names, wind_up};
 pub use plays::Plays;
 pub use schedule::{Entries, Repeat, Schedule};
 pub use verdict::Verdict;

@@ -92,7 +92,11 @@ fn tick_to_access<W: Plays>(world: &mut W, general: u32) -> Result<(), AllocErro
 }
 
 /// The accesses of the generals that are named for a round, in their order.
-fn play_names<W: Plays>(world: &mut W, names: &[u8]) -> Result<(), AllocError>
+///
+/// # Errors
+///
+/// `AllocError` where memory is refused. No more is said of the world then than of every world of its kind: let it go.
+pub fn play_names<W: Plays>(world: &mut W, names: &[u8]) -> Result<(), AllocError>
     ensures { OnOk result (W.seen world.new ≡ run W.kind (W.seen world.old) (names_events W.kind (W.seen world.old) names.now)) }
 {
     for general in names {
@@ -176,7 +180,11 @@ fn listed_round<W: Plays>(world: &mut W, line: &[Repeat]) -> Result<(), AllocErr
 }
 
 /// A round by names.
-fn named_round<W: Plays>(world: &mut W, names: &[u8]) -> Result<(), AllocError>
+///
+/// # Errors
+///
+/// `AllocError` where memory is refused. No more is said of the world then than of every world of its kind: let it go.
+pub fn named_round<W: Plays>(world: &mut W, names: &[u8]) -> Result<(), AllocError>
     ensures { OnOk result (W.seen world.new ≡ run W.kind (run W.kind (W.seen world.old) (names_events W.kind (W.seen world.old) names.now)) (wound_up (W.seen world.old).scenario)) }
 {
     play_names(world, names)?;

@@ -1,6 +1,7 @@
 //! What a call came to.
-use anyhow::{Result, bail};
+use anyhow::Result;
 use std::fmt;
+use thiserror::Error;
 
 /// What a call answered.
 #[derive(Drop)]
@@ -34,21 +35,37 @@ impl fmt::Display for Outcome {
     }
 }
 
+/// How what a call was asked again answers differs from what it is to answer.
+#[derive(Clone, Copy, Debug, PartialEq, Eq, Error)]
+pub enum Difference {
+    #[error("asked again, the call does not answer")]
+    NoAnswer,
+    #[error("asked again, the call answers otherwise")]
+    OtherAnswer,
+    #[error("the calls lead to something else")]
+    OtherEnd,
+}
+
 /// What a call comes to that told this, and this when it was asked again.
 ///
 /// # Errors
 ///
 /// That the second answer is none, or another than the first.
 pub fn compared(first: Told, again: Told) -> Result<Outcome> {
+    Ok(asked_again(first, again)?)
+}
+
+/// The same, with what differs.
+fn asked_again(first: Told, again: Told) -> std::result::Result<Outcome, Difference> {
     let Told::Bytes(again) = again else {
-        bail!("asked again, the call does not answer");
+        return Err(Difference::NoAnswer);
     };
     match first {
         Told::Memory => Ok(Outcome::Memory),
         Told::NoThread => Ok(Outcome::NoThread),
         Told::Bytes(first) => {
             if first.as_slice() != again.as_slice() {
-                bail!("asked again, the call answers otherwise");
+                return Err(Difference::OtherAnswer);
             }
             Ok(Outcome::Answered)
         }
@@ -61,12 +78,17 @@ pub fn compared(first: Told, again: Told) -> Result<Outcome> {
 ///
 /// That they led to something else.
 pub fn led(is_refused: bool, first: &[u8], ample: &[u8]) -> Result<Outcome> {
-    if first != ample {
-        bail!("the calls lead to something else");
-    }
+    same_end(first, ample)?;
     Ok(if is_refused {
         Outcome::Memory
     } else {
         Outcome::Answered
     })
+}
+
+fn same_end(first: &[u8], ample: &[u8]) -> std::result::Result<(), Difference> {
+    if first != ample {
+        return Err(Difference::OtherEnd);
+    }
+    Ok(())
 }

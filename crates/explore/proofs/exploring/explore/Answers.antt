@@ -1,28 +1,11 @@
--- From visit to visit, to the last order or to the limit.
-use Rattle.std.proofs.Common.{◌≡◌, true, false, arith}
-use Rattle.explore.proofs.Replaying.{visits_begin, visits_go_on, visits_end, visits_few, visits_cut}
+-- Without a limit, all.
+use Rattle.std.proofs.Common.{ℕ, sym, subst}
+use Rattle.std.specs.Prelude.{IfOk}
+use Rattle.world.specs.World.{oral_kind}
+use Rattle.explore.specs.Exploring.{IsExploration}
+use Rattle.explore.specs.Outcomes.{oral_outcome}
 use Rattle.explore.proofs.exploring.explore.Goals as goal
 
-pub loop-visited-init : goal.loop-visited-init
-loop-visited-init c = visits_begin c.args.scenario.now c.recall.ensures c.new-names.result.items c.new-findings.result.items c.new-names.ensures.items c.new-findings.ensures.items
-
-pub loop-visited-preserved : goal.loop-visited-preserved
-loop-visited-preserved c =
-    visits_go_on c.args.scenario.now c.recall.ensures c.loop-visited.visited c.loop-visited.names.items c.as_slice.result.now c.loop-visited.findings.items c.visit.new.findings.items c.in-Some.next.items
-    c.loop-visited.invariant c.as_slice.ensures.value c.in_ok-next.ensures.entered (rw c.in-Some.is at c.in_ok-next.ensures.next)
-
-pub returns-in-None : goal.returns-in-None
-returns-in-None c = record {
-  few = visits_few c.args.scenario.now c.recall.ensures c.loop-visited.visited c.args.most c.loop-visited.names.items c.as_slice.result.now c.loop-visited.findings.items c.visit.new.findings.items
-      c.loop-visited.invariant c.as_slice.ensures.value c.in_ok-next.ensures.entered (omega arith);
-  all = λ e. visits_end c.args.scenario.now c.recall.ensures c.loop-visited.visited c.loop-visited.names.items c.as_slice.result.now c.loop-visited.findings.items c.visit.new.findings.items
-      c.loop-visited.invariant c.as_slice.ensures.value c.in_ok-next.ensures.entered (rw c.in-None.is at c.in_ok-next.ensures.next);
-  part = λ e. absurd (let f : true ≡ false = e in cc);
-}
-
-pub returns : goal.returns
-returns c = record {
-  few = (let t = (visits_cut c.args.scenario.now c.recall.ensures c.loop-visited.visited c.args.most c.loop-visited.names.items c.loop-visited.findings.items c.loop-visited.invariant (omega arith)).total in omega arith);
-  all = λ e. absurd (let f : false ≡ true = e in cc);
-  part = λ e. visits_cut c.args.scenario.now c.recall.ensures c.loop-visited.visited c.args.most c.loop-visited.names.items c.loop-visited.findings.items c.loop-visited.invariant (omega arith);
-}
+pub returns-then-is_full : goal.returns-then-is_full
+returns-then-is_full c =
+    subst (λ (n : ℕ). IfOk c.explore_all.result (λ e. IsExploration oral_kind oral_outcome c.args.scenario.now n e)) (sym (c.is_full.ensures.0 c.if-is_full.true)) c.explore_all.ensures

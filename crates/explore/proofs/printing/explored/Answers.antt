@@ -4,7 +4,7 @@ use Rattle.explore.proofs.Replaying.{all_walk}
 use Rattle.explore.proofs.printing.explored.Goals as goal
 
 pub exploration_text-requires-clause-few : goal.exploration_text-requires-clause-few
-exploration_text-requires-clause-few c = (let h = c.in_ok-exploration.ensures.few in omega arith)
+exploration_text-requires-clause-few c n = (let h = c.in_ok-exploration.ensures.few n in omega arith)
 
 pub exploration_text-requires-clause-walks : goal.exploration_text-requires-clause-walks
 exploration_text-requires-clause-walks c = all_walk c.args.scenario.now c.recall.ensures c.args.most c.in_ok-exploration.exploration c.in_ok-exploration.ensures

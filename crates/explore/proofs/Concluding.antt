@@ -1,0 +1,208 @@
+-- The findings of the last states are those of all orders.
+use Rattle.std.proofs.Common.{◌≡◌, ℕ, zero, suc, ◌+◌, ◌*◌, ◌-◌, ◌^◌, ◌<◌, ◌≤◌, List, [], ◌∷◌, ◌++◌, length, get_or, Bool, true, false, cond, refl, sym, ap, subst, ◌∙◌, ◌⊎◌, inl, inr, ⊎_elim, arith, All}
+use Rattle.std.specs.Prelude.{sum_by, count_by, bytes_eq}
+use Rattle.std.proofs.Math.Nat.{mul-zero, mul-one}
+use Rattle.std.proofs.lemmas.Slice.Eq.{bytes_eq-Decides}
+use Rattle.std.proofs.lemmas.List.Sums.{sum_by-cons, count_by-le-length}
+use Rattle.round.specs.Letters.{messages}
+use Rattle.round.specs.Scenario.{Scenario, IsScenario}
+use Rattle.world.specs.Chronicle.{decisions}
+use Rattle.world.specs.declared.event.Event.{Event}
+use Rattle.world.specs.Kind.{World, opening, run}
+use Rattle.world.specs.KindLists.{IsComplete, replayed_rounds, names_events, wound_up}
+use Rattle.world.specs.World.{oral_kind}
+use Rattle.world.proofs.Campaigns.{oral_campaigns}
+use Rattle.world.proofs.Moves.{run-append}
+use Rattle.explore.specs.declared.exploration.Reach.TheVariants.{Whole, Beyond, InPart}
+use Rattle.explore.specs.Exploring.{Finding, outcomes_of, counted_in, ways_to, IsReal, IsCappedFinding, IsExplored, IsExploredBeyond, IsExploration}
+use Rattle.explore.specs.Gathering.{IsOfState, tallied, AreGathered}
+use Rattle.explore.specs.Layers.{State, kept, AsKept, IsFreshOf, AreRounds, behind_all, reached, IsCommon, over_rounds, AreLayers}
+use Rattle.explore.specs.Listing.{Has, AreDifferent, orders, most_in_round}
+use Rattle.explore.specs.Orders.{IsFrom, IsOrder, behind, order_of}
+use Rattle.explore.specs.Outcomes.{oral_outcome, outcome_of, outcome_in}
+use Rattle.explore.proofs.Bounded.{orders_are_whole}
+use Rattle.explore.proofs.Branching.{ways_over, orders_over}
+use Rattle.explore.proofs.Deciding.{again, orders_decide}
+use Rattle.explore.proofs.Merging.{messages_alike}
+
+-- decisions are common to alike worlds
+pub decisions_common : (b : List ℕ → ℕ) → IsCommon (λ w. b (oral_outcome w))
+decisions_common b w v alike =
+    let m : messages w.closed ≡ messages v.closed = messages_alike w.closed v.closed alike.closed in
+    λ i. b (decisions (alike.scenario i) (m i))
+
+-- the way of a last state is an order
+rounds_from : (k : ℕ) (rows : List (List ℕ)) (w : World) → AreRounds w rows → length rows ≡ k → IsFrom oral_kind w k rows
+rounds_from zero [] w h e = refl
+rounds_from zero (r ∷ rows) w h e = absurd (omega arith)
+rounds_from (suc k) [] w h e = absurd (omega arith)
+rounds_from (suc k) (r ∷ rows) w h e = (h.0, rounds_from k rows (behind oral_kind w r) h.1 (omega arith))
+
+rounds_run : (k : ℕ) (rows : List (List ℕ)) (w : World) → length rows ≡ k → run oral_kind w (replayed_rounds oral_kind w k rows) ≡ behind_all w rows
+rounds_run zero [] w e = refl
+rounds_run zero (r ∷ rows) w e = absurd (omega arith)
+rounds_run (suc k) [] w e = absurd (omega arith)
+rounds_run (suc k) (r ∷ rows) w e =
+    run-append oral_kind (names_events oral_kind w r ++ wound_up w.scenario) (replayed_rounds oral_kind (behind oral_kind w r) k rows) w ∙ rounds_run k rows (behind oral_kind w r) (omega arith)
+
+-- one for these decisions, and nothing for others
+abbrev pub chosen : List ℕ → List ℕ → ℕ
+chosen ds x = cond (bytes_eq x ds) 1 0
+
+chosen_same : (ds x : List ℕ) → x ≡ ds → chosen ds x ≡ 1
+chosen_same ds x e = ap (λ (b : Bool). cond b 1 0) ((bytes_eq-Decides x ds).1 e)
+
+chosen_other : (ds x : List ℕ) → (x ≡ ds → ⊥) → chosen ds x ≡ 0
+chosen_other ds x never = by (bytes_eq x ds) refl
+  where
+    by : (t : Bool) → bytes_eq x ds ≡ t → chosen ds x ≡ 0
+    by true e = absurd (never ((bytes_eq-Decides x ds).0 e))
+    by false e = ap (λ (b : Bool). cond b 1 0) e
+
+-- a sum for decisions that are not found is nothing
+none_tallied : (ds : List ℕ) (fs : List Finding) → (Has (outcomes_of fs) ds → ⊥) → tallied (chosen ds) fs ≡ 0
+none_tallied ds [] never = refl
+none_tallied ds (f ∷ fs) never =
+    let g : Finding → ℕ = λ x. x.count * chosen ds x.decisions in
+    let a = sum_by-cons g f fs in
+    let b = none_tallied ds fs (λ h. never (inr h)) in
+    let c : chosen ds f.decisions ≡ 0 = chosen_other ds f.decisions (λ e. never (inl e)) in
+    let d : g f ≡ f.count * 0 = ap (λ (n : ℕ). f.count * n) c in
+    let e = mul-zero f.count in
+    omega arith
+
+-- of different findings it is the count of one
+has_at : (fs : List Finding) (k : ℕ) (d : Finding) → k < length fs → Has (outcomes_of fs) (get_or fs k d).decisions
+has_at [] k d lt = absurd (omega arith)
+has_at (f ∷ fs) zero d lt = inl refl
+has_at (f ∷ fs) (suc k) d lt = inr (has_at fs k d (omega arith))
+
+one_tallied : (fs : List Finding) → AreDifferent (outcomes_of fs) → (k : ℕ) (d : Finding) → k < length fs → tallied (chosen (get_or fs k d).decisions) fs ≡ (get_or fs k d).count
+one_tallied [] different k d lt = absurd (omega arith)
+one_tallied (f ∷ fs) different zero d lt =
+    let g : Finding → ℕ = λ x. x.count * chosen f.decisions x.decisions in
+    let a = sum_by-cons g f fs in
+    let b = none_tallied f.decisions fs different.0 in
+    let c : g f ≡ f.count * 1 = ap (λ (n : ℕ). f.count * n) (chosen_same f.decisions f.decisions refl) in
+    let e = mul-one f.count in
+    omega arith
+one_tallied (f ∷ fs) different (suc k) d lt =
+    let ds = (get_or fs k d).decisions in
+    let g : Finding → ℕ = λ x. x.count * chosen ds x.decisions in
+    let a = sum_by-cons g f fs in
+    let b = one_tallied fs different.1 k d (omega arith) in
+    let A : List ℕ → Type 0 = λ l. Has (outcomes_of fs) l in
+    let none : chosen ds f.decisions ≡ 0 = chosen_other ds f.decisions (λ e. different.0 (subst A (sym e) (has_at fs k d (omega arith)))) in
+    let c : g f ≡ f.count * 0 = ap (λ (n : ℕ). f.count * n) none in
+    let e = mul-zero f.count in
+    omega arith
+
+has_tallied : (ds : List ℕ) (fs : List Finding) → 0 < tallied (chosen ds) fs → Has (outcomes_of fs) ds
+has_tallied ds [] lt = absurd (omega arith)
+has_tallied ds (f ∷ fs) lt = by (λ l. has_tallied ds fs l) (bytes_eq f.decisions ds) refl
+  where
+    by : (0 < tallied (chosen ds) fs → Has (outcomes_of fs) ds) → (t : Bool) → bytes_eq f.decisions ds ≡ t → Has (outcomes_of (f ∷ fs)) ds
+    by again true e = inl ((bytes_eq-Decides f.decisions ds).0 e)
+    by again false e =
+        let g : Finding → ℕ = λ x. x.count * chosen ds x.decisions in
+        let a = sum_by-cons g f fs in
+        let c : g f ≡ f.count * 0 = ap (λ (b : Bool). f.count * cond b 1 0) e in
+        let z = mul-zero f.count in
+        inr (again (omega arith))
+
+all_tallied : (fs : List Finding) → tallied (λ ds. 1) fs ≡ counted_in fs
+all_tallied [] = refl
+all_tallied (f ∷ fs) =
+    let a = sum_by-cons (λ (x : Finding). x.count * 1) f fs in
+    let b = sum_by-cons (λ (x : Finding). x.count) f fs in
+    let c = all_tallied fs in
+    let d = mul-one f.count in
+    omega arith
+
+-- an order that leads there counts
+has_ways : (s : Scenario) (ds : List ℕ) (all : List (List (List ℕ))) (order : List (List ℕ)) → Has all order → outcome_of oral_kind oral_outcome s order ≡ ds → 0 < count_by (λ o. bytes_eq (outcome_of oral_kind oral_outcome s o) ds) all
+has_ways s ds [] order h e = absurd h
+has_ways s ds (o ∷ all) order h e =
+    let g : List (List ℕ) → ℕ = λ x. cond (bytes_eq (outcome_of oral_kind oral_outcome s x) ds) 1 0 in
+    let a = sum_by-cons g o all in
+    ⊎_elim
+    (λ (q : o ≡ order). (let one : g o ≡ 1 = chosen_same ds (outcome_of oral_kind oral_outcome s o) (ap (outcome_of oral_kind oral_outcome s) q ∙ e) in omega arith))
+    (λ k. (let r = has_ways s ds all order k e in omega arith)) h
+
+module _ (s : Scenario) (is : IsScenario s) (states : List State) (findings : List Finding) (layers : AreLayers s (suc s.bound) states) (found : AreGathered states findings) where
+  sums_over : (b : List ℕ → ℕ) → AsKept (tallied b findings) (over_rounds (most_in_round s) (suc s.bound) (λ w. b (oral_outcome w)) (opening oral_kind s))
+  sums_over b = found.sums b ∙ layers.weight (λ w. b (oral_outcome w)) (decisions_common b)
+
+  ways_kept : (ds : List ℕ) → AsKept (tallied (chosen ds) findings) (ways_to oral_kind oral_outcome s ds)
+  ways_kept ds = sums_over (chosen ds) ∙ ap kept (sym (ways_over s ds))
+
+  pub total_kept : AsKept (counted_in findings) (length (orders oral_kind s))
+  total_kept = ap kept (sym (all_tallied findings)) ∙ (sums_over (λ ds. 1) ∙ ap kept (sym (orders_over s)))
+
+  real : (f : Finding) → IsOfState states f → f.count ≡ kept (ways_to oral_kind oral_outcome s f.decisions) → IsReal oral_kind oral_outcome s f
+  real f h counts =
+      let fresh : IsFreshOf s (suc s.bound) h.t = (let A : State → Type 0 = λ u. IsFreshOf s (suc s.bound) u in subst A (h.there h.t) (layers.fresh h.place h.t h.inside)) in
+      let st = fresh.state in
+      let from : IsFrom oral_kind (opening oral_kind s) (suc s.bound) h.t.rows = rounds_from (suc s.bound) h.t.rows (opening oral_kind s) st.rounds st.count in
+      let order : IsOrder oral_kind s h.t.rows = ((orders_decide oral_kind oral_campaigns).steps s h.t.rows is).1 from in
+      let there : h.t.world ≡ behind_all (opening oral_kind s) h.t.rows =
+      st.world ∙ ap (λ (names : List ℕ). reached (opening oral_kind s) h.t.rows names) fresh.fresh in
+      let outcome : outcome_of oral_kind oral_outcome s h.t.rows ≡ oral_outcome h.t.world = ap oral_outcome (rounds_run (suc s.bound) h.t.rows (opening oral_kind s) st.count ∙ sym there) in
+      let A : List (List ℕ) → Type 0 = λ o. IsOrder oral_kind s o in
+      let example : IsOrder oral_kind s f.example = subst A (sym h.example) order in
+      let leads : outcome_of oral_kind oral_outcome s f.example ≡ f.decisions = ap (outcome_of oral_kind oral_outcome s) h.example ∙ (outcome ∙ sym h.decisions) in
+      let ways : 0 < ways_to oral_kind oral_outcome s f.decisions = has_ways s f.decisions (orders oral_kind s) f.example (((orders_are_whole oral_kind oral_campaigns).all s f.example is).1 example) leads in
+      record { example = example; outcome = leads; some = omega arith }
+
+  counts_kept : All (λ (f : Finding). f.count ≡ kept (ways_to oral_kind oral_outcome s f.decisions)) findings
+  counts_kept k d lt =
+      let f = get_or findings k d in
+      let few = found.kept_counts k d lt in
+      let one = one_tallied findings found.different k d lt in
+      let w = ways_kept f.decisions in
+      omega arith
+
+  each_capped : All (IsCappedFinding oral_kind oral_outcome s) findings
+  each_capped k d lt = record { real = real (get_or findings k d) (found.of_states k d lt) (counts_kept k d lt); count = counts_kept k d lt }
+
+  none_missed : (events : List Event) → IsComplete oral_kind s events → Has (outcomes_of findings) (outcome_in oral_kind oral_outcome s events)
+  none_missed events c =
+      let order = order_of oral_kind s events in
+      let ds = outcome_in oral_kind oral_outcome s events in
+      let leads : outcome_of oral_kind oral_outcome s order ≡ ds = ap oral_outcome (again oral_kind oral_campaigns s events is c) in
+      let ways : 0 < ways_to oral_kind oral_outcome s ds = has_ways s ds (orders oral_kind s) order (((orders_are_whole oral_kind oral_campaigns).all s order is).1 (events, c, refl)) leads in
+      let w = ways_kept ds in
+      has_tallied ds findings (omega arith)
+
+  pub explored_beyond : kept (counted_in findings) ≡ 2 ^ 64 - 1 → IsExploredBeyond oral_kind oral_outcome s findings
+  explored_beyond e = record { each = each_capped; different = found.different; whole = none_missed; many = (let t = total_kept in omega arith) }
+
+  pub explored_whole : kept (counted_in findings) < 2 ^ 64 - 1 → IsExplored oral_kind oral_outcome s findings
+  explored_whole lt =
+      let t = total_kept in
+      record {
+        each = λ k d l. (let c = each_capped k d l in let f = get_or findings k d in let few : ways_to oral_kind oral_outcome s f.decisions ≤ length (orders oral_kind s) = count_by-le-length (λ o. bytes_eq (outcome_of oral_kind oral_outcome s o) f.decisions) (orders oral_kind s) in record { real = c.real; count = (let n = c.count in omega arith) });
+        different = found.different;
+        whole = none_missed;
+        total = omega arith;
+      }
+
+  pub few_counted : kept (counted_in findings) < 2 ^ 64 - 1 → counted_in findings ≤ 2 ^ 64 - 1
+  few_counted lt = omega arith
+
+  -- so the exploration is one of all orders
+  pub is_beyond : kept (counted_in findings) ≡ 2 ^ 64 - 1 → IsExploration oral_kind oral_outcome s (2 ^ 64 - 1) (record { findings = findings; reach = Beyond })
+  is_beyond h = record {
+    few = λ n. absurd (n refl);
+    all = λ e. absurd (let f : Beyond ≡ Whole = e in cc);
+    beyond = λ e. explored_beyond h;
+    part = λ e. absurd (let f : Beyond ≡ InPart = e in cc);
+  }
+
+  pub is_whole : kept (counted_in findings) < 2 ^ 64 - 1 → IsExploration oral_kind oral_outcome s (2 ^ 64 - 1) (record { findings = findings; reach = Whole })
+  is_whole h = record {
+    few = λ n. few_counted h;
+    all = λ e. explored_whole h;
+    beyond = λ e. absurd (let f : Whole ≡ Beyond = e in cc);
+    part = λ e. absurd (let f : Whole ≡ InPart = e in cc);
+  }

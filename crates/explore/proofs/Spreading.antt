@@ -1,0 +1,268 @@
+-- A layer gives way to the next, state by state and access by access.
+use Rattle.std.proofs.Common.{◌≡◌, ℕ, suc, ◌+◌, ◌*◌, ◌-◌, ◌^◌, ◌<◌, ◌≤◌, List, [], ◌∷◌, ◌++◌, length, take, get_or, Bool, true, false, refl, sym, ap, subst, ◌∙◌, arith, All, Some, length-append}
+use Rattle.std.specs.Prelude.{slice_get, sum_by, ◌||◌}
+use Rattle.std.proofs.Math.Nat.{mul-add, mul-zero, one-mul}
+use Rattle.std.proofs.lemmas.List.{take_more, take_all, get_or_append_left, get_or_push}
+use Rattle.std.proofs.lemmas.List.Sums.{sum_by_push, sum_by_more, sum_by-cons}
+use Rattle.std.proofs.lemmas.List.Elements.{All-weaker, All-nil, All-push}
+use Rattle.round.specs.Scenario.{Scenario, IsScenario}
+use Rattle.world.specs.Kind.{World, opening}
+use Rattle.world.specs.World.{oral_kind}
+use Rattle.explore.specs.Orders.{will_ask, past, behind}
+use Rattle.explore.specs.Listing.{askers, most_in_round}
+use Rattle.explore.specs.Layers.{State, kept, AsKept, IsStateOf, AreStatesOf, IsFreshOf, AreFreshOf, IsEntered, IsPastOf, IsAsked, IsCommon, weighed, weighed_both, stepped, over_round, over_rounds, or_sum, IsExpanded, IsStep, IsRoundOn, AreLayers}
+use Rattle.explore.proofs.Branching.{last_step, next_step, round_common, rounds_common}
+use Rattle.explore.proofs.Reaching.{past_state, closed_state, scenario_is, few_parts, askers_below, asks_more, asks_no_more, all_askers, or_some}
+use Rattle.explore.proofs.Weighing.{as_more, entered_weighs, entered_states, entered_fresh}
+
+-- all of one scenario
+pub states_scenario : (s : Scenario) (k : ℕ) (states : List State) → AreStatesOf s k states → All (λ (u : State). u.world.scenario ≡ s) states
+states_scenario s k states all = All-weaker (IsStateOf s k) (λ (u : State). u.world.scenario ≡ s) (λ u h. scenario_is s k u h) states all
+
+pub fresh_states : (s : Scenario) (k : ℕ) (states : List State) → AreFreshOf s k states → AreStatesOf s k states
+fresh_states s k states all = All-weaker (IsFreshOf s k) (IsStateOf s k) (λ u h. h.state) states all
+
+-- so many generals have been asked
+pub record IsSpread (s : Scenario) (t : State) (n : ℕ) (old new : List State) (asked : Bool) : Type 0 where
+  pub states : (k : ℕ) → IsStateOf s k t → AreStatesOf s k old → AreStatesOf s k new
+  pub weight : (k : ℕ) (f : World → ℕ) → IsStateOf s k t → AreStatesOf s k old → IsCommon f →
+      AsKept (weighed f new) (weighed f old + t.ways * sum_by (λ g. f (past oral_kind t.world g)) (askers_below t.world n))
+  pub none : asked ≡ false → (new ≡ old) × (askers_below t.world n ≡ [])
+  pub some : asked ≡ true → askers_below t.world n ≡ [] → ⊥
+
+pub spread_begins : (s : Scenario) (t : State) (old : List State) → IsSpread s t 0 old old false
+spread_begins s t old = record {
+  states = λ k is all. all;
+  weight = λ k f is all common. (let e : weighed f old ≡ weighed f old + t.ways * 0 = omega arith in ap kept e);
+  none = λ e. (refl, refl);
+  some = λ e. absurd (let c : false ≡ true = e in cc);
+}
+
+end_not_empty : {A : Type 0} (xs : List A) (x : A) → xs ++ x ∷ [] ≡ [] → ⊥
+end_not_empty [] x e = (let c : x ∷ [] ≡ [] = e in cc)
+end_not_empty (y ∷ xs) x e = (let c : y ∷ (xs ++ x ∷ []) ≡ [] = e in cc)
+
+pub spread_none : (s : Scenario) (t : State) (n : ℕ) (old new : List State) (asked : Bool) → IsSpread s t n old new asked → will_ask (slice_get t.world.parts n) ≡ false → IsSpread s t (n + 1) old new asked
+spread_none s t n old new asked h idle =
+    let e : askers_below t.world (n + 1) ≡ askers_below t.world n = asks_no_more t.world n idle in
+    record {
+      states = h.states;
+      weight = λ k f is all common. h.weight k f is all common ∙ ap (λ (l : List ℕ). kept (weighed f old + t.ways * sum_by (λ g. f (past oral_kind t.world g)) l)) (sym e);
+      none = λ a. ((h.none a).0, e ∙ (h.none a).1);
+      some = λ a b. h.some a (sym e ∙ b);
+    }
+
+pub spread_some : (s : Scenario) (t next : State) (n : ℕ) (old mid new : List State) (asked : Bool) → IsSpread s t n old mid asked → IsPastOf t n (Some next) → IsEntered mid next new → IsSpread s t (n + 1) old new true
+spread_some s t next n old mid new asked h past_is entered =
+    let made : State = record { world = past oral_kind t.world n; ways = t.ways; rows = t.rows; names = t.names ++ n ∷ [] } in
+    let e : askers_below t.world (n + 1) ≡ askers_below t.world n ++ n ∷ [] = asks_more t.world n past_is.0 in
+    let of_made : IsEntered mid made new = subst (λ (u : State). IsEntered mid u new) past_is.1 entered in
+    record {
+      states = λ k is all. entered_states s k mid made new of_made (h.states k is all) (past_state s k t is n past_is.0);
+      weight = λ k f is all common.
+          let g : ℕ → ℕ = λ x. f (past oral_kind t.world x) in
+          let one = entered_weighs f mid made new s common of_made (states_scenario s k mid (h.states k is all)) (scenario_is s k made (past_state s k t is n past_is.0)) in
+          let before = as_more (2 ^ 64 - 1) (weighed f mid) (weighed f old + t.ways * sum_by g (askers_below t.world n)) (t.ways * g n) (h.weight k f is all common) in
+          let sum : sum_by g (askers_below t.world (n + 1)) ≡ sum_by g (askers_below t.world n) + g n = ap (sum_by g) e ∙ sum_by_push g (askers_below t.world n) n in
+          let times : t.ways * sum_by g (askers_below t.world (n + 1)) ≡ t.ways * sum_by g (askers_below t.world n) + t.ways * g n = ap (λ (x : ℕ). t.ways * x) sum ∙ mul-add t.ways (sum_by g (askers_below t.world n)) (g n) in
+          let last : weighed f old + t.ways * sum_by g (askers_below t.world n) + t.ways * g n ≡ weighed f old + t.ways * sum_by g (askers_below t.world (n + 1)) = omega arith in
+          one ∙ (before ∙ ap kept last);
+      none = λ a. absurd (let c : true ≡ false = a in cc);
+      some = λ a b. end_not_empty (askers_below t.world n) n (sym e ∙ b);
+    }
+
+pub spread_more : (s : Scenario) (t : State) (n : ℕ) (old mid new : List State) (asked one : Bool) → IsSpread s t n old mid asked → IsAsked t n mid one new → IsSpread s t (n + 1) old new (asked || one)
+spread_more s t n old mid new asked false h (none, same) =
+    by asked (subst (λ (l : List State). IsSpread s t (n + 1) old l asked) (sym same) (spread_none s t n old mid asked h none))
+  where
+    by : (b : Bool) → IsSpread s t (n + 1) old new b → IsSpread s t (n + 1) old new (b || false)
+    by true k = k
+    by false k = k
+spread_more s t n old mid new true true h (next, is, entered) = spread_some s t next n old mid new true h is entered
+spread_more s t n old mid new false true h (next, is, entered) = spread_some s t next n old mid new false h is entered
+
+module _ (s : Scenario) (t : State) (next done new : List State) where
+  -- somebody had an access left
+  pub expanded_on : IsSpread s t s.generals next new true → IsExpanded s t next done new done
+  expanded_on h = record {
+    states = h.states;
+    fresh = λ k is all. all;
+    weight = λ k f h' good is all fresh common common'.
+        let whole : askers_below t.world s.generals ≡ askers t.world = all_askers t.world s.generals (few_parts s k t is good) in
+        let g : ℕ → ℕ = λ x. f (past oral_kind t.world x) in
+        let some : askers t.world ≡ [] → ⊥ = λ e. h.some refl (whole ∙ e) in
+        let sum : stepped f h' t.world ≡ sum_by g (askers_below t.world s.generals) = or_some (askers t.world) (h' (behind oral_kind t.world [])) g some ∙ ap (sum_by g) (sym whole) in
+        let one = as_more (2 ^ 64 - 1) (weighed f new) (weighed f next + t.ways * sum_by g (askers_below t.world s.generals)) (weighed h' done) (h.weight k f is all common) in
+        let times : t.ways * stepped f h' t.world ≡ t.ways * sum_by g (askers_below t.world s.generals) = ap (λ (x : ℕ). t.ways * x) sum in
+        let last : weighed f next + t.ways * sum_by g (askers_below t.world s.generals) + weighed h' done ≡ weighed_both f h' next done + t.ways * stepped f h' t.world = omega arith in
+        one ∙ ap kept last;
+  }
+
+  -- nobody had
+  pub expanded_out : (shut : State) (done_new : List State) → IsSpread s t s.generals next new false → shut ≡ record { world = behind oral_kind t.world []; ways = t.ways; rows = t.rows ++ t.names ∷ []; names = [] } → IsEntered done shut done_new →
+      IsScenario s → IsExpanded s t next done new done_new
+  expanded_out shut done_new h shut_is entered good =
+      let made : State = record { world = behind oral_kind t.world []; ways = t.ways; rows = t.rows ++ t.names ∷ []; names = [] } in
+      let of_made : IsEntered done made done_new = subst (λ (u : State). IsEntered done u done_new) shut_is entered in
+      let same : new ≡ next = (h.none refl).0 in
+      let nobody : (k : ℕ) → IsStateOf s k t → askers t.world ≡ [] = λ k is. sym (all_askers t.world s.generals (few_parts s k t is good)) ∙ (h.none refl).1 in
+      record {
+        states = h.states;
+        fresh = λ k is all. entered_fresh s (suc k) done made done_new of_made all (closed_state s k t is (nobody k is));
+        weight = λ k f h' good' is all fresh common common'.
+            let closed = closed_state s k t is (nobody k is) in
+            let one = entered_weighs h' done made done_new s common' of_made (states_scenario s (suc k) done (fresh_states s (suc k) done fresh)) (scenario_is s (suc k) made closed.state) in
+            let sum : stepped f h' t.world ≡ h' (behind oral_kind t.world []) = ap (λ (l : List ℕ). or_sum l (h' (behind oral_kind t.world [])) (λ g. f (past oral_kind t.world g))) (nobody k is) in
+            let times : t.ways * stepped f h' t.world ≡ t.ways * h' (behind oral_kind t.world []) = ap (λ (x : ℕ). t.ways * x) sum in
+            let first : weighed f new ≡ weighed f next = ap (weighed f) same in
+            let two = as_more (2 ^ 64 - 1) (weighed h' done_new) (weighed h' done + t.ways * h' (behind oral_kind t.world [])) (weighed f new) one in
+            let left : weighed_both f h' new done_new ≡ weighed h' done_new + weighed f new = omega arith in
+            let right : weighed h' done + t.ways * h' (behind oral_kind t.world []) + weighed f new ≡ weighed_both f h' next done + t.ways * stepped f h' t.world = omega arith in
+            ap kept left ∙ (two ∙ ap kept right);
+      }
+
+pub expanded_if : (s : Scenario) (t : State) (n : ℕ) (next done new : List State) (asked : Bool) → n ≡ s.generals → asked ≡ true → IsSpread s t n next new asked → IsExpanded s t next done new done
+expanded_if s t n next done new asked all so h =
+    expanded_on s t next done new (subst (λ (m : ℕ). IsSpread s t m next new true) all (subst (λ (b : Bool). IsSpread s t n next new b) so h))
+
+pub expanded_else : (s : Scenario) (t : State) (n : ℕ) (next done new : List State) (asked : Bool) (shut : State) (done_new : List State) → n ≡ s.generals → asked ≡ false → IsSpread s t n next new asked →
+    shut ≡ record { world = behind oral_kind t.world []; ways = t.ways; rows = t.rows ++ t.names ∷ []; names = [] } → IsEntered done shut done_new → IsScenario s → IsExpanded s t next done new done_new
+expanded_else s t n next done new asked shut done_new all so h is entered good =
+    expanded_out s t next done new shut done_new (subst (λ (m : ℕ). IsSpread s t m next new false) all (subst (λ (b : Bool). IsSpread s t n next new b) so h)) is entered good
+
+-- so many states of the layer have given way
+pub step_begins : (s : Scenario) (layer done next : List State) → next ≡ [] → IsStep s (take 0 layer) next done done
+step_begins s layer done next none = record {
+  states = λ k all. subst (λ (l : List State). AreStatesOf s k l) (sym none) (All-nil (IsStateOf s k));
+  fresh = λ k all fresh. fresh;
+  weight = λ k f h good all fresh common common'. (let e : weighed f next ≡ 0 = ap (weighed f) none in let g : weighed_both f h next done ≡ weighed h done + 0 = omega arith in ap kept g);
+}
+
+split_end : (P : State → Type 0) (xs : List State) (t : State) → All P (xs ++ t ∷ []) → All P xs × P t
+split_end P xs t all =
+    let long = length-append xs (t ∷ []) in (
+      (λ k d lt. subst P (get_or_append_left xs (t ∷ []) d k lt) (all k d (omega arith))),
+      subst P (get_or_push xs t t (length xs) refl) (all (length xs) t (omega arith)),
+    )
+
+all_more : (P : State → Type 0) (layer : List State) (n : ℕ) (t : State) → n < length layer → t ≡ get_or layer n t → All P (take (n + 1) layer) → All P (take n layer) × P t
+all_more P layer n t lt at all =
+    let e : take (n + 1) layer ≡ take n layer ++ t ∷ [] = take_more layer n t lt ∙ ap (λ (u : State). take n layer ++ u ∷ []) (sym at) in
+    split_end P (take n layer) t (subst (λ (l : List State). All P l) e all)
+
+pub step_goes_on : (s : Scenario) (layer next mid done done_mid done_new : List State) (n : ℕ) (t : State) → n < length layer → t ≡ get_or layer n t → IsStep s (take n layer) mid done done_mid → IsExpanded s t mid done_mid next done_new →
+    IsStep s (take (n + 1) layer) next done done_new
+step_goes_on s layer next mid done done_mid done_new n t lt at h x = record {
+  states = λ k all. (let both = all_more (IsStateOf s k) layer n t lt at all in x.states k both.1 (h.states k both.0));
+  fresh = λ k all fresh. (let both = all_more (IsStateOf s k) layer n t lt at all in x.fresh k both.1 (h.fresh k both.0 fresh));
+  weight = λ k f g good all fresh common common'.
+      let both = all_more (IsStateOf s k) layer n t lt at all in
+      let a = h.weight k f g good both.0 fresh common common' in
+      let b = x.weight k f g good both.1 (h.states k both.0) (h.fresh k both.0 fresh) common common' in
+      let c = as_more (2 ^ 64 - 1) (weighed_both f g mid done_mid) (weighed g done + weighed (stepped f g) (take n layer)) (t.ways * stepped f g t.world) a in
+      let w : State → ℕ = λ u. u.ways * stepped f g u.world in
+      let d : weighed (stepped f g) (take (n + 1) layer) ≡ weighed (stepped f g) (take n layer) + t.ways * stepped f g t.world = sum_by_more w layer n t lt ∙ ap (λ (u : State). weighed (stepped f g) (take n layer) + w u) (sym at) in
+      let e : weighed g done + weighed (stepped f g) (take n layer) + t.ways * stepped f g t.world ≡ weighed g done + weighed (stepped f g) (take (n + 1) layer) = omega arith in
+      b ∙ (c ∙ ap kept e);
+}
+
+pub step_ends : (s : Scenario) (layer next done done_new : List State) (n : ℕ) → length layer ≤ n → IsStep s (take n layer) next done done_new → IsStep s layer next done done_new
+step_ends s layer next done done_new n le h = subst (λ (l : List State). IsStep s l next done done_new) (take_all n layer le) h
+
+-- so many accesses of a round are made
+pub record IsUnderWay (s : Scenario) (most made : ℕ) (first layer done : List State) : Type 0 where
+  pub states : (k : ℕ) → AreStatesOf s k first → AreStatesOf s k layer
+  pub fresh : (k : ℕ) → AreStatesOf s k first → AreFreshOf s (suc k) done
+  pub weight : (k : ℕ) (h : World → ℕ) → AreStatesOf s k first → IsCommon h →
+      AsKept (weighed h done + weighed (over_round (most - made) h) layer) (weighed (over_round most h) first)
+
+pub way_begins : (s : Scenario) (most : ℕ) (first done : List State) → done ≡ [] → IsUnderWay s most 0 first first done
+way_begins s most first done none = record {
+  states = λ k all. all;
+  fresh = λ k all. subst (λ (l : List State). AreFreshOf s (suc k) l) (sym none) (All-nil (IsFreshOf s (suc k)));
+  weight = λ k h all common.
+      let e : weighed h done ≡ 0 = ap (weighed h) none in
+      let m : most - 0 ≡ most = omega arith in
+      let f : weighed (over_round (most - 0) h) first ≡ weighed (over_round most h) first = ap (λ (n : ℕ). weighed (over_round n h) first) m in
+      let g : weighed h done + weighed (over_round (most - 0) h) first ≡ weighed (over_round most h) first = omega arith in
+      ap kept g;
+}
+
+weighed_each : (f g : World → ℕ) → ((w : World) → f w ≡ g w) → (states : List State) → weighed f states ≡ weighed g states
+weighed_each f g h states = λ i. sum_by (λ (t : State). t.ways * h t.world i) states
+
+pub way_goes_on : (s : Scenario) (most made : ℕ) (first layer done next done_new : List State) → IsScenario s → made < most → IsUnderWay s most made first layer done → IsStep s layer next done done_new → IsUnderWay s most (made + 1) first next done_new
+way_goes_on s most made first layer done next done_new good lt h x = record {
+  states = λ k all. x.states k (h.states k all);
+  fresh = λ k all. x.fresh k (h.states k all) (h.fresh k all);
+  weight = λ k f all common.
+      let r = most - (made + 1) in
+      let e : most - made ≡ suc r = omega arith in
+      let a = x.weight k (over_round r f) f good (h.states k all) (h.fresh k all) (round_common r f common) common in
+      let b : weighed (stepped (over_round r f) f) layer ≡ weighed (over_round (most - made) f) layer =
+      weighed_each (stepped (over_round r f) f) (over_round (suc r) f) (λ w. sym (next_step r f w)) layer ∙ ap (λ (n : ℕ). weighed (over_round n f) layer) (sym e) in
+      let c : weighed f done_new + weighed (over_round r f) next ≡ weighed_both (over_round r f) f next done_new = omega arith in
+      ap kept c ∙ (a ∙ (ap (λ (n : ℕ). kept (weighed f done + n)) b ∙ h.weight k f all common));
+}
+
+no_weight : (states : List State) → weighed (λ v. 0) states ≡ 0
+no_weight [] = refl
+no_weight (t ∷ states) = (let a = sum_by-cons (λ (u : State). u.ways * 0) t states in let b = no_weight states in let c = mul-zero t.ways in omega arith)
+
+pub way_ends : (s : Scenario) (most made : ℕ) (first layer done next done_new : List State) → most ≤ made → made ≤ most → IsUnderWay s most made first layer done → IsStep s layer next done done_new → IsRoundOn s most first done_new
+way_ends s most made first layer done next done_new le ge h x = record {
+  fresh = λ k all. x.fresh k (h.states k all) (h.fresh k all);
+  weight = λ k f good all common.
+      let e : most - made ≡ 0 = omega arith in
+      let a = x.weight k (λ v. 0) f good (h.states k all) (h.fresh k all) (λ w v alike. refl) common in
+      let none : weighed (λ v. 0) next ≡ 0 = no_weight next in
+      let b : weighed (stepped (λ v. 0) f) layer ≡ weighed (over_round (most - made) f) layer =
+      weighed_each (stepped (λ v. 0) f) (over_round 0 f) (λ w. sym (last_step f w)) layer ∙ ap (λ (n : ℕ). weighed (over_round n f) layer) (sym e) in
+      let c : weighed f done_new ≡ weighed_both (λ v. 0) f next done_new = omega arith in
+      ap kept c ∙ (a ∙ (ap (λ (n : ℕ). kept (weighed f done + n)) b ∙ h.weight k f all common));
+}
+
+-- so many rounds are over
+pub record IsOnRounds (s : Scenario) (rounds made : ℕ) (states : List State) : Type 0 where
+  pub fresh : AreFreshOf s made states
+  pub weight : (h : World → ℕ) → IsCommon h → AsKept (weighed (over_rounds (most_in_round s) (rounds - made) h) states) (over_rounds (most_in_round s) rounds h (opening oral_kind s))
+
+pub rounds_begin : (s : Scenario) (rounds : ℕ) (first : State) (states empty : List State) → first ≡ record { world = opening oral_kind s; ways = 1; rows = []; names = [] } → empty ≡ [] → states ≡ empty ++ first ∷ [] → IsOnRounds s rounds 0 states
+rounds_begin s rounds first states empty first_is none states_are =
+    let t : State = record { world = opening oral_kind s; ways = 1; rows = []; names = [] } in
+    let e : states ≡ t ∷ [] = states_are ∙ (λ i. none i ++ first_is i ∷ []) in
+    let one : IsFreshOf s 0 t = record { state = record { rounds = tt; count = refl; walk = tt; world = refl }; fresh = refl } in
+    record {
+      fresh = subst (λ (l : List State). AreFreshOf s 0 l) (sym e) (All-push (IsFreshOf s 0) [] t (All-nil (IsFreshOf s 0)) one);
+      weight = λ h common.
+          let f = over_rounds (most_in_round s) (rounds - 0) h in
+          let n : rounds - 0 ≡ rounds = omega arith in
+          let a : weighed f states ≡ weighed f (t ∷ []) = ap (weighed f) e in
+          let b : weighed f (t ∷ []) ≡ 1 * f (opening oral_kind s) = (let c = sum_by-cons (λ (u : State). u.ways * f u.world) t [] in let z : weighed f [] ≡ 0 = refl in omega arith) in
+          let d : weighed f states ≡ f (opening oral_kind s) = omega (arith, one-mul (f (opening oral_kind s))) in
+          ap kept (d ∙ ap (λ (m : ℕ). over_rounds (most_in_round s) m h (opening oral_kind s)) n);
+    }
+
+pub rounds_go_on : (s : Scenario) (rounds made most : ℕ) (states new : List State) → IsScenario s → most ≡ most_in_round s → made < rounds → IsOnRounds s rounds made states → IsRoundOn s most states new → IsOnRounds s rounds (made + 1) new
+rounds_go_on s rounds made most states new good most_is lt h x =
+    let one : suc made ≡ made + 1 = omega arith in
+    record {
+      fresh = subst (λ (n : ℕ). AreFreshOf s n new) one (x.fresh made (fresh_states s made states h.fresh));
+      weight = λ f common.
+          let r = rounds - (made + 1) in
+          let e : rounds - made ≡ suc r = omega arith in
+          let m = most_in_round s in
+          let y : IsRoundOn s m states new = subst (λ (n : ℕ). IsRoundOn s n states new) most_is x in
+          let a = y.weight made (over_rounds m r f) good (fresh_states s made states h.fresh) (rounds_common m r f common) in
+          a ∙ (ap (λ (n : ℕ). kept (weighed (over_rounds m n f) states)) (sym e) ∙ h.weight f common);
+    }
+
+pub rounds_end : (s : Scenario) (rounds made : ℕ) (states : List State) → rounds ≡ suc s.bound → rounds ≤ made → made ≤ rounds → IsOnRounds s rounds made states → AreLayers s (suc s.bound) states
+rounds_end s rounds made states count le ge h =
+    let e : made ≡ suc s.bound = omega arith in
+    let n : rounds - made ≡ 0 = omega arith in
+    let m = most_in_round s in
+    record {
+      fresh = subst (λ (k : ℕ). AreFreshOf s k states) e h.fresh;
+      weight = λ f common. ap (λ (k : ℕ). kept (weighed (over_rounds m k f) states)) (sym n) ∙ (h.weight f common ∙ ap (λ (k : ℕ). kept (over_rounds m k f (opening oral_kind s))) count);
+    }

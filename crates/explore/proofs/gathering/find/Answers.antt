@@ -1,0 +1,28 @@
+-- Counted where they were found, or behind all.
+use Rattle.std.proofs.Common.{◌≡◌, ◌∙◌, ◌+◌, ap, subst, refl, List, ℕ}
+use Rattle.world.specs.Playing.{lists_in}
+use Rattle.explore.specs.Exploring.{Finding}
+use Rattle.explore.specs.Layers.{State, kept}
+use Rattle.explore.specs.Outcomes.{oral_outcome}
+use Rattle.explore.specs.Places.{IsPlaceOf, IsNowhere}
+use Rattle.explore.proofs.Collecting.{counts_on, finds_first}
+use Rattle.explore.proofs.gathering.find.Goals as goal
+
+pub returns-in-Some : goal.returns-in-Some
+returns-in-Some c =
+    let ds = c.as_slice-decisions.result.now in
+    let was = c.index_mut.result.now in
+    let same : ds ≡ oral_outcome c.args.state.now.world = c.as_slice-decisions.ensures.value ∙ (c.decisions-outcome.ensures.values ∙ ap (λ (t : State). oral_outcome t.world) c.state.view_is) in
+    let here = subst (λ (l : List Finding). IsPlaceOf l ds c.in-Some.place) c.as_slice.ensures.value c.in-Some.ensures in
+    let made = c.count_more.ensures ∙ ap (λ (n : ℕ). record was { count = kept (was.count + n) }) (ap (λ (t : State). t.ways) c.state.view_is) in
+    counts_on c.args.findings.now.items c.args.state.now ds c.in-Some.place was c.count_more.new.self _ here same c.index_mut.ensures.value made refl
+
+pub returns-in_ok-push-in-None : goal.returns-in_ok-push-in-None
+returns-in_ok-push-in-None c =
+    let ds = c.as_slice-decisions.result.now in
+    let rows = lists_in c.as_slice-in-None.result.now in
+    let same : ds ≡ oral_outcome c.args.state.now.world = c.as_slice-decisions.ensures.value ∙ (c.decisions-outcome.ensures.values ∙ ap (λ (t : State). oral_outcome t.world) c.state.view_is) in
+    let here = subst (λ (l : List Finding). IsNowhere l ds) c.as_slice.ensures.value c.in-None.ensures in
+    let way : rows ≡ c.args.state.now.rows = ap lists_in c.as_slice-in-None.ensures.value ∙ ap (λ (t : State). t.rows) c.state.view_is in
+    let made = c.in_ok-of-in-None.ensures ∙ ap (λ (n : ℕ). record { decisions = ds; count = kept n; example = rows }) (ap (λ (t : State). t.ways) c.state.view_is) in
+    finds_first c.args.findings.now.items c.args.state.now ds c.in_ok-of-in-None.field-0 rows c.push.new.self.items here same way made c.in_ok-push-in-None.ensures.items

@@ -1,0 +1,14 @@
+-- State by state.
+use Rattle.std.proofs.Common.{arith}
+use Rattle.explore.proofs.Collecting.{gather_begins, gather_goes_on, gather_ends}
+use Rattle.explore.proofs.gathering.gather.Goals as goal
+
+pub loop-place-init : goal.loop-place-init
+loop-place-init c = gather_begins c.args.states.now c.new-findings.result.items c.new-findings.ensures.items
+
+pub loop-place-preserved : goal.loop-place-preserved
+loop-place-preserved c =
+    gather_goes_on c.args.states.now c.loop-place.place c.index-states-place.result c.loop-place.findings.items c.find.new.findings.items c.loop-place-test.true c.index-states-place.is c.loop-place.invariant c.in_ok-find.ensures
+
+pub returns : goal.returns
+returns c = gather_ends c.args.states.now c.loop-place.place c.loop-place.findings.items (omega arith) c.loop-place.invariant

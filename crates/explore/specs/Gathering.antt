@@ -1,0 +1,43 @@
+-- The findings of the states in which a campaign can end (own).
+use Rattle.std.specs.Prelude.{ℕ, ◌≡◌, ◌<◌, ◌+◌, ◌*◌, ◌^◌, ◌++◌, List, [], ◌∷◌, All, length, sum_by, slice_index_or, slice_set, ◌⊎◌}
+use Rattle.explore.specs.Exploring.{Finding, outcomes_of}
+use Rattle.explore.specs.Layers.{State, AsKept, kept, weighed}
+use Rattle.explore.specs.Listing.{AreDifferent}
+use Rattle.explore.specs.Outcomes.{oral_outcome}
+use Rattle.explore.specs.Places.{IsPlaceOf, IsNowhere}
+
+-- so many ways more to decisions that were found
+pub record IsCountedOn (findings : List Finding) (t : State) (new : List Finding) : Type 0 where
+  pub place : ℕ
+  pub was : Finding
+  pub here : IsPlaceOf findings (oral_outcome t.world) place
+  pub there : was ≡ slice_index_or findings place was
+  pub counted : new ≡ slice_set findings place (record was { count = kept (was.count + t.ways) })
+
+-- or the first to such decisions
+pub record IsFirstOf (findings : List Finding) (t : State) (new : List Finding) : Type 0 where
+  pub nowhere : IsNowhere findings (oral_outcome t.world)
+  pub found : new ≡ findings ++ record { decisions = oral_outcome t.world; count = kept t.ways; example = t.rows } ∷ []
+
+abbrev pub IsFound : List Finding → State → List Finding → Type 0
+IsFound findings t new = IsCountedOn findings t new ⊎ IsFirstOf findings t new
+
+-- it is the outcome of one of the states, whose way is the example
+pub record IsOfState (states : List State) (f : Finding) : Type 0 where
+  pub t : State
+  pub place : ℕ
+  pub inside : place < length states
+  pub there : (d : State) → slice_index_or states place d ≡ t
+  pub decisions : f.decisions ≡ oral_outcome t.world
+  pub example : f.example ≡ t.rows
+
+-- a number of decisions, summed over the counts
+abbrev pub tallied : (List ℕ → ℕ) → List Finding → ℕ
+tallied b findings = sum_by (λ (f : Finding). f.count * b f.decisions) findings
+
+-- the states' outcomes: no two findings are of one, and the counts are the sums of the ways, as far as they are kept
+pub record AreGathered (states : List State) (findings : List Finding) : Type 0 where
+  pub of_states : All (IsOfState states) findings
+  pub different : AreDifferent (outcomes_of findings)
+  pub kept_counts : All (λ (f : Finding). f.count < 2 ^ 64) findings
+  pub sums : (b : List ℕ → ℕ) → AsKept (tallied b findings) (weighed (λ w. b (oral_outcome w)) states)

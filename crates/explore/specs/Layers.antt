@@ -1,0 +1,139 @@
+-- Beginnings of orders in layers: those that lead to alike worlds are one state (own).
+use Rattle.std.specs.Prelude.{ℕ, zero, suc, ◌≡◌, ◌<◌, ◌+◌, ◌*◌, ◌-◌, ◌^◌, ◌++◌, min, Bool, true, false, List, [], ◌∷◌, All, length, sum_by, slice_get, slice_index_or, slice_set, Option, None, Some, ◌⊎◌}
+use Rattle.round.specs.Scenario.{Scenario, IsScenario}
+use Rattle.world.specs.Kind.{World, opening, run}
+use Rattle.world.specs.KindLists.{names_events}
+use Rattle.world.specs.World.{oral_kind}
+use Rattle.explore.specs.Orders.{will_ask, past, behind, IsRoundFrom}
+use Rattle.explore.specs.Listing.{askers, round_orders, most_in_round}
+use Rattle.explore.specs.Merging.{AreAlike}
+use Rattle.explore.specs.Walks.{IsWalk}
+
+-- a world, in how many ways it or an alike one comes about, and one of these: who made the accesses of its closed rounds, and of the open one
+pub record State : Type 0 where
+  pub world : World
+  pub ways : ℕ
+  pub rows : List (List ℕ)
+  pub names : List ℕ
+
+-- numbers of ways are kept up to 2 ^ 64 - 1
+abbrev pub kept : ℕ → ℕ
+kept n = min n (2 ^ 64 - 1)
+
+-- the same as far as they are kept
+abbrev pub AsKept : ℕ → ℕ → Type 0
+AsKept a b = kept a ≡ kept b
+
+-- the world behind some rounds, and in the next one behind these accesses
+abbrev pub behind_all : World → List (List ℕ) → World
+behind_all w [] = w
+behind_all w (row ∷ rows) = behind_all (behind oral_kind w row) rows
+
+abbrev pub reached : World → List (List ℕ) → List ℕ → World
+reached w rows names = run oral_kind (behind_all w rows) (names_events oral_kind (behind_all w rows) names)
+
+-- each is a whole round
+abbrev pub AreRounds : World → List (List ℕ) → Type 0
+AreRounds w [] = Unit {0}
+AreRounds w (row ∷ rows) = IsRoundFrom oral_kind w row × AreRounds (behind oral_kind w row) rows
+
+-- its world comes about so, in a campaign of which so many rounds are closed
+pub record IsStateOf (s : Scenario) (k : ℕ) (t : State) : Type 0 where
+  pub rounds : AreRounds (opening oral_kind s) t.rows
+  pub count : length t.rows ≡ k
+  pub walk : IsWalk oral_kind (behind_all (opening oral_kind s) t.rows) t.names
+  pub world : t.world ≡ reached (opening oral_kind s) t.rows t.names
+
+abbrev pub AreStatesOf : Scenario → ℕ → List State → Type 0
+AreStatesOf s k states = All (IsStateOf s k) states
+
+-- where a round begins
+pub record IsFreshOf (s : Scenario) (k : ℕ) (t : State) : Type 0 where
+  pub state : IsStateOf s k t
+  pub fresh : t.names ≡ []
+
+abbrev pub AreFreshOf : Scenario → ℕ → List State → Type 0
+AreFreshOf s k states = All (IsFreshOf s k) states
+
+-- a state with an alike world stands there
+abbrev pub IsAlikeAt : List State → State → ℕ → Type 0
+IsAlikeAt states t place =
+    (place < length states) × ((d : State) → (slice_index_or states place d).world.scenario ≡ t.world.scenario → AreAlike (slice_index_or states place d).world t.world)
+
+-- one state more: its ways are added to those of a state with an alike world
+pub record IsJoined (states : List State) (t : State) (new : List State) : Type 0 where
+  pub place : ℕ
+  pub was : State
+  pub inside : place < length states
+  pub there : was ≡ slice_index_or states place was
+  pub alike : was.world.scenario ≡ t.world.scenario → AreAlike was.world t.world
+  pub joined : new ≡ slice_set states place (record was { ways = kept (was.ways + t.ways) })
+
+-- or it stands behind all
+abbrev pub IsEntered : List State → State → List State → Type 0
+IsEntered states t new = IsJoined states t new ⊎ (new ≡ states ++ t ∷ [])
+
+-- a state as a general has made his next access; none where he is to make none
+abbrev pub IsPastOf : State → ℕ → Option State → Type 0
+IsPastOf t g None = will_ask (slice_get t.world.parts g) ≡ false
+IsPastOf t g (Some next) =
+    (will_ask (slice_get t.world.parts g) ≡ true) × (next ≡ record { world = past oral_kind t.world g; ways = t.ways; rows = t.rows; names = t.names ++ g ∷ [] })
+
+-- whether he is to make one, and the states with it
+abbrev pub IsAsked : State → ℕ → List State → Bool → List State → Type 0
+IsAsked t g states true new = (next : State) × IsPastOf t g (Some next) × IsEntered states next new
+IsAsked t g states false new = IsPastOf t g None × (new ≡ states)
+
+-- a number of each world that alike ones have in common
+abbrev pub IsCommon : (World → ℕ) → Type 0
+IsCommon f = (w v : World) → AreAlike w v → f w ≡ f v
+
+-- the sum of it over the ways of states
+abbrev pub weighed : (World → ℕ) → List State → ℕ
+weighed f states = sum_by (λ (t : State). t.ways * f t.world) states
+
+-- what there is where nobody has an access left, else the sum over those who have
+abbrev pub or_sum : List ℕ → ℕ → (ℕ → ℕ) → ℕ
+or_sum [] end f = end
+or_sum (g ∷ gs) end f = sum_by f (g ∷ gs)
+
+-- a number of worlds behind one access more, or behind the round
+abbrev pub stepped : (World → ℕ) → (World → ℕ) → World → ℕ
+stepped f h w = or_sum (askers w) (h (behind oral_kind w [])) (λ g. f (past oral_kind w g))
+
+-- a number of worlds behind the round, summed over the orders in which it can go on with at most so many accesses
+abbrev pub over_round : ℕ → (World → ℕ) → World → ℕ
+over_round most h w = sum_by (λ names. h (behind oral_kind w names)) (round_orders oral_kind most w)
+
+-- so many rounds
+abbrev pub over_rounds : ℕ → ℕ → (World → ℕ) → World → ℕ
+over_rounds most zero h w = h w
+over_rounds most (suc k) h w = over_round most (over_rounds most k h) w
+
+-- the sums of two numbers over two layers, together
+abbrev pub weighed_both : (World → ℕ) → (World → ℕ) → List State → List State → ℕ
+weighed_both f h next done = weighed f next + weighed h done
+
+-- a state gives way to what can come next of it: nothing else changes in any sum
+pub record IsExpanded (s : Scenario) (t : State) (next done next_new done_new : List State) : Type 0 where
+  pub states : (k : ℕ) → IsStateOf s k t → AreStatesOf s k next → AreStatesOf s k next_new
+  pub fresh : (k : ℕ) → IsStateOf s k t → AreFreshOf s (suc k) done → AreFreshOf s (suc k) done_new
+  pub weight : (k : ℕ) (f h : World → ℕ) → IsScenario s → IsStateOf s k t → AreStatesOf s k next → AreFreshOf s (suc k) done → IsCommon f → IsCommon h →
+      AsKept (weighed_both f h next_new done_new) (weighed_both f h next done + t.ways * stepped f h t.world)
+
+-- so do all states of a layer
+pub record IsStep (s : Scenario) (layer next done done_new : List State) : Type 0 where
+  pub states : (k : ℕ) → AreStatesOf s k layer → AreStatesOf s k next
+  pub fresh : (k : ℕ) → AreStatesOf s k layer → AreFreshOf s (suc k) done → AreFreshOf s (suc k) done_new
+  pub weight : (k : ℕ) (f h : World → ℕ) → IsScenario s → AreStatesOf s k layer → AreFreshOf s (suc k) done → IsCommon f → IsCommon h →
+      AsKept (weighed_both f h next done_new) (weighed h done + weighed (stepped f h) layer)
+
+-- a layer's states behind the round
+pub record IsRoundOn (s : Scenario) (most : ℕ) (first done : List State) : Type 0 where
+  pub fresh : (k : ℕ) → AreStatesOf s k first → AreFreshOf s (suc k) done
+  pub weight : (k : ℕ) (h : World → ℕ) → IsScenario s → AreStatesOf s k first → IsCommon h → AsKept (weighed h done) (weighed (over_round most h) first)
+
+-- the states behind so many rounds
+pub record AreLayers (s : Scenario) (k : ℕ) (states : List State) : Type 0 where
+  pub fresh : AreFreshOf s k states
+  pub weight : (h : World → ℕ) → IsCommon h → AsKept (weighed h states) (over_rounds (most_in_round s) k h (opening oral_kind s))

@@ -1,0 +1,99 @@
+//! Whether worlds go on alike.
+ghost use Rattle.std.specs.Prelude.{◌≡◌, ◌↔◌, IsTrue};
+ghost use Rattle.explore.specs.Merging.{AreAlike, RoundsAlike, TellAlike};
+
+use round::{Letter, Round};
+use world::{Part, Plays, World};
+
+/// Whether the letters are of one general and tell the same.
+fn tells_alike(letter: &Letter, other: &Letter) -> bool
+    ensures general { IsTrue result → letter.now.general ≡ other.now.general }
+    ensures outbox { IsTrue result → letter.now.outbox ≡ other.now.outbox }
+{
+    letter.general == other.general && letter.outbox.same(&other.outbox)
+}
+
+/// Whether the letters tell the same, one by one.
+fn tell_alike(letters: &[Letter], others: &[Letter]) -> bool
+    ensures { IsTrue result → TellAlike letters.now others.now }
+{
+    if letters.len() != others.len() {
+        return false;
+    }
+    for place in 0..letters.len() {
+        if !tells_alike(&letters[place], &others[place]) {
+            return false;
+        }
+    }
+    true
+}
+
+/// Whether the rounds have told the same.
+fn rounds_alike(rounds: &[Round], others: &[Round]) -> bool
+    ensures { IsTrue result → RoundsAlike rounds.now others.now }
+{
+    if rounds.len() != others.len() {
+        return false;
+    }
+    for place in 0..rounds.len() {
+        if !tell_alike(rounds[place].letters(), others[place].letters()) {
+            return false;
+        }
+    }
+    true
+}
+
+/// Whether both stand alike in the open round.
+fn same_part(part: &Part, other: &Part) -> bool
+    ensures { IsTrue result ↔ (part.now ≡ other.now) }
+{
+    match part {
+        Part::Acting(running) => match other {
+            Part::Acting(second) => running.same(second),
+            _ => false,
+        },
+        Part::Silent => match other {
+            Part::Silent => true,
+            _ => false,
+        },
+        Part::Posted => match other {
+            Part::Posted => true,
+            _ => false,
+        },
+    }
+}
+
+/// Whether all stand alike in the open round.
+fn same_parts(parts: &[Part], others: &[Part]) -> bool
+    ensures { IsTrue result ↔ (parts.now ≡ others.now) }
+{
+    if parts.len() != others.len() {
+        return false;
+    }
+    for place in 0..parts.len() {
+        if !same_part(&parts[place], &others[place]) {
+            return false;
+        }
+    }
+    true
+}
+
+/// Whether the words are the same.
+fn same_words(words: &[u64; 64], others: &[u64; 64]) -> bool
+    ensures { IsTrue result ↔ (words.now ≡ others.now) }
+{
+    words.as_slice() == others.as_slice()
+}
+
+/// Whether the worlds, of one scenario, have the same words and activations, and their closed rounds have told the same.
+pub(crate) fn are_alike(world: &World, other: &World) -> bool
+    ensures { IsTrue result → world.now.scenario ≡ other.now.scenario → AreAlike world.now other.now }
+{
+    if !same_words(world.words(), other.words()) {
+        return false;
+    }
+    if !same_parts(world.open_parts(), other.open_parts()) {
+        return false;
+    }
+    rounds_alike(world.closed_rounds(), other.closed_rounds())
+}

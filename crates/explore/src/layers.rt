@@ -1,0 +1,243 @@
+//! Orders layer by layer: each layer has one access more, and alike worlds of a layer are one state.
+ghost use Rattle.std.specs.Prelude.{◌≡◌, ◌<◌, ◌≤◌, ◌*◌, ◌++◌, ◌∷◌, ◌||◌, ℕ, [], suc, IfOk, OnOk};
+ghost use Rattle.explore.specs.Layers.{AreLayers, AreStatesOf, IsAsked, IsExpanded, IsPastOf, IsRoundOn, IsStep, reached};
+ghost use Rattle.explore.specs.Listing.{instructions, most_in_round};
+ghost use Rattle.explore.specs.Orders.{behind};
+ghost use Rattle.round.specs.Scenario.{program_of};
+ghost use Rattle.world.specs.Kind.{opening};
+ghost use Rattle.world.specs.Playing.{lists_in};
+ghost use Rattle.world.specs.World.{oral_kind};
+
+use crate::scheduling::{instructions, steps_to_access};
+use crate::state::{State, enter};
+use round::Scenario;
+use std::alloc::{AllocError, Global};
+use world::{Plays, World, named_round, play_names, wind_up};
+
+/// The world in which these made the accesses of the closed rounds, and these those of the open one.
+fn again(
+    alloc: Global,
+    scenario: &Scenario,
+    rows: &[Vec<u8>],
+    names: &[u8],
+) -> Result<World, AllocError>
+    ensures { IfOk result (λ world. world ≡ reached (opening oral_kind scenario.now) (lists_in rows.now) names.now) }
+{
+    let mut world = World::open(alloc, scenario.copy(alloc)?)?;
+    for (round, row) in rows.iter().enumerate() {
+        let _ = round;
+        named_round(&mut world, row.as_slice())?;
+    }
+    play_names(&mut world, names)?;
+    Ok(world)
+}
+
+/// A state as a general has made his next access; none where he is to make none.
+fn past(
+    alloc: Global,
+    scenario: &Scenario,
+    state: &State,
+    general: u8,
+) -> Result<Option<State>, AllocError>
+    requires { state.now.world ≡ reached (opening oral_kind scenario.now) state.now.rows state.now.names }
+    ensures { IfOk result (λ next. IsPastOf state.now general next) }
+{
+    match instructions(state.world.open_parts(), general) {
+        Some(most) => {
+            let _ = most;
+            played_past(alloc, scenario, state, general)
+        }
+        None => Ok(None),
+    }
+}
+
+/// [`past`] of a traitor, whose campaign is played again.
+fn played_past(
+    alloc: Global,
+    scenario: &Scenario,
+    state: &State,
+    general: u8,
+) -> Result<Option<State>, AllocError>
+    requires { state.now.world ≡ reached (opening oral_kind scenario.now) state.now.rows state.now.names }
+    ensures { IfOk result (λ next. IsPastOf state.now general next) }
+{
+    let mut world = again(
+        alloc,
+        scenario,
+        state.rows.as_slice(),
+        state.names.as_slice(),
+    )?;
+    match steps_to_access(&mut world, general)? {
+        Some(steps) => {
+            let _ = steps;
+            let next = state.with_access(alloc, world, general)?;
+            Ok(Some(next))
+        }
+        None => Ok(None),
+    }
+}
+
+/// A state in which nobody has an access left, as the next round begins.
+fn closed(alloc: Global, scenario: &Scenario, state: &State) -> Result<State, AllocError>
+    requires { state.now.world ≡ reached (opening oral_kind scenario.now) state.now.rows state.now.names }
+    ensures { IfOk result (λ next. next ≡ record {
+      world = behind oral_kind state.now.world [];
+      ways = state.now.ways;
+      rows = state.now.rows ++ state.now.names ∷ [];
+      names = [];
+    }) }
+{
+    let mut world = again(
+        alloc,
+        scenario,
+        state.rows.as_slice(),
+        state.names.as_slice(),
+    )?;
+    wind_up(&mut world)?;
+    state.with_round(alloc, world)
+}
+
+/// Enters a state as a general has made his next access, where he is to make one.
+fn ask(
+    alloc: Global,
+    scenario: &Scenario,
+    state: &State,
+    general: u8,
+    next: &mut Vec<State>,
+) -> Result<bool, AllocError>
+    requires { state.now.world ≡ reached (opening oral_kind scenario.now) state.now.rows state.now.names }
+    ensures { IfOk result (λ asked. IsAsked state.now general next.old.items asked next.new.items) }
+{
+    match past(alloc, scenario, state, general)? {
+        Some(more) => {
+            enter(next, more)?;
+            Ok(true)
+        }
+        None => Ok(false),
+    }
+}
+
+/// Whether one of both is so.
+fn either(one: bool, other: bool) -> bool
+    ensures { result ≡ (one || other) }
+{
+    one || other
+}
+
+/// Enters what can come next of a state: it as each of those who have accesses left has made one; where nobody has,
+/// it as the next round begins.
+fn expand(
+    alloc: Global,
+    scenario: &Scenario,
+    state: &State,
+    next: &mut Vec<State>,
+    done: &mut Vec<State>,
+) -> Result<(), AllocError>
+    requires { state.now.world ≡ reached (opening oral_kind scenario.now) state.now.rows state.now.names }
+    ensures { OnOk result (IsExpanded scenario.now state.now next.old.items done.old.items next.new.items done.new.items) }
+{
+    scenario.recall();
+    let mut asked = false;
+    for general in 0..scenario.generals() {
+        let one = ask(alloc, scenario, state, general, next)?;
+        asked = either(asked, one);
+    }
+    if asked {
+        return Ok(());
+    }
+    let shut = closed(alloc, scenario, state)?;
+    enter(done, shut)?;
+    Ok(())
+}
+
+/// The layer behind one; states in which nobody has an access left are entered among those of the next round.
+fn step(
+    alloc: Global,
+    scenario: &Scenario,
+    layer: &[State],
+    done: &mut Vec<State>,
+) -> Result<Vec<State>, AllocError>
+    requires { (k : ℕ) × AreStatesOf scenario.now k layer.now }
+    ensures { IfOk result (λ next. IsStep scenario.now layer.now next.items done.old.items done.new.items) }
+{
+    let mut next = Vec::new(alloc);
+    for (place, state) in layer.iter().enumerate() {
+        let _ = place;
+        expand(alloc, scenario, state, &mut next, done)?;
+    }
+    Ok(next)
+}
+
+/// The states behind a round with at most so many accesses.
+fn whole_round(
+    alloc: Global,
+    scenario: &Scenario,
+    first: Vec<State>,
+    most: u32,
+) -> Result<Vec<State>, AllocError>
+    requires { (k : ℕ) × AreStatesOf scenario.now k first.items }
+    ensures { IfOk result (λ done. IsRoundOn scenario.now most first.items done.items) }
+{
+    scenario.recall();
+    let mut layer = first;
+    let mut done = Vec::new(alloc);
+    for made in 0..most {
+        let _ = made;
+        let next = step(alloc, scenario, layer.as_slice(), &mut done)?;
+        layer = next;
+    }
+    step(alloc, scenario, layer.as_slice(), &mut done)?;
+    Ok(done)
+}
+
+/// How many accesses a round has at most: each general's program has so many instructions.
+fn most_in_round(scenario: &Scenario) -> u32
+    ensures { result ≡ most_in_round scenario.now }
+{
+    let mut sum: u32 = 0;
+    for general in 0..scenario.generals() {
+        sum += instructions_of(scenario, general);
+    }
+    product(u32::from(scenario.generals()), sum)
+}
+
+/// So many times a number.
+fn product(times: u32, number: u32) -> u32
+    requires times { times ≤ 13 }
+    requires number { number ≤ 53248 }
+    ensures { result ≡ times * number }
+{
+    times * number
+}
+
+/// How many instructions a general's program has; 0 where he has none.
+fn instructions_of(scenario: &Scenario, general: u8) -> u32
+    requires { general < scenario.now.generals }
+    ensures count { result ≡ instructions (program_of scenario.now general) }
+    ensures few { result ≤ 4096 }
+{
+    match scenario.seat(general).program() {
+        Some(program) => program.program().len() as u32,
+        None => 0,
+    }
+}
+
+/// The states in which a campaign can end.
+///
+/// # Errors
+///
+/// `AllocError` where memory is refused.
+pub(crate) fn last_states(alloc: Global, scenario: &Scenario) -> Result<Vec<State>, AllocError>
+    ensures { IfOk result (λ states. AreLayers scenario.now (suc scenario.now.bound) states.items) }
+{
+    scenario.recall();
+    let most = most_in_round(scenario);
+    let mut states = Vec::new(alloc);
+    states.push(State::opening(alloc, scenario)?)?;
+    for made in 0..scenario.bound() + 1 {
+        let _ = made;
+        let next = whole_round(alloc, scenario, states, most)?;
+        states = next;
+    }
+    Ok(states)
+}

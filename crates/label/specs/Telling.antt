@@ -1,0 +1,8 @@
+-- What is said of an error.
+use Rattle.std.specs.Prelude.{ℕ, List, codes}
+use Rattle.label.specs.declared.space.LabelError.{LabelError}
+use Rattle.label.specs.declared.space.LabelError.TheVariants.{NotALabel, Rank}
+
+abbrev pub told : LabelError → List ℕ
+told NotALabel = codes "L1"
+told Rank = codes "L2"
