@@ -1,0 +1,20 @@
+-- What may be asked of a survey (own).
+use Rattle.std.specs.Prelude.{◌≤◌, ◌<◌, ◌-◌, ◌^◌, ⊤, IfSome}
+use Rattle.surveyor.specs.declared.asked.Asked.{Asked}
+use Rattle.surveyor.specs.declared.asked.Asked.TheVariants.{Survey as Surveys, Sums}
+use Rattle.surveyor.specs.declared.asked.Survey.{Survey}
+
+-- spans with numbers in them, of 2 to 13 generals; a patience of 1 to 4,096 steps; seeds with one behind the last
+pub record IsSurvey (s : Survey) : Type 0 where
+  pub some : s.generals.low ≤ s.generals.high
+  pub least : 2 ≤ s.generals.low
+  pub most : s.generals.high ≤ 13
+  pub bounds : s.bound.low ≤ s.bound.high
+  pub counts : s.traitors.low ≤ s.traitors.high
+  pub waits : IfSome s.patience (λ steps. (1 ≤ steps) × (steps ≤ 4096))
+  pub ordered : s.first ≤ s.last
+  pub inside : s.last < 2 ^ 64 - 1
+
+abbrev pub IsAsked : Asked → Type 0
+IsAsked (Surveys s) = IsSurvey s
+IsAsked (Sums names) = ⊤

@@ -1,0 +1,57 @@
+//! The family that is asked for.
+ghost use Rattle.std.specs.Prelude.{◌≡◌, IfOk};
+ghost use Rattle.surveyor.specs.Asked.{IsSurvey};
+
+use crate::asked::Survey;
+use crate::telling::Fault;
+use asm::assemble;
+use codec::encode;
+use std::alloc::Global;
+use std::fs::read_to_string;
+use std::io::ErrorKind;
+use survey::{Adversary, Family};
+
+/// The family of a survey. A file of assembly is read for it.
+///
+/// # Errors
+///
+/// The file is not read, or refused.
+pub fn family_of(rt: &HostRuntime, survey: &Survey) -> Result<Family, Fault>
+    requires { IsSurvey survey.now }
+{
+    let adversary = adversary_of(rt, survey.adversary.as_str())?;
+    Ok(Family::new(
+        survey.generals,
+        survey.bound,
+        survey.traitors,
+        survey.manner,
+        survey.patience,
+        adversary,
+    ))
+}
+
+/// What the traitors do whom a word names.
+fn adversary_of(rt: &HostRuntime, word: &str) -> Result<Adversary, Fault> {
+    match word {
+        "lies" => Ok(Adversary::Lies),
+        "silent" => Ok(Adversary::Silent),
+        "collude" => Ok(Adversary::Collude),
+        name => Ok(Adversary::Given(hex_of(rt, name)?)),
+    }
+}
+
+/// The bytecode of a file of assembly, in hex.
+fn hex_of(rt: &HostRuntime, name: &str) -> Result<String, Fault> {
+    let alloc = rt.alloc();
+    let text = match read_to_string(rt, name) {
+        Ok(text) => text,
+        Err(error) if error.kind() == ErrorKind::OutOfMemory => return Err(Fault::Memory),
+        Err(_) => return Err(Fault::Unread(String::from_str(alloc, name)?)),
+    };
+    let program = match assemble(alloc, text.as_str()) {
+        Ok(program) => program,
+        Err(error) => return Err(Fault::Refused(format!(in alloc; "refused {error}")?)),
+    };
+    let bytes = encode(alloc, &program)?;
+    Ok(hex::encode(alloc, bytes.as_slice())?)
+}

@@ -1,0 +1,29 @@
+//! Campaigns that are kept in a folder.
+use crate::telling::Fault;
+use std::fs::{File, rename};
+use std::io::{self, ErrorKind, Write};
+
+/// Writes the campaign of a seed to FOLDER/SEED.toml: beside it first, so that no half of it ever stands there.
+///
+/// # Errors
+///
+/// The file cannot be written.
+pub fn keep(rt: &HostRuntime, folder: &str, seed: u64, text: &str) -> Result<(), Fault> {
+    let alloc = rt.alloc();
+    let name = format!(in alloc; "{folder}/{seed}.toml")?;
+    let beside = format!(in alloc; "{folder}/.{seed}.toml.new")?;
+    match written(rt, beside.as_str(), name.as_str(), text) {
+        Ok(()) => Ok(()),
+        Err(error) if error.kind() == ErrorKind::OutOfMemory => Err(Fault::Memory),
+        Err(_) => Err(Fault::Unwritten(Some(name))),
+    }
+}
+
+/// Writes a file beside its name, and gives it that name.
+fn written(rt: &HostRuntime, beside: &str, name: &str, text: &str) -> io::Result<()> {
+    let mut file = File::create(rt, beside)?;
+    file.write_all(text.as_bytes())?;
+    file.flush()?;
+    drop(file);
+    rename(rt, beside, name)
+}

@@ -1,0 +1,58 @@
+//! `surveyor`, the program behind `byzlab survey`: plays the campaigns that the seeds of a family give, and counts how they
+//! come out.
+#![tactic(auto)]
+
+mod asked;
+mod counts;
+mod family;
+mod keeping;
+mod numbers;
+mod summing;
+mod surveying;
+mod telling;
+
+use asked::{Asked, AskedError, request};
+use std::process::ExitCode;
+use std::thread::Threads;
+use std::{env, io};
+use summing::summed;
+use surveying::surveyed;
+use telling::{Fault, tell};
+
+fn main(rt: HostRuntime) -> ExitCode {
+    let status = match called(&rt, &rt) {
+        Ok(status) => status,
+        Err(fault) => tell(&rt, fault),
+    };
+    ExitCode::from(status)
+}
+
+/// Reads the words, and does what they ask for. The result is the exit status.
+fn called<T: Threads + Sync>(rt: &HostRuntime, threads: &T) -> Result<u8, Fault> {
+    let alloc = rt.alloc();
+    let words: Vec<String> = env::args(rt)?.skip(1).collect(alloc)?;
+    let mut texts: Vec<&str> = Vec::with_capacity(alloc, words.len())?;
+    for word in &words {
+        texts.push(word.as_str())?;
+    }
+    match request(alloc, texts.as_slice()) {
+        Ok(Asked::Survey(survey)) => surveyed(rt, threads, &survey),
+        Ok(Asked::Sums(names)) => summed(rt, names.as_slice()),
+        Err(AskedError::Words(error)) => Ok(unasked(rt, error)?),
+        Err(AskedError::Value(why)) => {
+            let _ = rt.eprintln(format_args!("error: {why}"));
+            Ok(2)
+        }
+        Err(AskedError::Memory) => Err(Fault::Memory),
+    }
+}
+
+/// Prints what `clap` says of words that ask for nothing, help among it. The result is the exit status.
+fn unasked(rt: &HostRuntime, error: clap::Error) -> io::Result<u8> {
+    if error.use_stderr() {
+        let _ = error.print(rt);
+        return Ok(2);
+    }
+    error.print(rt)?;
+    Ok(0)
+}

@@ -1,0 +1,64 @@
+//! Numbers and spans of them, as words say them.
+ghost use Rattle.std.specs.Prelude.{◌≤◌, ◌<◌, ◌-◌, ◌^◌, IfSome};
+
+use survey::Span;
+use text::decimal;
+
+/// A number below the limit.
+fn below(limit: u128, word: &str) -> Option<u64>
+    requires { limit ≤ 2 ^ 64 }
+    ensures { IfSome result (λ number. number < limit) }
+{
+    let number = decimal(word.as_bytes())?;
+    if number < limit {
+        Some(number as u64)
+    } else {
+        None
+    }
+}
+
+/// The first and the last number of `A..B`, or of `A` alone, both of them below the limit.
+fn ends(limit: u128, word: &str) -> Option<(u64, u64)>
+    requires { limit ≤ 2 ^ 64 }
+    ensures ordered { IfSome result (λ r. r.0 ≤ r.1) }
+    ensures inside { IfSome result (λ r. r.1 < limit) }
+{
+    let (low, high) = word.split_once("..").unwrap_or((word, word));
+    let low = below(limit, low)?;
+    let high = below(limit, high)?;
+    if low <= high { Some((low, high)) } else { None }
+}
+
+/// A span of numbers up to 13.
+pub fn span(word: &str) -> Option<Span>
+    ensures ordered { IfSome result (λ s. s.low ≤ s.high) }
+    ensures inside { IfSome result (λ s. s.high < 14) }
+{
+    let (low, high) = ends(14, word)?;
+    Some(Span {
+        low: low as u8,
+        high: high as u8,
+    })
+}
+
+/// A span of seeds, each below 2^64 - 1, and ten millions of them at most.
+pub fn seeds(word: &str) -> Option<(u64, u64)>
+    ensures ordered { IfSome result (λ r. r.0 ≤ r.1) }
+    ensures inside { IfSome result (λ r. r.1 < 2 ^ 64 - 1) }
+{
+    let (first, last) = ends(18_446_744_073_709_551_615, word)?;
+    if last - first < 10_000_000 {
+        Some((first, last))
+    } else {
+        None
+    }
+}
+
+/// For how many steps a traitor is waited for: 1 to 4,096.
+pub fn patience(word: &str) -> Option<u32>
+    ensures least { IfSome result (λ steps. 1 ≤ steps) }
+    ensures most { IfSome result (λ steps. steps ≤ 4096) }
+{
+    let steps = below(4097, word)?;
+    if steps == 0 { None } else { Some(steps as u32) }
+}
