@@ -1,3 +1,2 @@
 mod AccountLaws
 mod ChainLemmas
-mod TreeLemmas

@@ -1,12 +1,9 @@
 //! A campaign as a page of HTML: its scenario, the programs, the picture, the trees, the chronicle and the verdict.
 #![tactic(auto)]
 
-mod accesses;
 mod account;
 mod laws;
-mod schedule;
 mod sections;
-mod tree;
 mod verdict;
 
 pub use account::page_text;

@@ -10,8 +10,6 @@ pub mod layout;
 pub mod shapes;
 mod stroke;
 pub mod svg;
-mod telling;
-mod tellings;
 pub mod words;
 
 pub use facts::strokes;

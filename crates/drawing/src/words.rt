@@ -7,11 +7,7 @@ use crate::places::put_label;
 use std::alloc::AllocError;
 
 /// Adds a label, and what is said of it.
-///
-/// # Errors
-///
-/// No memory for the text.
-pub fn put_said(out: &mut String, node: &Node) -> Result<(), AllocError>
+pub(crate) fn put_said(out: &mut String, node: &Node) -> Result<(), AllocError>
     ensures { OnOk result (string_bytes out.new ≡ string_bytes out.old ++ said node.now) }
 {
     put_label(out, node.label.generals())?;

@@ -7,8 +7,8 @@ use Rattle.retold.specs.Retold.{table_of}
 use Rattle.world.specs.Chronicle.{Chronicle}
 use Rattle.lab.specs.Diagrams.{IsDiagram}
 
-pub is_diagram : (c : Chronicle) (t : MessageTable) (picture : List ℕ) → table_told (table_of c) ≡ Ok t → picture ≡ svg_text t c → IsDiagram c picture
-is_diagram c t picture told is = (t, told, is)
+pub is_diagram : (c : Chronicle) (t : MessageTable) (text picture : List ℕ) → text ≡ table_of c → table_told text ≡ Ok t → picture ≡ svg_text t c → IsDiagram c picture
+is_diagram c t text picture written told is = (t, subst (λ (own : List ℕ). table_told own ≡ Ok t) written told, is)
 
 pub of_same : (c own : Chronicle) (picture : List ℕ) → c ≡ own → IsDiagram c picture → IsDiagram own picture
 of_same c own picture same drawn = subst (λ (x : Chronicle). IsDiagram x picture) same drawn

@@ -225,7 +225,7 @@ answered_paged (Tree file general marked drawing depth folded) files first page 
 answered_paged (Draw scenario (Scheduled listing)) files first page s text are comes by = absurd comes
 answered_paged (Draw scenario (Recorded listing)) files first page s text are comes by = absurd comes
 answered_paged (Page scenario (Scheduled listing) target) files first page s text are comes (schedule, listed, paged) =
-    (first, are, (listed.0, listed.1, (s, comes.0, (schedule, listed.2, subst (λ (own : List ℕ). IsPage own (Some schedule) (played s schedule) page) comes.1 paged))))
+    (first, are, (listed.0, listed.1, (s, comes.0, (schedule, listed.2, subst (λ (own : List ℕ). IsPage own (played s schedule) page) comes.1 paged))))
 answered_paged (Page scenario (Recorded listing) target) files first page s text are comes by = absurd comes
 answered_paged (Retrace scenario chronicle) files first page s text are comes by = absurd comes
 

@@ -83,7 +83,7 @@ IsDrawnAs known s picture = (bytes : List ℕ) × AreSecondBytes known bytes × 
 
 -- the page is that of the campaign, whose scenario this text tells, by the second file's schedule
 abbrev pub IsPagedBy : Option (Option (List ℕ)) → Scenario → List ℕ → List ℕ → Type 0
-IsPagedBy known s text page = (schedule : List (List Repeat)) × IsScheduleOf known schedule × IsPage text (Some schedule) (played s schedule) page
+IsPagedBy known s text page = (schedule : List (List Repeat)) × IsScheduleOf known schedule × IsPage text (played s schedule) page
 
 -- that of the campaign as the second file tells it
 abbrev pub IsPagedAs : Option (Option (List ℕ)) → Scenario → List ℕ → List ℕ → Type 0

@@ -8,8 +8,9 @@ ghost use Rattle.scenario.specs.declared.messages.Campaign.TheVariants.{Oral};
 
 use crate::refusal::Refusal;
 use crate::texts::as_text;
+use book::{TableError, read_table};
 use diagram::campaign_svg;
-use retold::{hearing, told_table};
+use retold::table;
 use round::Scenario;
 use std::alloc::{AllocError, Global};
 use trace::sound_chronicle;
@@ -58,7 +59,11 @@ fn diagram_of(alloc: Global, chronicle: &Chronicle) -> Result<Vec<u8>, AllocErro
     requires { IsWhole chronicle.now }
     ensures { IfOk result (λ picture. IsDiagram chronicle.now picture.items) }
 {
-    let told = hearing(alloc, chronicle)?;
-    let table = told_table(&told, chronicle);
-    Ok(campaign_svg(alloc, &table, chronicle)?.into_bytes())
+    let text = table(alloc, chronicle)?;
+    match read_table(alloc, text.as_str()) {
+        Ok(table) => Ok(campaign_svg(alloc, &table, chronicle)?.into_bytes()),
+        Err(TableError::Memory) => Err(AllocError),
+        // The table is one that `book` reads.
+        Err(TableError::At(_, _)) => unreachable!(),
+    }
 }

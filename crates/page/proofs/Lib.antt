@@ -1,4 +1,2 @@
 mod EncodedLaws
-pub mod NumberLemmas
-mod VisibleLaws
 pub mod PageLaws

@@ -1,3 +1,2 @@
-pub mod Visible
 pub mod Page
 pub mod Laws
