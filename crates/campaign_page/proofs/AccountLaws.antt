@@ -34,15 +34,15 @@ use Rattle.campaign_page.specs.Account.{access_heads, access_row, accesses_headi
 use Rattle.campaign_page.specs.Trees.{item_by, items_below, label_item, node_by, root_told, tree_told}
 use Rattle.campaign_page.specs.Laws.{CampaignPagesAreElements}
 
-all : (f : ℕ → List ℕ) (xs : List ℕ) → ((x : ℕ) → IsContent (f x)) → IsContent (flat_map f xs)
+pub all : (f : ℕ → List ℕ) (xs : List ℕ) → ((x : ℕ) → IsContent (f x)) → IsContent (flat_map f xs)
 all f [] h = text [] no_text
 all f (x ∷ xs) h = joined (f x) (flat_map f xs) (h x) (all f xs h)
 
 -- a heading, and what stands below it
-below : (words parts : List ℕ) → IsContent parts → IsContent (heading words ++ parts)
+pub below : (words parts : List ℕ) → IsContent parts → IsContent (heading words ++ parts)
 below words parts c = joined (heading words) parts (proved_parts_are_content.heading words) c
 
-scenario_content : (words : List ℕ) → IsContent (scenario_part words)
+pub scenario_content : (words : List ℕ) → IsContent (scenario_part words)
 scenario_content words = below scenario_heading (lines words) (proved_parts_are_content.lines words)
 
 course_content : (schedule : Option (List (List Repeat))) → IsContent (course_told schedule)
@@ -57,7 +57,7 @@ program_content : (g : ℕ) (program : Option (List Insn)) → IsContent (progra
 program_content g None = text [] no_text
 program_content g (Some program) = proved_parts_are_content.fold (general_name g) (lines (explained program)) (proved_parts_are_content.lines (explained program))
 
-programs_content : (s : Scenario) → IsContent (programs_part s)
+pub programs_content : (s : Scenario) → IsContent (programs_part s)
 programs_content s =
     below programs_heading (flat_map (program_part s) (range_with_len 0 s.generals)) (all (program_part s) (range_with_len 0 s.generals) (λ g. program_content g (program_of s g)))
 
@@ -128,7 +128,7 @@ rows_content : (accesses : List Access) → IsContent (flat_map access_row acces
 rows_content [] = text [] no_text
 rows_content (a ∷ accesses) = joined (access_row a) (flat_map access_row accesses) (access_content a) (rows_content accesses)
 
-accesses_content : (accesses : List Access) → IsContent (accesses_part accesses)
+pub accesses_content : (accesses : List Access) → IsContent (accesses_part accesses)
 accesses_content [] = text [] no_text
 accesses_content (a ∷ accesses) =
     let rows : List ℕ = access_heads ++ flat_map access_row (a ∷ accesses) in

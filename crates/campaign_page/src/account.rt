@@ -89,7 +89,11 @@ fn title_of(
 }
 
 /// Adds the scenario's text.
-fn put_scenario(out: &mut String, text: &str) -> Result<(), AllocError>
+///
+/// # Errors
+///
+/// No memory for the text.
+pub fn put_scenario(out: &mut String, text: &str) -> Result<(), AllocError>
     ensures { OnOk result (string_bytes out.new ≡ string_bytes out.old ++ scenario_part text.now) }
 {
     put_heading(out, scenario_heading())?;
@@ -131,7 +135,11 @@ fn chronicle_text(alloc: Global, chronicle: &Chronicle) -> Result<String, AllocE
 }
 
 /// The text whose characters have these numbers.
-fn text_of(alloc: Global, bytes: &[u8]) -> Result<String, AllocError>
+///
+/// # Errors
+///
+/// No memory for the text.
+pub fn text_of(alloc: Global, bytes: &[u8]) -> Result<String, AllocError>
     ensures { IfOk result (λ text. string_bytes text ≡ flat_map encode_utf8 bytes.now) }
 {
     let mut text = String::with_capacity(alloc, bytes.len())?;

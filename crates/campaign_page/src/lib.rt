@@ -9,5 +9,7 @@ mod sections;
 mod tree;
 mod verdict;
 
-pub use account::page_text;
+pub use accesses::put_listed;
+pub use account::{page_text, put_scenario, text_of};
 pub use laws::campaign_pages_are_elements;
+pub use sections::put_programs_of;

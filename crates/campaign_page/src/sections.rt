@@ -25,8 +25,23 @@ pub(crate) fn put_programs(
 ) -> Result<(), AllocError>
     ensures { OnOk result (string_bytes out.new ≡ string_bytes out.old ++ programs_part chronicle.now.scenario) }
 {
+    put_programs_of(alloc, out, chronicle.scenario())
+}
+
+/// Adds those of a scenario.
+///
+/// # Errors
+///
+/// No memory for the text.
+pub fn put_programs_of(
+    alloc: Global,
+    out: &mut String,
+    scenario: &Scenario,
+) -> Result<(), AllocError>
+    ensures { OnOk result (string_bytes out.new ≡ string_bytes out.old ++ programs_part scenario.now) }
+{
     put_heading(out, programs_heading())?;
-    put_each_program(alloc, out, chronicle.scenario())
+    put_each_program(alloc, out, scenario)
 }
 
 /// Adds that of each traitor.

@@ -29,7 +29,7 @@ pub same_scenario : (s : Scenario) (events : List Event) → (played s events).s
 same_scenario s events = run_scenario signed_kind events (opening signed_kind s)
 
 -- in a full world the loyal generals' letters are there
-told_in : (s : Scenario) (events : List Event) → IsScenario s → (played s events).full ≡ true → (g : ℕ) → g < s.generals → is_traitor s g ≡ false → Tells signed_kind s (played s events).closed g
+pub told_in : (s : Scenario) (events : List Event) → IsScenario s → (played s events).full ≡ true → (g : ℕ) → g < s.generals → is_traitor s g ≡ false → Tells signed_kind s (played s events).closed g
 told_in s events is full g gn loyal =
     let w = played s events in
     let k = run_kept signed_kind events (opening signed_kind s) (opening_kept signed_kind s is.board) in

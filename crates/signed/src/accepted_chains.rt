@@ -4,7 +4,7 @@ ghost use Rattle.label.specs.Labels.{on};
 ghost use Rattle.signed.specs.Accepted.{came};
 ghost use Rattle.signed.specs.Chains.{orders};
 ghost use Rattle.signed.specs.Entries.{received};
-ghost use Rattle.signed.specs.Explained.{chains_of};
+ghost use Rattle.signed.specs.Explained.{bringing, chains_of};
 ghost use Rattle.signed.specs.Gathered.{gathered, gathered_also};
 ghost use Rattle.signed.specs.Sending.{dispatch_of, lent};
 ghost use Rattle.signed.specs.Sent.{delivered, sent_in};
@@ -72,7 +72,29 @@ fn add_round<'a>(
     Ok(())
 }
 
-/// The chains that bring a general the orders that he accepts, in the order in which he accepts them.
+/// The chains that bring a general the orders that he accepts in the first so many rounds, in the order in which he
+/// accepts them.
+///
+/// # Errors
+///
+/// `AllocError` where memory is refused.
+pub fn bringing_in(
+    alloc: Global,
+    chronicle: &SignedChronicle,
+    rounds: usize,
+    general: u8,
+) -> Result<Vec<&Chain>, AllocError>
+    requires { general < 13 }
+    ensures { IfOk result (λ chains. lent chains.items ≡ bringing chronicle.now.scenario.generals (delivered (sent_in chronicle.now.scenario chronicle.now.letters)) rounds general) }
+{
+    let mut chains = Vec::new(alloc);
+    for round in 0..rounds {
+        add_round(&mut chains, chronicle, round + 1, general)?;
+    }
+    Ok(chains)
+}
+
+/// Those of the whole campaign.
 ///
 /// # Errors
 ///
@@ -85,9 +107,6 @@ pub(crate) fn bringing(
     requires { general < 13 }
     ensures { IfOk result (λ chains. lent chains.items ≡ chains_of chronicle.now general) }
 {
-    let mut chains = Vec::new(alloc);
-    for round in 0..usize::from(chronicle.scenario().bound()) + 1 {
-        add_round(&mut chains, chronicle, round + 1, general)?;
-    }
-    Ok(chains)
+    let rounds = usize::from(chronicle.scenario().bound()) + 1;
+    bringing_in(alloc, chronicle, rounds, general)
 }

@@ -209,8 +209,13 @@ fn all_lieutenants(alloc: Global, chronicle: &SignedChronicle) -> Result<String,
     Ok(lines)
 }
 
-/// The lines of this general, and none where he is no lieutenant.
-fn one_lieutenant(
+/// How this general comes to his decision: the orders that he accepts, with the chain that brought him each first, and
+/// what he decides of them; nothing where he is no lieutenant.
+///
+/// # Errors
+///
+/// `AllocError` where memory is refused.
+pub fn explain_one_signed(
     alloc: Global,
     chronicle: &SignedChronicle,
     general: u8,
@@ -242,7 +247,7 @@ pub fn explain_signed(
 {
     let mut lines = match general {
         None => all_lieutenants(alloc, chronicle)?,
-        Some(one) => one_lieutenant(alloc, chronicle, one)?,
+        Some(one) => explain_one_signed(alloc, chronicle, one)?,
     };
     push_verdict(&mut lines, chronicle.scenario(), chronicle.verdict())?;
     Ok(lines)

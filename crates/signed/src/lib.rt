@@ -23,9 +23,10 @@ mod sets;
 mod signed_world;
 mod signer;
 
+pub use accepted_chains::bringing_in;
 pub use chain::Chain;
 pub use chronicle::SignedChronicle;
-pub use explaining::explain_signed;
+pub use explaining::{explain_one_signed, explain_signed};
 pub use held::Held;
 pub use laws::{
     accepted_orders_decide, chains_are_few, chains_are_unforged, held_chains_are_few,

@@ -2,7 +2,7 @@ use Rattle.std.proofs.Common.{◌≡◌}
 use Rattle.signed.specs.Explained.{bringing}
 use Rattle.signed.specs.Sending.{lent}
 use Rattle.signed.specs.Sent.{delivered, sent_in}
-use Rattle.signed.proofs.accepted_chains.bringing.Given as goal
+use Rattle.signed.proofs.accepted_chains.bringing_in.Given as goal
 
 -- those of the rounds so far
 abbrev pub invariant-loop-round : goal.invariant-loop-round

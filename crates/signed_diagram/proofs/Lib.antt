@@ -1,0 +1,4 @@
+pub mod StrokeLemmas
+pub mod OwedLemmas
+pub mod PictureLaws
+pub mod LoyalLaws

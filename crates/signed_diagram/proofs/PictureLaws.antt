@@ -1,0 +1,220 @@
+-- Pictures are elements of XML.
+use Rattle.std.proofs.Common.{ℕ, ◌+◌, ◌*◌, Bool, true, false, List, [], ◌∷◌, ◌++◌, Option, Some, None, refl}
+use Rattle.std.proofs.lemmas.Bool.{cond_both}
+use Rattle.std.specs.Prelude.{codes, ◌==◌, min}
+use Rattle.std.specs.Fmt.{decimal}
+use Rattle.std.specs.List.{flat_map, range_with_len}
+use Rattle.markup.specs.Grammar.{IsText, no_text, IsContent, text, nested, joined}
+use Rattle.markup.specs.Tags.{element}
+use Rattle.markup.proofs.TextLemmas.{bare_text, decimal_text, text-flat_map}
+use Rattle.board.specs.Board.{Access}
+use Rattle.book.specs.Explained.{dotted}
+use Rattle.round.specs.Scenario.{Scenario}
+use Rattle.world.specs.Chronicle.{Chronicle}
+use Rattle.world.specs.declared.verdict.Verdict.{Verdict}
+use Rattle.diagram.specs.declared.stroke.Stroke.{Stroke}
+use Rattle.diagram.specs.Bands.{accesses_from, lives, round_words}
+use Rattle.diagram.specs.Foot.{alike_words, decided_all, obeyed_words}
+use Rattle.diagram.specs.Layout.{column, fan_top, height, rows_top, top_of, width}
+use Rattle.diagram.specs.Shapes.{line, mark, text_at, title}
+use Rattle.diagram.specs.Svg.{campaign_words, heads, look}
+use Rattle.diagram.specs.Words.{kind, outline}
+use Rattle.diagram.proofs.SvgLaws.{accesses_content, alike_text, all, attributes, bare_tag, campaign_text, decisions_content, fed, feed, group_content, heads_content, kind_text, line_content, lives_content, look_content, many, mark_content, name, numbered, obeyed_text, outline_text, picture_is, round_text, small, stroke_content, svg_tag, text_content, title_content}
+use Rattle.signed.specs.Chains.{Chain}
+use Rattle.signed_diagram.specs.Bands.{band, bands, drawn, inside, row, stroke_line}
+use Rattle.signed_diagram.specs.Foot.{bound_words, foot, verdict_lines}
+use Rattle.signed_diagram.specs.Laws.{SignedDiagramsAreElements}
+use Rattle.signed_diagram.specs.Strokes.{Drawn, bare, strokes_of}
+use Rattle.signed_diagram.specs.Svg.{head, headline, key, signed_svg, signed_words}
+use Rattle.signed_diagram.specs.Words.{chain_words, chains_words, count_words, differs_words, first_words, further_words, lead_words, row_words, sends_words, stroke_words, withheld_words, withholds_words}
+
+-- ---- words
+
+dotted_text : (gs : List ℕ) → IsText (dotted gs)
+dotted_text [] = no_text
+dotted_text (g ∷ gs) =
+    many (decimal g) (flat_map (λ h. codes "." ++ decimal h) gs) (decimal_text g)
+    (text-flat_map (λ h. codes "." ++ decimal h) gs (λ h. numbered (codes ".") h (bare_text (codes ".") refl)))
+
+chain_text : (ch : Chain) → IsText (chain_words ch)
+chain_text ch =
+    many (decimal ch.order ++ codes " signed ") (dotted ch.signers) (many (decimal ch.order) (codes " signed ") (decimal_text ch.order) (bare_text (codes " signed ") refl)) (dotted_text ch.signers)
+
+further_text : (ch : Chain) → IsText (further_words ch)
+further_text ch = many (codes ", ") (chain_words ch) (bare_text (codes ", ") refl) (chain_text ch)
+
+chains_text : (chains : List Chain) → IsText (chains_words chains)
+chains_text [] = no_text
+chains_text (ch ∷ chains) = many (chain_words ch) (flat_map further_words chains) (chain_text ch) (text-flat_map further_words chains further_text)
+
+sends_text : (g p : ℕ) → IsText (sends_words g p)
+unfolding sends_words
+sends_text g p =
+    many (codes "general ") (decimal g ++ (codes " sends general " ++ (decimal p ++ codes ": "))) (bare_text (codes "general ") refl)
+    (many (decimal g) (codes " sends general " ++ (decimal p ++ codes ": ")) (decimal_text g)
+    (many (codes " sends general ") (decimal p ++ codes ": ") (bare_text (codes " sends general ") refl) (many (decimal p) (codes ": ") (decimal_text p) (bare_text (codes ": ") refl))))
+
+withholds_text : (g p : ℕ) → IsText (withholds_words g p)
+unfolding withholds_words
+withholds_text g p =
+    many (codes "general ") (decimal g ++ (codes " does not send general " ++ (decimal p ++ codes ": "))) (bare_text (codes "general ") refl)
+    (many (decimal g) (codes " does not send general " ++ (decimal p ++ codes ": ")) (decimal_text g)
+    (many (codes " does not send general ") (decimal p ++ codes ": ") (bare_text (codes " does not send general ") refl) (many (decimal p) (codes ": ") (decimal_text p) (bare_text (codes ": ") refl))))
+
+lead_text : (g p : ℕ) (told : Option ℕ) → IsText (lead_words g p told)
+lead_text g p None = withholds_text g p
+lead_text g p (Some order) = sends_text g p
+
+differs_text : (differs : Bool) (told : Option ℕ) → IsText (differs_words differs told)
+differs_text false told = no_text
+differs_text true None = bare_text (codes "; a loyal general would") refl
+differs_text true (Some order) = bare_text (codes "; a loyal general would not") refl
+
+stroke_text : (x : Drawn) → IsText (stroke_words x)
+stroke_text x =
+    let st : Stroke = x.stroke in
+    many (lead_words st.teller st.receiver st.told ++ chains_words x.chains) (differs_words st.differs st.told)
+    (many (lead_words st.teller st.receiver st.told) (chains_words x.chains) (lead_text st.teller st.receiver st.told) (chains_text x.chains))
+    (differs_text st.differs st.told)
+
+first_text : (chains : List Chain) → IsText (first_words chains)
+first_text [] = no_text
+first_text (ch ∷ chains) = chain_text ch
+
+count_text : (chains : ℕ) → IsText (count_words chains)
+count_text chains =
+    cond_both (chains == 1) [] (codes ", " ++ decimal chains ++ codes " chains") IsText (λ _. no_text)
+    (λ _. many (codes ", " ++ decimal chains) (codes " chains") (numbered (codes ", ") chains (bare_text (codes ", ") refl)) (bare_text (codes " chains") refl))
+
+withheld_text : (told : Option ℕ) → IsText (withheld_words told)
+withheld_text None = bare_text (codes "not sent: ") refl
+withheld_text (Some order) = no_text
+
+row_text : (x : Drawn) → IsText (row_words x)
+row_text x =
+    many (withheld_words x.stroke.told ++ first_words x.chains) (count_words x.stroke.labels)
+    (many (withheld_words x.stroke.told) (first_words x.chains) (withheld_text x.stroke.told) (first_text x.chains)) (count_text x.stroke.labels)
+
+bound_text : (b : Bool) → IsText (bound_words b)
+bound_text true = bare_text (codes "The bound holds: there are few enough traitors.") refl
+bound_text false = bare_text (codes "The bound does not hold, by too many traitors: no promise.") refl
+
+signed_text : (s : Scenario) → IsText (signed_words s)
+signed_text s =
+    many (campaign_words s.generals s.bound s.commander s.order) (codes "; signed messages") (campaign_text s.generals s.bound s.commander s.order) (bare_text (codes "; signed messages") refl)
+
+-- ---- bands
+
+drawn_content : (n : ℕ) (accesses : List Access) (round : ℕ) (x : Drawn) → IsContent (drawn n accesses round x)
+drawn_content n accesses round x =
+    let st : Stroke = x.stroke in
+    let top : ℕ = fan_top accesses round in
+    let below : ℕ = rows_top n accesses round in
+    let t : List ℕ = title (stroke_words x) in
+    let m : List ℕ = mark (kind st) (outline st) in
+    let w : List ℕ = text_at (codes "small") 12 4 (row_words x) in
+    cond_both (st.round == round) (stroke_line n top x ++ row below x) [] IsContent
+    (λ _. joined (stroke_line n top x) (row below x)
+    (stroke_content (kind st) (min st.labels 5) (column st.teller) top (column st.receiver) (top + 16 + 16 * n + 6 * min st.row 8) (stroke_words x) (kind_text st.differs st.told) (stroke_text x))
+    (group_content (column st.receiver) (below + 12 + 18 * st.row) (t ++ m ++ w)
+    (joined (t ++ m) w (joined t m (title_content (stroke_words x) (stroke_text x)) (mark_content (kind st) (outline st) (kind_text st.differs st.told) (outline_text st.differs st.told)))
+    (text_content (codes "small") 12 4 (row_words x) small (row_text x)))))
+    (λ _. text [] no_text)
+
+rule_content : (wide : ℕ) → IsContent (line (codes "rule") 16 0 wide 0)
+rule_content wide = line_content (codes "rule") 16 0 wide 0 (bare_text (codes "rule") refl)
+
+inside_content : (n : ℕ) (strokes : List Drawn) (accesses : List Access) (wide high r : ℕ) → IsContent (inside n strokes accesses wide high r)
+inside_content n strokes accesses wide high r =
+    let a : List ℕ = line (codes "rule") 16 0 wide 0 in
+    let b : List ℕ = text_at (codes "round") 16 24 (round_words r) in
+    let c : List ℕ = lives n accesses high in
+    let d : List ℕ = accesses_from n accesses r 0 accesses in
+    let e : List ℕ = flat_map (drawn n accesses r) strokes in
+    joined (a ++ b ++ c ++ d) e
+    (joined (a ++ b ++ c) d
+    (joined (a ++ b) c (joined a b (rule_content wide) (text_content (codes "round") 16 24 (round_words r) (bare_text (codes "round") refl) (round_text r))) (lives_content n accesses high))
+    (accesses_content n accesses r 0 accesses))
+    (all (drawn n accesses r) strokes (drawn_content n accesses r))
+
+band_content : (n : ℕ) (strokes : List Drawn) (plain : List Stroke) (accesses : List Access) (wide before : ℕ) → IsContent (band n strokes plain accesses wide before)
+band_content n strokes plain accesses wide before =
+    let high : ℕ = height n plain accesses (before + 1) in
+    group_content 0 (top_of n plain accesses before) (inside n strokes accesses wide high (before + 1)) (inside_content n strokes accesses wide high (before + 1))
+
+-- ---- the foot and the head
+
+verdict_content : (v : Verdict) → IsContent (verdict_lines v)
+verdict_content v =
+    let a : List ℕ = text_at (codes "name") 120 64 (alike_words v.alike) in
+    let b : List ℕ = text_at (codes "name") 120 84 (obeyed_words v.obeyed) in
+    joined (a ++ b) (text_at (codes "name") 120 104 (bound_words v.bound))
+    (joined a b (text_content (codes "name") 120 64 (alike_words v.alike) name (alike_text v.alike)) (text_content (codes "name") 120 84 (obeyed_words v.obeyed) name (obeyed_text v.obeyed)))
+    (text_content (codes "name") 120 104 (bound_words v.bound) name (bound_text v.bound))
+
+foot_content : (c : Chronicle) (wide top : ℕ) → IsContent (foot c wide top)
+foot_content c wide top =
+    let a : List ℕ = line (codes "rule") 16 0 wide 0 in
+    let b : List ℕ = text_at (codes "round") 16 28 (codes "decisions") in
+    let d : List ℕ = decided_all c.scenario c.decisions in
+    group_content 0 top (a ++ b ++ d ++ verdict_lines c.verdict)
+    (joined (a ++ b ++ d) (verdict_lines c.verdict)
+    (joined (a ++ b) d
+    (joined a b (rule_content wide) (text_content (codes "round") 16 28 (codes "decisions") (bare_text (codes "round") refl) (bare_text (codes "decisions") refl)))
+    (decisions_content c.scenario c.decisions))
+    (verdict_content c.verdict))
+
+abbrev key_words : List ℕ
+key_words =
+    codes "A column for each general, and a band for each round, from above. In a band a line leads from "
+    ++ codes "who sends chains to whom he sends them, one line for each order, as wide as it has chains; below "
+    ++ codes "stands in the column of the receiver what he was sent: the order, and who signed it, the commander "
+    ++ codes "first and the sender last. Circle and plain line: a loyal general in place of the sender would send "
+    ++ codes "so. Diamond and dashes: he would not. Cross and dots: he would, and nothing was sent. Above the "
+    ++ codes "lines stand the accesses to the board, in its order. Square: a traitor."
+
+key_content : IsContent key
+unfolding key
+key_content = fed (element (codes "desc") [] key_words) (nested (codes "desc") [] key_words (bare_tag (codes "desc") refl) (text key_words (bare_text key_words refl)))
+
+head_content : (s : Scenario) → IsContent (head s)
+head_content s =
+    let w : List ℕ = signed_words s in
+    let n : List ℕ = campaign_words s.generals s.bound s.commander s.order in
+    joined (title w ++ key ++ look) (headline s) (joined (title w ++ key) look (joined (title w) key (title_content w (signed_text s)) key_content) look_content)
+    (joined (text_at (codes "head") 16 28 n) (text_at (codes "small") 16 44 (codes "signed messages"))
+    (text_content (codes "head") 16 28 n (bare_text (codes "head") refl) (campaign_text s.generals s.bound s.commander s.order))
+    (text_content (codes "small") 16 44 (codes "signed messages") small (bare_text (codes "signed messages") refl)))
+
+-- ---- the whole
+
+pub proved_signed_diagrams_are_elements : SignedDiagramsAreElements
+unfolding signed_svg
+proved_signed_diagrams_are_elements c =
+    let s : Scenario = c.scenario in
+    let strokes : List Drawn = strokes_of c in
+    let plain : List Stroke = bare strokes in
+    let bottom : ℕ = top_of s.generals plain c.accesses (s.bound + 1) in
+    let wide : ℕ = width s.generals c.accesses in
+    let w : ℕ = wide + 16 in
+    let h : ℕ = bottom + 124 in
+    let a : List ℕ = head s in
+    let b : List ℕ = heads s c.accesses in
+    let d : List ℕ = bands s.generals strokes plain c.accesses wide (s.bound + 1) in
+    let e : List ℕ = foot c wide bottom in
+    let parts : List ℕ = a ++ b ++ d ++ e in
+    let is : IsContent parts =
+    joined (a ++ b ++ d) e
+    (joined (a ++ b) d (joined a b (head_content s) (heads_content s c.accesses)) (all (band s.generals strokes plain c.accesses wide) (range_with_len 0 (s.bound + 1)) (band_content s.generals strokes plain c.accesses wide)))
+    (foot_content c wide bottom) in (
+      element (codes "svg") (attributes (decimal w) (decimal h)) (codes "\n" ++ parts),
+      record {
+        name = codes "svg";
+        attributes = attributes (decimal w) (decimal h);
+        content = codes "\n" ++ parts;
+        tag = svg_tag w h;
+        inside = joined (codes "\n") parts feed is;
+        whole = refl;
+      },
+      picture_is w h parts,
+    )

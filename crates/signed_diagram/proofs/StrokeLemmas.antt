@@ -1,0 +1,139 @@
+-- Strokes, one behind another.
+use Rattle.std.proofs.Common.{ℕ, suc, ◌+◌, ◌<◌, ◌≤◌, ◌≡◌, Bool, true, false, not, cond, List, [], ◌∷◌, ◌++◌, map, length, get_or, take, drop, refl, sym, ap, ◌∙◌, append_assoc, append-nil, arith}
+use Rattle.std.specs.Prelude.{filter}
+use Rattle.std.specs.List.{flat_map, range_with_len}
+use Rattle.std.proofs.lemmas.List.{drop_all, drop_more, length-append, map_more, take_all}
+use Rattle.std.proofs.lemmas.List.Elements.{filter_more}
+use Rattle.std.proofs.lemmas.List.Concat.{flat_map-append}
+use Rattle.book.proofs.Gathering.{range_more}
+use Rattle.label.specs.Labels.{on}
+use Rattle.signed.specs.Chains.{Chain, orders}
+use Rattle.signed.specs.Accepted.{firsts}
+use Rattle.signed.specs.Sending.{added_also}
+use Rattle.signed.proofs.Adding.{at_the_end, firsts_alike}
+use Rattle.signed_diagram.specs.Owed.{is_among}
+use Rattle.signed_diagram.specs.Strokes.{Drawn, grouped, numbered, told_between, way}
+
+-- a list for each number, with that of one number more
+pub range_items : {A : Type 0} (f : ℕ → List A) (n : ℕ) (old : List A) → (old ++ flat_map f (range_with_len 0 n)) ++ f n ≡ old ++ flat_map f (range_with_len 0 (n + 1))
+range_items f n old =
+    append_assoc old (flat_map f (range_with_len 0 n)) (f n)
+    ∙ ap (λ xs. old ++ xs)
+    (ap (λ xs. flat_map f (range_with_len 0 n) ++ xs) (sym (append-nil (f n)))
+    ∙ sym (ap (flat_map f) (range_more n) ∙ flat_map-append f (range_with_len 0 n) (n ∷ [])))
+
+-- those that pass a test, with one more
+pub kept_more : {A : Type 0} (f : A → Bool) (b : Bool) (xs old new : List A) (i : ℕ) (x : A) → i < length xs → x ≡ get_or xs i x → b ≡ f x → old ≡ filter f (take i xs) → new ≡ old ++ cond b (x ∷ []) []
+    → new ≡ filter f (take (i + 1) xs)
+kept_more f b xs old new i x inside is e first then =
+    then
+    ∙ (ap (λ ys. ys ++ cond b (x ∷ []) []) first
+    ∙ (ap (λ a. filter f (take i xs) ++ cond a (x ∷ []) []) e ∙ sym (filter_more f xs i x inside ∙ ap (λ y. filter f (take i xs) ++ cond (f y) (y ∷ []) []) (sym is))))
+
+-- one more of a list that is mapped
+pub mapped : {A B : Type 0} (f : A → B) (xs : List A) (now : List B) (i : ℕ) (x : A) → i < length xs → x ≡ get_or xs i x → now ≡ map f (take i xs) → now ++ f x ∷ [] ≡ map f (take (i + 1) xs)
+mapped f xs now i x inside is h = ap (λ ys. ys ++ f x ∷ []) h ∙ sym (map_more f xs i x inside ∙ ap (λ y. map f (take i xs) ++ f y ∷ []) (sym is))
+
+-- ---- rows
+
+numbered_row : (xs : List (ℕ → Drawn)) (a b : ℕ) → a ≡ b → numbered xs a ≡ numbered xs b
+numbered_row xs a b e = ap (numbered xs) e
+
+pub numbered_length : (xs : List (ℕ → Drawn)) (row : ℕ) → length (numbered xs row) ≡ length xs
+numbered_length [] row = refl
+numbered_length (x ∷ xs) row = ap suc (numbered_length xs (suc row))
+
+pub numbered-append : (xs ys : List (ℕ → Drawn)) (row : ℕ) → numbered (xs ++ ys) row ≡ numbered xs row ++ numbered ys (length xs + row)
+numbered-append [] ys row = numbered_row ys row (0 + row) (omega arith)
+numbered-append (x ∷ xs) ys row =
+    ap (λ zs. x row ∷ zs)
+    (numbered-append xs ys (suc row)
+    ∙ ap (λ zs. numbered xs (suc row) ++ zs) (numbered_row ys (length xs + suc row) (suc (length xs) + row) (omega arith)))
+
+-- more behind those that stand there
+pub more : (X Y : List (ℕ → Drawn)) (old mid new : List Drawn) → mid ≡ old ++ numbered X (length old) → new ≡ mid ++ numbered Y (length mid) → new ≡ old ++ numbered (X ++ Y) (length old)
+more X Y old mid new first then =
+    let long : length mid ≡ length X + length old = ap length first ∙ (length-append old (numbered X (length old)) ∙ omega (arith, numbered_length X (length old))) in
+    then
+    ∙ (ap (λ (k : ℕ). mid ++ numbered Y k) long
+    ∙ (ap (λ xs. xs ++ numbered Y (length X + length old)) first
+    ∙ (append_assoc old (numbered X (length old)) (numbered Y (length X + length old)) ∙ ap (λ xs. old ++ xs) (sym (numbered-append X Y (length old))))))
+
+-- in a list of their own
+pub more_own : (X Y : List (ℕ → Drawn)) (old new : List Drawn) → old ≡ numbered X 0 → new ≡ old ++ numbered Y (length old) → new ≡ numbered (X ++ Y) 0
+more_own X Y old new first then = more X Y [] old new first then
+
+pub one_more : (X : List (ℕ → Drawn)) (x : ℕ → Drawn) (start old new : List Drawn) → old ≡ start ++ numbered X (length start) → new ≡ old ++ x (length old) ∷ [] → new ≡ start ++ numbered (X ++ x ∷ []) (length start)
+one_more X x start old new first then = more X (x ∷ []) start old new first then
+
+-- ---- orders
+
+seen_first : (seen : List ℕ) (x : Chain) (rest : List Chain) (b : Bool) → on seen x.order ≡ b →
+    seen ++ orders (cond b (firsts seen rest) (x ∷ firsts (x.order ∷ seen) rest))
+    ≡ cond b (seen ++ orders (firsts seen rest)) ((seen ++ x.order ∷ []) ++ orders (firsts (seen ++ x.order ∷ []) rest))
+seen_first seen x rest true e = refl
+seen_first seen x rest false e =
+    sym (append_assoc seen (x.order ∷ []) (orders (firsts (seen ++ x.order ∷ []) rest))
+    ∙ ap (λ (ys : List Chain). seen ++ x.order ∷ orders ys) (firsts_alike (seen ++ x.order ∷ []) (x.order ∷ seen) rest (λ v. at_the_end seen x.order v)))
+
+-- one more chain, which brings an order that was there, or that was not
+pub order_there : (chains : List Chain) (i : ℕ) (x : Chain) (seen whole : List ℕ) → i < length chains → x ≡ get_or chains i x → on seen x.order ≡ true
+    → seen ++ orders (firsts seen (drop i chains)) ≡ whole → seen ++ orders (firsts seen (drop (i + 1) chains)) ≡ whole
+order_there chains i x seen whole inside is there so =
+    let rest : List Chain = drop (i + 1) chains in
+    let left : drop i chains ≡ x ∷ rest = drop_more chains i x inside ∙ ap (λ y. y ∷ rest) (sym is) in
+    sym (ap (λ ys. seen ++ orders (firsts seen ys)) left
+    ∙ (seen_first seen x rest (on seen x.order) refl ∙ ap (λ b. cond b (seen ++ orders (firsts seen rest)) ((seen ++ x.order ∷ []) ++ orders (firsts (seen ++ x.order ∷ []) rest))) there))
+    ∙ so
+
+pub order_new : (chains : List Chain) (i : ℕ) (x : Chain) (seen whole : List ℕ) → i < length chains → x ≡ get_or chains i x → on seen x.order ≡ false
+    → seen ++ orders (firsts seen (drop i chains)) ≡ whole → (seen ++ x.order ∷ []) ++ orders (firsts (seen ++ x.order ∷ []) (drop (i + 1) chains)) ≡ whole
+order_new chains i x seen whole inside is new so =
+    let rest : List Chain = drop (i + 1) chains in
+    let left : drop i chains ≡ x ∷ rest = drop_more chains i x inside ∙ ap (λ y. y ∷ rest) (sym is) in
+    sym (ap (λ ys. seen ++ orders (firsts seen ys)) left
+    ∙ (seen_first seen x rest (on seen x.order) refl ∙ ap (λ b. cond b (seen ++ orders (firsts seen rest)) ((seen ++ x.order ∷ []) ++ orders (firsts (seen ++ x.order ∷ []) rest))) new))
+    ∙ so
+
+pub orders_all : (chains : List Chain) (i : ℕ) (seen whole : List ℕ) → length chains ≤ i → seen ++ orders (firsts seen (drop i chains)) ≡ whole → seen ≡ whole
+orders_all chains i seen whole past so = sym (append-nil seen) ∙ (ap (λ ys. seen ++ orders (firsts seen ys)) (sym (drop_all i chains past)) ∙ so)
+
+pub order_more : (chains : List Chain) (i : ℕ) (x : Chain) (seen new whole : List ℕ) → i < length chains → x ≡ get_or chains i x → new ≡ added_also seen x.order
+    → seen ++ orders (firsts seen (drop i chains)) ≡ whole → new ++ orders (firsts new (drop (i + 1) chains)) ≡ whole
+order_more chains i x seen new whole inside is then so = by_case (on seen x.order) refl then
+  where
+    by_case : (b : Bool) → on seen x.order ≡ b → new ≡ cond b seen (seen ++ x.order ∷ []) → new ++ orders (firsts new (drop (i + 1) chains)) ≡ whole
+    by_case true there e = ap (λ ys. ys ++ orders (firsts ys (drop (i + 1) chains))) e ∙ order_there chains i x seen whole inside is there so
+    by_case false fresh e = ap (λ ys. ys ++ orders (firsts ys (drop (i + 1) chains))) e ∙ order_new chains i x seen whole inside is fresh so
+
+-- a stroke more, for one order more
+pub grouped_more : (f : ℕ → ℕ → Drawn) (os : List ℕ) (start old new : List Drawn) (i o d : ℕ) → i < length os → o ≡ get_or os i d → old ≡ start ++ numbered (map f (take i os)) (length start)
+    → new ≡ old ++ f o (length old) ∷ [] → new ≡ start ++ numbered (map f (take (i + 1) os)) (length start)
+grouped_more f os start old new i o d inside is first then =
+    one_more (map f (take i os)) (f o) start old new first then
+    ∙ ap (λ xs. start ++ numbered xs (length start)) (sym (map_more f os i d inside ∙ ap (λ y. map f (take i os) ++ f y ∷ []) (sym is)))
+
+pub grouped_all : (f : ℕ → ℕ → Drawn) (os : List ℕ) (start new : List Drawn) (i : ℕ) → length os ≤ i → new ≡ start ++ numbered (map f (take i os)) (length start) → new ≡ start ++ numbered (map f os) (length start)
+grouped_all f os start new i past h = h ∙ ap (λ xs. start ++ numbered (map f xs) (length start)) (take_all i os past)
+
+-- ---- lists that are gathered
+
+pub round_more : {A : Type 0} (f : ℕ → List A) (n : ℕ) (start old new piece : List A) → old ≡ start ++ flat_map f (range_with_len 0 n) → piece ≡ f n → new ≡ old ++ piece → new ≡ start ++ flat_map f (range_with_len 0 (n + 1))
+round_more f n start old new piece first is then =
+    then ∙ (ap (λ xs. xs ++ piece) first ∙ (ap (λ xs. (start ++ flat_map f (range_with_len 0 n)) ++ xs) is ∙ range_items f n start))
+
+pub list_more : (f : ℕ → List (ℕ → Drawn)) (n : ℕ) (old new : List Drawn) → old ≡ numbered (flat_map f (range_with_len 0 n)) 0 → new ≡ old ++ numbered (f n) (length old) → new ≡ numbered (flat_map f (range_with_len 0 (n + 1))) 0
+list_more f n old new first then = more_own (flat_map f (range_with_len 0 n)) (f n) old new first then ∙ ap (λ xs. numbered xs 0) (range_items f n [])
+
+-- what is sent as it is owed, what is sent otherwise, and what is owed and not sent
+pub told_three : (round p g : ℕ) (sent owed xs ys zs : List Chain) (old a b d : List Drawn) → xs ≡ filter (is_among owed) sent → ys ≡ filter (λ ch. not (is_among owed ch)) sent → zs ≡ filter (λ ch. not (is_among sent ch)) owed
+    → a ≡ old ++ numbered (grouped (way round p g true false) xs) (length old) → b ≡ a ++ numbered (grouped (way round p g true true) ys) (length a) → d ≡ b ++ numbered (grouped (way round p g false true) zs) (length b)
+    → d ≡ old ++ numbered (told_between round p g sent owed) (length old)
+told_three round p g sent owed xs ys zs old a b d ex ey ez first then last =
+    let one : List Chain → List (ℕ → Drawn) = grouped (way round p g true false) in
+    let two : List Chain → List (ℕ → Drawn) = grouped (way round p g true true) in
+    let three : List Chain → List (ℕ → Drawn) = grouped (way round p g false true) in
+    more (one xs ++ two ys) (three zs) old b d (more (one xs) (two ys) old a b first then) last
+    ∙ (ap (λ k. old ++ numbered (one k ++ two ys ++ three zs) (length old)) ex
+    ∙ (ap (λ k. old ++ numbered (one (filter (is_among owed) sent) ++ two k ++ three zs) (length old)) ey
+    ∙ ap (λ k. old ++ numbered (one (filter (is_among owed) sent) ++ two (filter (λ ch. not (is_among owed ch)) sent) ++ three k) (length old)) ez))

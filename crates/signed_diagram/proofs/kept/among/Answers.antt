@@ -1,0 +1,9 @@
+use Rattle.std.proofs.Common.{arith}
+use Rattle.signed_diagram.specs.Owed.{is_among}
+use Rattle.signed_diagram.proofs.StrokeLemmas.{kept_more}
+use Rattle.signed_diagram.proofs.kept.among.Goals as goal
+
+pub loop-chain-preserved : goal.loop-chain-preserved
+loop-chain-preserved c =
+    kept_more (is_among c.args.others.now) _ c.args.chains.now c.loop-chain.kept.items c.push_if.new.kept.items c.loop-chain.chain-index c.chain-item.result (omega arith) c.chain-item.is
+    c.is_among.ensures c.loop-chain.invariant c.in_ok-push_if.ensures

@@ -1,0 +1,8 @@
+use Rattle.std.proofs.Common.{◌≡◌, not, take}
+use Rattle.std.specs.Prelude.{filter}
+use Rattle.signed_diagram.specs.Owed.{is_among}
+use Rattle.signed_diagram.proofs.kept.apart.Given as goal
+
+-- those of the chains so far
+abbrev pub invariant-loop-chain : goal.invariant-loop-chain
+invariant-loop-chain l = l.kept.items ≡ filter (λ ch. not (is_among l.others ch)) (take l.chain-index l.chains)

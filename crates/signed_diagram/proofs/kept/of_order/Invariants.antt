@@ -1,0 +1,7 @@
+use Rattle.std.proofs.Common.{◌≡◌, take}
+use Rattle.std.specs.Prelude.{◌==◌, filter}
+use Rattle.signed_diagram.proofs.kept.of_order.Given as goal
+
+-- those of the chains so far
+abbrev pub invariant-loop-chain : goal.invariant-loop-chain
+invariant-loop-chain l = l.kept.items ≡ filter (λ ch. ch.order == l.order) (take l.chain-index l.chains)

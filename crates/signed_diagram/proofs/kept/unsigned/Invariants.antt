@@ -1,0 +1,8 @@
+use Rattle.std.proofs.Common.{◌≡◌, not, take}
+use Rattle.std.specs.Prelude.{filter}
+use Rattle.label.specs.Labels.{on}
+use Rattle.signed_diagram.proofs.kept.unsigned.Given as goal
+
+-- those of the chains so far
+abbrev pub invariant-loop-chain : goal.invariant-loop-chain
+invariant-loop-chain l = l.kept.items ≡ filter (λ ch. not (on ch.signers l.general)) (take l.chain-index l.chains)

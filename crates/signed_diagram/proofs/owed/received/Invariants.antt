@@ -1,0 +1,8 @@
+use Rattle.std.proofs.Common.{◌≡◌, map, take}
+use Rattle.signed.specs.Entries.{received}
+use Rattle.signed.specs.Sending.{dispatch_of}
+use Rattle.signed_diagram.proofs.owed.received.Given as goal
+
+-- those of the chains so far
+abbrev pub invariant-loop-chain : goal.invariant-loop-chain
+invariant-loop-chain l = l.came.items ≡ received l.receiver (map dispatch_of (take l.chain-index l.sending))

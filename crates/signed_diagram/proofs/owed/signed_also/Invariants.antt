@@ -1,0 +1,8 @@
+use Rattle.std.proofs.Common.{◌≡◌, map, take}
+use Rattle.signed.specs.Chains.{signed_also}
+use Rattle.signed.specs.Sending.{lent}
+use Rattle.signed_diagram.proofs.owed.signed_also.Given as goal
+
+-- those of the chains so far
+abbrev pub invariant-loop-chain : goal.invariant-loop-chain
+invariant-loop-chain l = l.signed.items ≡ map (λ ch. signed_also ch l.general) (lent (take l.chain-index l.chains))

@@ -1,0 +1,11 @@
+use Rattle.std.proofs.Common.{[], ◌∷◌, ◌++◌, ◌∙◌, ap, arith}
+use Rattle.diagram.specs.declared.stroke.Stroke.{Stroke}
+use Rattle.signed_diagram.specs.Strokes.{Drawn}
+use Rattle.signed_diagram.proofs.StrokeLemmas.{mapped}
+use Rattle.signed_diagram.proofs.strokes.bare.Goals as goal
+
+pub loop-stroke-preserved : goal.loop-stroke-preserved
+loop-stroke-preserved c =
+    c.in_ok-push.ensures.items
+    ∙ (ap (λ (s : Stroke). c.loop-stroke.plain.items ++ s ∷ []) c.stroke.ensures
+    ∙ mapped (λ (x : Drawn). x.stroke) c.args.strokes.now c.loop-stroke.plain.items c.loop-stroke.stroke-index c.stroke-item.result (omega arith) c.stroke-item.is c.loop-stroke.invariant)

@@ -1,0 +1,7 @@
+use Rattle.std.proofs.Common.{◌≡◌, take}
+use Rattle.signed_diagram.specs.Strokes.{bare}
+use Rattle.signed_diagram.proofs.strokes.bare.Given as goal
+
+-- those so far
+abbrev pub invariant-loop-stroke : goal.invariant-loop-stroke
+invariant-loop-stroke l = l.plain.items ≡ bare (take l.stroke-index l.strokes)

@@ -1,0 +1,8 @@
+use Rattle.std.proofs.Common.{◌≡◌, ◌++◌, [], drop}
+use Rattle.signed.specs.Chains.{orders}
+use Rattle.signed.specs.Accepted.{firsts}
+use Rattle.signed_diagram.proofs.strokes.orders_of.Given as goal
+
+-- with those of the chains left
+abbrev pub invariant-loop-chain : goal.invariant-loop-chain
+invariant-loop-chain l = l.found.items ++ orders (firsts l.found.items (drop l.chain-index l.chains)) ≡ orders (firsts [] l.chains)

@@ -1,0 +1,8 @@
+use Rattle.std.proofs.Common.{◌≡◌}
+use Rattle.std.specs.List.{flat_map, range_with_len}
+use Rattle.signed_diagram.specs.Strokes.{behind}
+use Rattle.signed_diagram.proofs.strokes.strokes.Given as goal
+
+-- those of the rounds so far
+abbrev pub invariant-loop-before : goal.invariant-loop-before
+invariant-loop-before l = l.strokes.items ≡ flat_map (behind l.chronicle) (range_with_len 0 l.before)

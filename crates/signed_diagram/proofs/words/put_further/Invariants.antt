@@ -1,0 +1,9 @@
+use Rattle.std.proofs.Common.{◌≡◌, ◌++◌, take}
+use Rattle.std.specs.List.{flat_map}
+use Rattle.std.specs.String.{string_bytes}
+use Rattle.signed_diagram.specs.Words.{further_words}
+use Rattle.signed_diagram.proofs.words.put_further.Given as goal
+
+-- those so far
+abbrev pub invariant-loop-chain : goal.invariant-loop-chain
+invariant-loop-chain l = string_bytes l.out ≡ string_bytes l.fn.out ++ flat_map further_words (take l.chain-index l.chains)

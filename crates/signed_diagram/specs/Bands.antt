@@ -1,0 +1,50 @@
+-- The bands of a picture, one for each round, with its accesses and the strokes of its chains.
+use Rattle.std.specs.Prelude.{ℕ, ◌+◌, ◌*◌, ◌==◌, min, if◌then◌else◌, List, [], ◌++◌, flat_map, codes}
+use Rattle.std.specs.List.{range_with_len}
+use Rattle.board.specs.Board.{Access}
+use Rattle.diagram.specs.Bands.{accesses_from, lives, round_words}
+use Rattle.diagram.specs.Layout.{column, fan_top, height, rows_top, top_of}
+use Rattle.diagram.specs.Shapes.{group_at, line, mark, stroke_at, text_at, title}
+use Rattle.diagram.specs.Words.{kind, outline}
+use Rattle.diagram.specs.declared.stroke.Stroke.{Stroke}
+use Rattle.signed_diagram.specs.Strokes.{Drawn}
+use Rattle.signed_diagram.specs.Words.{row_words, stroke_words}
+
+-- a stroke from its sender to its receiver, as wide as it has chains, up to 5
+abbrev pub stroke_line : ℕ → ℕ → Drawn → List ℕ
+stroke_line n top x =
+    let st = x.stroke in
+    let end = top + 16 + 16 * n + 6 * min st.row 8 in
+    stroke_at (kind st) (min st.labels 5) (column st.teller) top (column st.receiver) end (stroke_words x)
+
+-- its row in its receiver's list
+abbrev pub row : ℕ → Drawn → List ℕ
+row top x =
+    let st = x.stroke in
+    group_at (column st.receiver) (top + 12 + 18 * st.row)
+    (title (stroke_words x) ++ mark (kind st) (outline st) ++ text_at (codes "small") 12 4 (row_words x))
+
+-- both, where it is of this round
+abbrev pub drawn : ℕ → List Access → ℕ → Drawn → List ℕ
+drawn n accesses round x =
+    if x.stroke.round == round
+    then stroke_line n (fan_top accesses round) x ++ row (rows_top n accesses round) x
+    else []
+
+-- what a round's band has, of this width and height
+abbrev pub inside : ℕ → List Drawn → List Access → ℕ → ℕ → ℕ → List ℕ
+inside n strokes accesses wide height round =
+    line (codes "rule") 16 0 wide 0
+    ++ text_at (codes "round") 16 24 (round_words round)
+    ++ lives n accesses height
+    ++ accesses_from n accesses round 0 accesses
+    ++ flat_map (drawn n accesses round) strokes
+
+-- its place, behind so many rounds; the heights are those of the strokes without their chains
+abbrev pub band : ℕ → List Drawn → List Stroke → List Access → ℕ → ℕ → List ℕ
+band n strokes plain accesses wide before =
+    group_at 0 (top_of n plain accesses before)
+    (inside n strokes accesses wide (height n plain accesses (before + 1)) (before + 1))
+
+abbrev pub bands : ℕ → List Drawn → List Stroke → List Access → ℕ → ℕ → List ℕ
+bands n strokes plain accesses wide rounds = flat_map (band n strokes plain accesses wide) (range_with_len 0 rounds)

@@ -1,0 +1,24 @@
+-- What stands below the bands of a picture: the decisions and the verdict (TOPLAS 1982, IC1 and IC2).
+use Rattle.std.specs.Prelude.{ℕ, Bool, true, false, List, ◌++◌, codes}
+use Rattle.world.specs.Chronicle.{Chronicle}
+use Rattle.world.specs.declared.verdict.Verdict.{Verdict}
+use Rattle.diagram.specs.Foot.{alike_words, decided_all, obeyed_words}
+use Rattle.diagram.specs.Shapes.{group_at, line, text_at}
+
+abbrev pub bound_words : Bool → List ℕ
+bound_words true = codes "The bound holds: there are few enough traitors."
+bound_words false = codes "The bound does not hold, by too many traitors: no promise."
+
+abbrev pub verdict_lines : Verdict → List ℕ
+verdict_lines v =
+    text_at (codes "name") 120 64 (alike_words v.alike)
+    ++ text_at (codes "name") 120 84 (obeyed_words v.obeyed)
+    ++ text_at (codes "name") 120 104 (bound_words v.bound)
+
+abbrev pub foot : Chronicle → ℕ → ℕ → List ℕ
+foot c wide top =
+    group_at 0 top
+    (line (codes "rule") 16 0 wide 0
+    ++ text_at (codes "round") 16 28 (codes "decisions")
+    ++ decided_all c.scenario c.decisions
+    ++ verdict_lines c.verdict)

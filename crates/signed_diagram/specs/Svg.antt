@@ -1,0 +1,49 @@
+-- A campaign of signed messages as a picture in SVG.
+use Rattle.std.specs.Prelude.{ℕ, ◌+◌, List, ◌++◌, codes}
+use Rattle.round.specs.Scenario.{Scenario}
+use Rattle.world.specs.Chronicle.{Chronicle}
+use Rattle.diagram.specs.Layout.{top_of, width}
+use Rattle.diagram.specs.Shapes.{text_at, title}
+use Rattle.diagram.specs.Svg.{campaign_words, heads, look, picture}
+use Rattle.signed_diagram.specs.Bands.{bands}
+use Rattle.signed_diagram.specs.Foot.{foot}
+use Rattle.signed_diagram.specs.Strokes.{Drawn, bare, strokes_of}
+
+-- the campaign's numbers
+abbrev pub signed_words : Scenario → List ℕ
+signed_words s = campaign_words s.generals s.bound s.commander s.order ++ codes "; signed messages"
+
+-- what is told of the picture to those who do not see it
+unfoldable pub key : List ℕ
+key =
+    codes "<desc>A column for each general, and a band for each round, from above. In a band a line leads from "
+    ++ codes "who sends chains to whom he sends them, one line for each order, as wide as it has chains; below "
+    ++ codes "stands in the column of the receiver what he was sent: the order, and who signed it, the commander "
+    ++ codes "first and the sender last. Circle and plain line: a loyal general in place of the sender would send "
+    ++ codes "so. Diamond and dashes: he would not. Cross and dots: he would, and nothing was sent. Above the "
+    ++ codes "lines stand the accesses to the board, in its order. Square: a traitor.</desc>\n"
+
+-- what stands before the columns
+abbrev pub headline : Scenario → List ℕ
+headline s =
+    text_at (codes "head") 16 28 (campaign_words s.generals s.bound s.commander s.order)
+    ++ text_at (codes "small") 16 44 (codes "signed messages")
+
+abbrev pub head : Scenario → List ℕ
+head s = title (signed_words s) ++ key ++ look ++ headline s
+
+-- the picture with these strokes
+abbrev pub svg_with : List Drawn → Chronicle → List ℕ
+svg_with strokes c =
+    let s = c.scenario in
+    let bottom = top_of s.generals (bare strokes) c.accesses (s.bound + 1) in
+    let wide = width s.generals c.accesses in
+    picture (wide + 16) (bottom + 124)
+    (head s
+    ++ heads s c.accesses
+    ++ bands s.generals strokes (bare strokes) c.accesses wide (s.bound + 1)
+    ++ foot c wide bottom)
+
+-- the picture of a chronicle
+unfoldable pub signed_svg : Chronicle → List ℕ
+signed_svg c = svg_with (strokes_of c) c

@@ -1,0 +1,54 @@
+-- What a picture of a signed campaign says, in words.
+use Rattle.std.specs.Prelude.{ℕ, ◌==◌, Bool, true, false, if◌then◌else◌, List, [], ◌∷◌, ◌++◌, flat_map, codes, Option, None, Some}
+use Rattle.std.specs.Fmt.{decimal}
+use Rattle.book.specs.Explained.{dotted}
+use Rattle.signed.specs.Chains.{Chain}
+use Rattle.signed_diagram.specs.Strokes.{Drawn}
+
+-- a chain: its order, and its signers as a chronicle writes them
+abbrev pub chain_words : Chain → List ℕ
+chain_words ch = decimal ch.order ++ codes " signed " ++ dotted ch.signers
+
+abbrev pub further_words : Chain → List ℕ
+further_words ch = codes ", " ++ chain_words ch
+
+abbrev pub chains_words : List Chain → List ℕ
+chains_words [] = []
+chains_words (ch ∷ chains) = chain_words ch ++ flat_map further_words chains
+
+unfoldable pub sends_words : ℕ → ℕ → List ℕ
+sends_words g p = codes "general " ++ (decimal g ++ (codes " sends general " ++ (decimal p ++ codes ": ")))
+
+unfoldable pub withholds_words : ℕ → ℕ → List ℕ
+withholds_words g p = codes "general " ++ (decimal g ++ (codes " does not send general " ++ (decimal p ++ codes ": ")))
+
+abbrev pub lead_words : ℕ → ℕ → Option ℕ → List ℕ
+lead_words g p None = withholds_words g p
+lead_words g p (Some order) = sends_words g p
+
+abbrev pub differs_words : Bool → Option ℕ → List ℕ
+differs_words false told = []
+differs_words true None = codes "; a loyal general would"
+differs_words true (Some order) = codes "; a loyal general would not"
+
+-- who sends whom which chains, or withholds them, and whether a loyal general would do otherwise
+abbrev pub stroke_words : Drawn → List ℕ
+stroke_words x =
+    lead_words x.stroke.teller x.stroke.receiver x.stroke.told
+    ++ chains_words x.chains
+    ++ differs_words x.stroke.differs x.stroke.told
+
+-- what is written of it in the receiver's column: its first chain, and of how many it is
+abbrev pub first_words : List Chain → List ℕ
+first_words [] = []
+first_words (ch ∷ chains) = chain_words ch
+
+abbrev pub count_words : ℕ → List ℕ
+count_words chains = if chains == 1 then [] else codes ", " ++ decimal chains ++ codes " chains"
+
+abbrev pub withheld_words : Option ℕ → List ℕ
+withheld_words None = codes "not sent: "
+withheld_words (Some order) = []
+
+abbrev pub row_words : Drawn → List ℕ
+row_words x = withheld_words x.stroke.told ++ first_words x.chains ++ count_words x.stroke.labels

@@ -1,0 +1,169 @@
+//! The bands of a picture, one for each round.
+ghost use Rattle.std.specs.Prelude.{◌≡◌, ◌++◌, ◌+◌, ◌<◌, ◌^◌, codes, flat_map, string_bytes, OnOk};
+ghost use Rattle.diagram.specs.Shapes.{text_at, title};
+ghost use Rattle.signed_diagram.specs.Bands.{band, bands, drawn, inside, row, stroke_line};
+ghost use Rattle.signed_diagram.specs.Words.{row_words, stroke_words};
+
+use crate::stroke::ChainStroke;
+use crate::words::{put_row_words, put_stroke_words};
+use board::Access;
+use diagram::Stroke;
+use diagram::bands::{put_accesses, put_lives, put_round_text};
+use diagram::layout::{column, fan_top, height, rows_top, top_of};
+use diagram::shapes::{
+    put_group_end, put_group_start, put_line, put_mark, put_stroke_end, put_stroke_start,
+    put_text_end, put_text_start, put_title_end, put_title_start,
+};
+use diagram::words::{kind, outline};
+use std::alloc::AllocError;
+
+/// Adds the bands of so many rounds: the heights are those of the strokes without their chains.
+pub(crate) fn put_bands(
+    out: &mut String,
+    generals: u8,
+    strokes: &[ChainStroke],
+    plain: &[Stroke],
+    accesses: &[Access],
+    wide: u128,
+    rounds: u8,
+) -> Result<(), AllocError>
+    requires { rounds < 255 }
+    ensures { OnOk result (string_bytes out.new ≡ string_bytes out.old ++ bands generals strokes.now plain.now accesses.now wide rounds) }
+{
+    for before in 0..rounds {
+        put_band(out, generals, strokes, plain, accesses, wide, before)?;
+    }
+    Ok(())
+}
+
+/// Adds the band behind so many rounds.
+fn put_band(
+    out: &mut String,
+    generals: u8,
+    strokes: &[ChainStroke],
+    plain: &[Stroke],
+    accesses: &[Access],
+    wide: u128,
+    before: u8,
+) -> Result<(), AllocError>
+    requires { before < 255 }
+    ensures { OnOk result (string_bytes out.new ≡ string_bytes out.old ++ band generals strokes.now plain.now accesses.now wide before) }
+{
+    let round = u32::from(before) + 1;
+    let high = height(generals, plain, accesses, round);
+    put_group_start(out, 0, top_of(generals, plain, accesses, before))?;
+    put_inside(out, generals, strokes, accesses, wide, high, round)?;
+    put_group_end(out)?;
+    Ok(())
+}
+
+/// Adds what the band of a round has.
+fn put_inside(
+    out: &mut String,
+    generals: u8,
+    strokes: &[ChainStroke],
+    accesses: &[Access],
+    wide: u128,
+    high: u128,
+    round: u32,
+) -> Result<(), AllocError>
+    ensures { OnOk result (string_bytes out.new ≡ string_bytes out.old ++ inside generals strokes.now accesses.now wide high round) }
+{
+    put_line(out, "rule", 16, 0, wide, 0)?;
+    put_round_text(out, round)?;
+    put_lives(out, generals, accesses, high)?;
+    put_accesses(out, generals, accesses, round)?;
+    put_strokes(out, generals, strokes, accesses, round)
+}
+
+/// Adds the strokes of a round.
+fn put_strokes(
+    out: &mut String,
+    generals: u8,
+    strokes: &[ChainStroke],
+    accesses: &[Access],
+    round: u32,
+) -> Result<(), AllocError>
+    ensures { OnOk result (string_bytes out.new ≡ string_bytes out.old ++ flat_map (drawn generals accesses.now round) strokes.now) }
+{
+    for stroke in strokes {
+        put_drawn(out, generals, accesses, round, stroke)?;
+    }
+    Ok(())
+}
+
+/// Adds a stroke, where it is of this round, and its row in the receiver's list.
+fn put_drawn(
+    out: &mut String,
+    generals: u8,
+    accesses: &[Access],
+    round: u32,
+    stroke: &ChainStroke,
+) -> Result<(), AllocError>
+    ensures { OnOk result (string_bytes out.new ≡ string_bytes out.old ++ drawn generals accesses.now round stroke.now) }
+{
+    if stroke.stroke().round != round as usize {
+        return Ok(());
+    }
+    put_stroke(out, generals, fan_top(accesses, round), stroke)?;
+    put_row(out, rows_top(generals, accesses, round), stroke)
+}
+
+/// Adds a stroke that begins at this height.
+fn put_stroke(
+    out: &mut String,
+    generals: u8,
+    top: u128,
+    stroke: &ChainStroke,
+) -> Result<(), AllocError>
+    requires { top < 2 ^ 100 }
+    ensures { OnOk result (string_bytes out.new ≡ string_bytes out.old ++ stroke_line generals top stroke.now) }
+{
+    let plain = stroke.stroke();
+    put_stroke_start(
+        out,
+        kind(plain),
+        plain.labels.min(5) as u128,
+        column(u32::from(plain.teller)),
+        top,
+        column(u32::from(plain.receiver)),
+        top + 16 + 16 * u128::from(generals) + 6 * plain.row.min(8) as u128,
+    )?;
+    put_stroke_title(out, stroke)?;
+    put_stroke_end(out)
+}
+
+/// Adds what is told of a stroke to those who point at it.
+fn put_stroke_title(out: &mut String, stroke: &ChainStroke) -> Result<(), AllocError>
+    ensures { OnOk result (string_bytes out.new ≡ string_bytes out.old ++ title (stroke_words stroke.now)) }
+{
+    put_title_start(out)?;
+    put_stroke_words(out, stroke)?;
+    put_title_end(out)
+}
+
+/// Adds what is written of a stroke in its receiver's list.
+fn put_row_text(out: &mut String, stroke: &ChainStroke) -> Result<(), AllocError>
+    ensures { OnOk result (string_bytes out.new ≡ string_bytes out.old ++ text_at (codes "small") 12 4 (row_words stroke.now)) }
+{
+    put_text_start(out, "small", 12, 4)?;
+    put_row_words(out, stroke)?;
+    put_text_end(out)
+}
+
+/// Adds the row of a stroke, in a list that begins at this height.
+fn put_row(out: &mut String, top: u128, stroke: &ChainStroke) -> Result<(), AllocError>
+    requires { top < 2 ^ 100 }
+    ensures { OnOk result (string_bytes out.new ≡ string_bytes out.old ++ row top stroke.now) }
+{
+    let plain = stroke.stroke();
+    put_group_start(
+        out,
+        column(u32::from(plain.receiver)),
+        top + 12 + 18 * plain.row as u128,
+    )?;
+    put_stroke_title(out, stroke)?;
+    put_mark(out, kind(plain), outline(plain))?;
+    put_row_text(out, stroke)?;
+    put_group_end(out)
+}

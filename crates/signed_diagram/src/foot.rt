@@ -1,0 +1,47 @@
+//! What stands below the bands of a picture: the decisions and the verdict.
+ghost use Rattle.std.specs.Prelude.{◌≡◌, ◌++◌, string_bytes, OnOk};
+ghost use Rattle.signed_diagram.specs.Foot.{bound_words, foot, verdict_lines};
+
+use diagram::foot::{alike_words, obeyed_words, put_decisions};
+use diagram::shapes::{put_group_end, put_group_start, put_line, put_words};
+use signed::SignedChronicle;
+use std::alloc::AllocError;
+use world::Verdict;
+
+/// Adds the decisions and the verdict, at this height.
+pub(crate) fn put_foot(
+    out: &mut String,
+    chronicle: &SignedChronicle,
+    wide: u128,
+    top: u128,
+) -> Result<(), AllocError>
+    ensures { OnOk result (string_bytes out.new ≡ string_bytes out.old ++ foot chronicle.now wide top) }
+{
+    let scenario = chronicle.scenario();
+    put_group_start(out, 0, top)?;
+    put_line(out, "rule", 16, 0, wide, 0)?;
+    put_words(out, "round", 16, 28, "decisions")?;
+    put_decisions(out, scenario, chronicle.decisions())?;
+    put_verdict(out, chronicle.verdict())?;
+    put_group_end(out)
+}
+
+/// Adds the verdict, a line for each of its parts.
+fn put_verdict(out: &mut String, verdict: Verdict) -> Result<(), AllocError>
+    ensures { OnOk result (string_bytes out.new ≡ string_bytes out.old ++ verdict_lines verdict) }
+{
+    put_words(out, "name", 120, 64, alike_words(verdict.alike))?;
+    put_words(out, "name", 120, 84, obeyed_words(verdict.obeyed))?;
+    put_words(out, "name", 120, 104, bound_words(verdict.bound))
+}
+
+/// Whether the loyal lieutenants had to agree.
+fn bound_words(bound: bool) -> &'static str
+    ensures { result.now ≡ bound_words bound }
+{
+    if bound {
+        "The bound holds: there are few enough traitors."
+    } else {
+        "The bound does not hold, by too many traitors: no promise."
+    }
+}

@@ -1,0 +1,12 @@
+//! Laws of what is drawn: each function does nothing, and its contract is the law.
+ghost use Rattle.signed_diagram.specs.Laws.{OnlyTraitorsDiffer, SignedDiagramsAreElements};
+
+/// A picture is one element of XML, whatever the chronicle.
+pub fn signed_diagrams_are_elements()
+    ensures { SignedDiagramsAreElements }
+{}
+
+/// In a finished campaign only traitors send what a loyal general would not, or withhold what he would send.
+pub fn only_traitors_differ()
+    ensures { OnlyTraitorsDiffer }
+{}

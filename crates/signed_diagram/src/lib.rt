@@ -1,0 +1,17 @@
+//! A campaign of signed messages as a picture in SVG, a space-time diagram: a column for each general and the board, a
+//! band for each round, the chains that each sends each.
+#![tactic(auto)]
+
+mod bands;
+mod foot;
+mod kept;
+mod laws;
+mod owed;
+mod signed_order;
+mod stroke;
+mod strokes;
+mod svg;
+mod words;
+
+pub use laws::{only_traitors_differ, signed_diagrams_are_elements};
+pub use svg::{put_signed_words, signed_campaign_svg};

@@ -1,0 +1,225 @@
+//! The strokes of a campaign.
+ghost use Rattle.std.specs.Prelude.{◌≡◌, ◌<◌, ◌++◌, [], length, IfOk, OnOk};
+ghost use Rattle.label.specs.Labels.{on};
+ghost use Rattle.signed.specs.Accepted.{firsts};
+ghost use Rattle.signed.specs.Chains.{orders};
+ghost use Rattle.signed.specs.Sending.{added_also};
+ghost use Rattle.signed_diagram.specs.Strokes.{bare, between, grouped, in_round, list_to, made, numbered, plain, strokes_of, told_between, told_if};
+
+use crate::kept::{among, apart, of_order};
+use crate::owed::{owed_to, sent_to};
+use crate::signed_order::SignedOrder;
+use crate::stroke::{ChainStroke, Way};
+use diagram::Stroke;
+use signed::SignedChronicle;
+use std::alloc::{AllocError, Global};
+
+/// The strokes of a campaign, by round and receiver.
+///
+/// # Errors
+///
+/// `AllocError` where memory is refused; so of every function here.
+#[tactic(auto, unfolding(crate::specs::Strokes::strokes_of))]
+pub(crate) fn strokes(
+    alloc: Global,
+    chronicle: &SignedChronicle,
+) -> Result<Vec<ChainStroke>, AllocError>
+    ensures { IfOk result (λ strokes. strokes.items ≡ strokes_of chronicle.now) }
+{
+    let mut strokes = Vec::new(alloc);
+    for before in 0..chronicle.scenario().bound() + 1 {
+        push_round(alloc, &mut strokes, chronicle, usize::from(before) + 1)?;
+    }
+    Ok(strokes)
+}
+
+/// Adds those of a round.
+fn push_round(
+    alloc: Global,
+    strokes: &mut Vec<ChainStroke>,
+    chronicle: &SignedChronicle,
+    round: usize,
+) -> Result<(), AllocError>
+    ensures { OnOk result (strokes.new.items ≡ strokes.old.items ++ in_round chronicle.now round) }
+{
+    for receiver in 0..chronicle.scenario().generals() {
+        let mut list = list_to(alloc, chronicle, round, receiver)?;
+        strokes.append(&mut list)?;
+    }
+    Ok(())
+}
+
+/// Those to one receiver.
+fn list_to(
+    alloc: Global,
+    chronicle: &SignedChronicle,
+    round: usize,
+    receiver: u8,
+) -> Result<Vec<ChainStroke>, AllocError>
+    requires { receiver < 13 }
+    ensures { IfOk result (λ list. list.items ≡ list_to chronicle.now round receiver) }
+{
+    let mut list = Vec::new(alloc);
+    for general in 0..chronicle.scenario().generals() {
+        push_between(alloc, &mut list, chronicle, round, receiver, general)?;
+    }
+    Ok(list)
+}
+
+/// Adds those of one sender.
+fn push_between(
+    alloc: Global,
+    list: &mut Vec<ChainStroke>,
+    chronicle: &SignedChronicle,
+    round: usize,
+    receiver: u8,
+    general: u8,
+) -> Result<(), AllocError>
+    requires receiver { receiver < 13 }
+    requires general { general < 13 }
+    ensures { OnOk result (list.new.items ≡ list.old.items ++ numbered (between chronicle.now round receiver general) (length list.old.items)) }
+{
+    let sent = sent_to(alloc, chronicle, round, general, receiver)?;
+    let owed = owed_to(alloc, chronicle, round, general, receiver)?;
+    push_told(
+        alloc,
+        list,
+        round,
+        receiver,
+        general,
+        sent.as_slice(),
+        owed.as_slice(),
+    )?;
+    Ok(())
+}
+
+/// Adds those of what was sent, and of what was not and a loyal general would have sent.
+fn push_told(
+    alloc: Global,
+    list: &mut Vec<ChainStroke>,
+    round: usize,
+    receiver: u8,
+    general: u8,
+    sent: &[SignedOrder],
+    owed: &[SignedOrder],
+) -> Result<(), AllocError>
+    ensures { OnOk result (list.new.items ≡ list.old.items ++ numbered (told_between round receiver general sent.now owed.now) (length list.old.items)) }
+{
+    let way = Way {
+        round,
+        teller: general,
+        receiver,
+        sent: true,
+        differs: false,
+    };
+    let lies = Way {
+        differs: true,
+        ..way
+    };
+    let withheld = Way {
+        sent: false,
+        ..lies
+    };
+    let same = among(alloc, sent, owed)?;
+    let other = apart(alloc, sent, owed)?;
+    let missing = apart(alloc, owed, sent)?;
+    push_grouped(alloc, list, way, same.as_slice())?;
+    push_grouped(alloc, list, lies, other.as_slice())?;
+    push_grouped(alloc, list, withheld, missing.as_slice())?;
+    Ok(())
+}
+
+/// Adds a stroke for each order of these chains.
+fn push_grouped(
+    alloc: Global,
+    list: &mut Vec<ChainStroke>,
+    way: Way,
+    chains: &[SignedOrder],
+) -> Result<(), AllocError>
+    ensures { OnOk result (list.new.items ≡ list.old.items ++ numbered (grouped way chains.now) (length list.old.items)) }
+{
+    let orders = orders_of(alloc, chains)?;
+    for order in &orders {
+        let stroke = made(alloc, way, chains, *order, list.as_slice().len())?;
+        list.push(stroke)?;
+    }
+    Ok(())
+}
+
+/// The orders of these chains, each once, as they first come.
+fn orders_of(alloc: Global, chains: &[SignedOrder]) -> Result<Vec<u32>, AllocError>
+    ensures { IfOk result (λ found. found.items ≡ orders (firsts [] chains.now)) }
+{
+    let mut found = Vec::new(alloc);
+    for chain in chains {
+        add_order(&mut found, chain.order())?;
+    }
+    Ok(found)
+}
+
+/// Adds an order, where it is not among them.
+fn add_order(found: &mut Vec<u32>, order: u32) -> Result<(), AllocError>
+    ensures { OnOk result (found.new.items ≡ added_also found.old.items order) }
+{
+    if !is_there(found.as_slice(), order) {
+        found.push(order)?;
+    }
+    Ok(())
+}
+
+/// Whether the order is among these.
+fn is_there(orders: &[u32], order: u32) -> bool
+    ensures { result ≡ on orders.now order }
+{
+    orders.iter().any(|x| *x == order)
+}
+
+/// The stroke of those of these chains that have this order, in this row.
+fn made(
+    alloc: Global,
+    way: Way,
+    chains: &[SignedOrder],
+    order: u32,
+    row: usize,
+) -> Result<ChainStroke, AllocError>
+    ensures { IfOk result (λ stroke. stroke ≡ made way chains.now order row) }
+{
+    let chains = of_order(alloc, chains, order)?;
+    Ok(ChainStroke {
+        stroke: plain(way, order, chains.len(), row),
+        chains,
+    })
+}
+
+/// The stroke of so many chains of an order.
+fn plain(way: Way, order: u32, labels: usize, row: usize) -> Stroke
+    ensures { result ≡ plain way order labels row }
+{
+    Stroke {
+        round: way.round,
+        teller: way.teller,
+        receiver: way.receiver,
+        told: told_if(way.sent, order),
+        differs: way.differs,
+        labels,
+        row,
+    }
+}
+
+/// What is told of an order.
+fn told_if(is_sent: bool, order: u32) -> Option<u32>
+    ensures { result ≡ told_if is_sent order }
+{
+    if is_sent { Some(order) } else { None }
+}
+
+/// These strokes, without their chains.
+pub(crate) fn bare(alloc: Global, strokes: &[ChainStroke]) -> Result<Vec<Stroke>, AllocError>
+    ensures { IfOk result (λ plain. plain.items ≡ bare strokes.now) }
+{
+    let mut plain = Vec::with_capacity(alloc, strokes.len())?;
+    for stroke in strokes {
+        plain.push(*stroke.stroke())?;
+    }
+    Ok(plain)
+}

@@ -1,0 +1,111 @@
+//! A campaign of signed messages as a picture in SVG.
+ghost use Rattle.std.specs.Prelude.{◌≡◌, ◌++◌, string_bytes, IfOk, OnOk};
+ghost use Rattle.diagram.specs.Svg.{campaign_words};
+ghost use Rattle.signed_diagram.specs.Svg.{head, headline, key, signed_svg, signed_words};
+
+use crate::bands::put_bands;
+use crate::foot::put_foot;
+use crate::strokes::{bare, strokes};
+use diagram::layout::{top_of, width};
+use diagram::shapes::{put_text_end, put_text_start, put_title_end, put_title_start, put_words};
+use diagram::svg::{look, put_box, put_campaign, put_heads, start};
+use round::Scenario;
+use signed::SignedChronicle;
+use std::alloc::{AllocError, Global};
+
+/// The campaign of signed messages of a chronicle, in SVG: who sent whom which chains in each round, which of them a
+/// loyal general would not have sent, and which he would that were not sent; the accesses to the board, the decisions
+/// and the verdict.
+///
+/// # Errors
+///
+/// No memory for the text.
+#[tactic(auto, unfolding(crate::specs::Svg::signed_svg))]
+pub fn signed_campaign_svg(alloc: Global, chronicle: &SignedChronicle) -> Result<String, AllocError>
+    ensures { IfOk result (λ text. string_bytes text ≡ signed_svg chronicle.now) }
+{
+    let scenario = chronicle.scenario();
+    let accesses = chronicle.accesses();
+    let strokes = strokes(alloc, chronicle)?;
+    let plain = bare(alloc, strokes.as_slice())?;
+    let generals = scenario.generals();
+    let rounds = scenario.bound() + 1;
+    let wide = width(alloc, generals, accesses)?;
+    let bottom = top_of(generals, plain.as_slice(), accesses, rounds);
+    let mut text = String::from_str(alloc, start())?;
+    put_box(&mut text, wide + 16, bottom + 124)?;
+    put_head(&mut text, scenario)?;
+    put_heads(&mut text, scenario, accesses)?;
+    put_bands(
+        &mut text,
+        generals,
+        strokes.as_slice(),
+        plain.as_slice(),
+        accesses,
+        wide,
+        rounds,
+    )?;
+    put_foot(&mut text, chronicle, wide, bottom)?;
+    text.push_str("</svg>\n")?;
+    Ok(text)
+}
+
+/// Adds what stands before the columns: which campaign it is, what the picture shows, and how it looks.
+fn put_head(out: &mut String, scenario: &Scenario) -> Result<(), AllocError>
+    ensures { OnOk result (string_bytes out.new ≡ string_bytes out.old ++ head scenario.now) }
+{
+    put_title_start(out)?;
+    put_signed_words(out, scenario)?;
+    put_title_end(out)?;
+    out.push_str(key())?;
+    out.push_str(look())?;
+    put_headline(out, scenario)
+}
+
+/// Adds the campaign's numbers, and that its messages are signed.
+fn put_headline(out: &mut String, scenario: &Scenario) -> Result<(), AllocError>
+    ensures { OnOk result (string_bytes out.new ≡ string_bytes out.old ++ headline scenario.now) }
+{
+    put_text_start(out, "head", 16, 28)?;
+    put_campaign_of(out, scenario)?;
+    put_text_end(out)?;
+    put_words(out, "small", 16, 44, "signed messages")
+}
+
+/// Adds the campaign's numbers.
+fn put_campaign_of(out: &mut String, scenario: &Scenario) -> Result<(), AllocError>
+    ensures { OnOk result (string_bytes out.new ≡ string_bytes out.old ++ campaign_words scenario.now.generals scenario.now.bound scenario.now.commander scenario.now.order) }
+{
+    put_campaign(
+        out,
+        scenario.generals(),
+        scenario.bound(),
+        scenario.commander(),
+        scenario.order(),
+    )
+}
+
+/// Adds a campaign's numbers, and that its messages are signed, in words.
+///
+/// # Errors
+///
+/// No memory for the text.
+pub fn put_signed_words(out: &mut String, scenario: &Scenario) -> Result<(), AllocError>
+    ensures { OnOk result (string_bytes out.new ≡ string_bytes out.old ++ signed_words scenario.now) }
+{
+    put_campaign_of(out, scenario)?;
+    out.push_str("; signed messages")
+}
+
+/// What is told of the picture to those who do not see it.
+#[tactic(auto, unfolding(crate::specs::Svg::key))]
+fn key() -> &'static str
+    ensures { result.now ≡ key }
+{
+    "<desc>A column for each general, and a band for each round, from above. In a band a line leads from who sends \
+     chains to whom he sends them, one line for each order, as wide as it has chains; below stands in the column of \
+     the receiver what he was sent: the order, and who signed it, the commander first and the sender last. Circle \
+     and plain line: a loyal general in place of the sender would send so. Diamond and dashes: he would not. Cross \
+     and dots: he would, and nothing was sent. Above the lines stand the accesses to the board, in its order. \
+     Square: a traitor.</desc>\n"
+}

@@ -1,0 +1,164 @@
+//! What a picture says, in words.
+ghost use Rattle.std.specs.Prelude.{◌≡◌, ◌++◌, codes, flat_map, string_bytes, OnOk};
+ghost use Rattle.std.specs.Fmt.{decimal};
+ghost use Rattle.book.specs.Explained.{dotted};
+ghost use Rattle.signed_diagram.specs.Words.{chain_words, chains_words, count_words, differs_words, first_words, further_words, lead_words, row_words, sends_words, stroke_words, withheld_words, withholds_words};
+
+use crate::signed_order::SignedOrder;
+use crate::stroke::ChainStroke;
+use std::alloc::AllocError;
+
+/// Adds generals, joined by dots.
+fn put_signers(out: &mut String, generals: &[u8]) -> Result<(), AllocError>
+    ensures { OnOk result (string_bytes out.new ≡ string_bytes out.old ++ dotted generals.now) }
+{
+    match generals {
+        [] => Ok(()),
+        [first, rest @ ..] => {
+            write!(out, "{first}")?;
+            put_further_signers(out, rest)
+        }
+    }
+}
+
+/// Adds generals, each behind a dot.
+fn put_further_signers(out: &mut String, generals: &[u8]) -> Result<(), AllocError>
+    ensures { OnOk result (string_bytes out.new ≡ string_bytes out.old ++ flat_map (λ g. codes "." ++ decimal g) generals.now) }
+{
+    for general in generals {
+        write!(out, ".{general}")?;
+    }
+    Ok(())
+}
+
+/// Adds a chain.
+fn put_chain(out: &mut String, chain: &SignedOrder) -> Result<(), AllocError>
+    ensures { OnOk result (string_bytes out.new ≡ string_bytes out.old ++ chain_words chain.now) }
+{
+    let order = chain.order();
+    write!(out, "{order} signed ")?;
+    put_signers(out, chain.signers())
+}
+
+/// Adds chains, joined by commas.
+fn put_chains(out: &mut String, chains: &[SignedOrder]) -> Result<(), AllocError>
+    ensures { OnOk result (string_bytes out.new ≡ string_bytes out.old ++ chains_words chains.now) }
+{
+    match chains {
+        [] => Ok(()),
+        [first, rest @ ..] => {
+            put_chain(out, first)?;
+            put_further(out, rest)
+        }
+    }
+}
+
+/// Adds chains, each behind a comma.
+fn put_further(out: &mut String, chains: &[SignedOrder]) -> Result<(), AllocError>
+    ensures { OnOk result (string_bytes out.new ≡ string_bytes out.old ++ flat_map further_words chains.now) }
+{
+    for chain in chains {
+        put_one_further(out, chain)?;
+    }
+    Ok(())
+}
+
+/// Adds a chain behind a comma.
+fn put_one_further(out: &mut String, chain: &SignedOrder) -> Result<(), AllocError>
+    ensures { OnOk result (string_bytes out.new ≡ string_bytes out.old ++ further_words chain.now) }
+{
+    out.push_str(", ")?;
+    put_chain(out, chain)
+}
+
+/// Adds who sends whom.
+#[tactic(auto, unfolding(crate::specs::Words::sends_words))]
+fn put_sends(out: &mut String, general: u8, receiver: u8) -> Result<(), AllocError>
+    ensures { OnOk result (string_bytes out.new ≡ string_bytes out.old ++ sends_words general receiver) }
+{
+    write!(out, "general {general} sends general {receiver}: ")
+}
+
+/// Adds who does not send whom.
+#[tactic(auto, unfolding(crate::specs::Words::withholds_words))]
+fn put_withholds(out: &mut String, general: u8, receiver: u8) -> Result<(), AllocError>
+    ensures { OnOk result (string_bytes out.new ≡ string_bytes out.old ++ withholds_words general receiver) }
+{
+    write!(out, "general {general} does not send general {receiver}: ")
+}
+
+/// Adds who sends whom, or does not.
+fn put_lead(
+    out: &mut String,
+    general: u8,
+    receiver: u8,
+    told: Option<u32>,
+) -> Result<(), AllocError>
+    ensures { OnOk result (string_bytes out.new ≡ string_bytes out.old ++ lead_words general receiver told) }
+{
+    match told {
+        None => put_withholds(out, general, receiver),
+        Some(_) => put_sends(out, general, receiver),
+    }
+}
+
+/// What a loyal general would do instead.
+fn differs_words(differs: bool, told: Option<u32>) -> &'static str
+    ensures { result.now ≡ differs_words differs told }
+{
+    match (differs, told) {
+        (false, _) => "",
+        (true, None) => "; a loyal general would",
+        (true, Some(_)) => "; a loyal general would not",
+    }
+}
+
+/// Adds what is said of a stroke.
+pub(crate) fn put_stroke_words(out: &mut String, stroke: &ChainStroke) -> Result<(), AllocError>
+    ensures { OnOk result (string_bytes out.new ≡ string_bytes out.old ++ stroke_words stroke.now) }
+{
+    let plain = *stroke.stroke();
+    put_lead(out, plain.teller, plain.receiver, plain.told)?;
+    put_chains(out, stroke.chains())?;
+    out.push_str(differs_words(plain.differs, plain.told))
+}
+
+/// Adds the first of these chains.
+fn put_first(out: &mut String, chains: &[SignedOrder]) -> Result<(), AllocError>
+    ensures { OnOk result (string_bytes out.new ≡ string_bytes out.old ++ first_words chains.now) }
+{
+    match chains {
+        [] => Ok(()),
+        [first, ..] => put_chain(out, first),
+    }
+}
+
+/// Adds a number of chains, if it is not one.
+fn put_count(out: &mut String, chains: usize) -> Result<(), AllocError>
+    ensures { OnOk result (string_bytes out.new ≡ string_bytes out.old ++ count_words chains) }
+{
+    if chains == 1 {
+        return Ok(());
+    }
+    write!(out, ", {chains} chains")
+}
+
+/// What is said of chains that were not sent.
+fn withheld_words(told: Option<u32>) -> &'static str
+    ensures { result.now ≡ withheld_words told }
+{
+    match told {
+        None => "not sent: ",
+        Some(_) => "",
+    }
+}
+
+/// Adds what is written of a stroke in its receiver's column.
+pub(crate) fn put_row_words(out: &mut String, stroke: &ChainStroke) -> Result<(), AllocError>
+    ensures { OnOk result (string_bytes out.new ≡ string_bytes out.old ++ row_words stroke.now) }
+{
+    let plain = *stroke.stroke();
+    out.push_str(withheld_words(plain.told))?;
+    put_first(out, stroke.chains())?;
+    put_count(out, plain.labels)
+}

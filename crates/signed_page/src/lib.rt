@@ -1,0 +1,10 @@
+//! A campaign of signed messages as a page of HTML: its scenario, the programs, the picture, what each lieutenant
+//! accepted, the accesses, the chronicle and the verdict.
+#![tactic(auto)]
+
+mod account;
+mod laws;
+mod sections;
+
+pub use account::signed_page_text;
+pub use laws::signed_pages_are_elements;
