@@ -27,7 +27,7 @@ pub fn page_text<H: Heard>(
     table: &H,
     chronicle: &Chronicle,
 ) -> Result<String, AllocError>
-    ensures { IfOk result (λ text. string_bytes text ≡ page_text scenario_text.now (option_map (λ s. s.now) schedule) (H.seen table.now) chronicle.now) }
+    ensures { IfOk result (λ text. string_bytes text ≡ page_text scenario_text.now (option_map (λ s. s.now) schedule.entry) (H.seen table.now) chronicle.now) }
 {
     let title = title(alloc, chronicle)?;
     let mut out = start(alloc, title.as_str())?;
@@ -45,7 +45,7 @@ fn put_parts<H: Heard>(
     table: &H,
     chronicle: &Chronicle,
 ) -> Result<(), AllocError>
-    ensures { OnOk result (string_bytes out.new ≡ string_bytes out.old ++ parts scenario_text.now (option_map (λ s. s.now) schedule) (H.seen table.now) chronicle.now) }
+    ensures { OnOk result (string_bytes out.new ≡ string_bytes out.old ++ parts scenario_text.now (option_map (λ s. s.now) schedule.entry) (H.seen table.now) chronicle.now) }
 {
     put_scenario(out, scenario_text)?;
     put_schedule(alloc, out, schedule)?;

@@ -1,6 +1,7 @@
 //! A lieutenant's tree as nested lists.
 ghost use Rattle.std.specs.Prelude.{◌≡◌, ◌≢◌, ◌<◌, ◌+◌, ◌++◌, length, true, string_bytes, IfOk, OnOk};
 ghost use Rattle.book.specs.Grammar.{is_place};
+ghost use Rattle.drawing.specs.Shown.{deeper};
 ghost use Rattle.drawing.specs.Words.{said};
 ghost use Rattle.campaign_page.specs.Trees.{items_below, label_item, root_told, tree_told};
 
