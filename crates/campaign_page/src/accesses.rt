@@ -26,7 +26,11 @@ pub(crate) fn put_accesses(
 }
 
 /// Adds these accesses, if there are any.
-fn put_listed(alloc: Global, out: &mut String, accesses: &[Access]) -> Result<(), AllocError>
+///
+/// # Errors
+///
+/// No memory for the text.
+pub fn put_listed(alloc: Global, out: &mut String, accesses: &[Access]) -> Result<(), AllocError>
     ensures { OnOk result (string_bytes out.new ≡ string_bytes out.old ++ accesses_part accesses.now) }
 {
     if accesses.is_empty() {

@@ -4,9 +4,9 @@
 mod accesses;
 mod account;
 mod laws;
+mod listing;
 mod schedule;
 mod sections;
-mod tree;
 mod verdict;
 
 pub use account::page_text;

@@ -6,7 +6,7 @@ ghost use Rattle.label.specs.Labels.{on};
 ghost use Rattle.retold.specs.Retold.{traitors_of};
 ghost use Rattle.round.specs.Scenario.{program_of};
 
-use crate::tree::put_tree;
+use crate::listing::put_tree;
 use book::{Heard, decision, explain_one};
 use drawing::View;
 use explain::explanation;

@@ -63,7 +63,7 @@ fn page_of(
     chronicle: &Chronicle,
 ) -> Result<Vec<u8>, AllocError>
     requires { IsWhole chronicle.now }
-    ensures { IfOk result (λ page. IsPage scenario_text.now (option_map (λ s. s.now) schedule) chronicle.now page.items) }
+    ensures { IfOk result (λ page. IsPage scenario_text.now (option_map (λ s. s.now) schedule.entry) chronicle.now page.items) }
 {
     let told = hearing(alloc, chronicle)?;
     let table = told_table(&told, chronicle);

@@ -3,7 +3,7 @@ use Rattle.std.specs.List.{flat_map}
 use Rattle.std.specs.String.{string_bytes}
 use Rattle.label.specs.Labels.{others}
 use Rattle.campaign_page.specs.Trees.{item_by}
-use Rattle.campaign_page.proofs.tree.+items.Given as goal
+use Rattle.campaign_page.proofs.listing.+items.Given as goal
 
 abbrev pub decreases-put_item : goal.decreases-put_item
 decreases-put_item g l = 2 * l.relays + 1

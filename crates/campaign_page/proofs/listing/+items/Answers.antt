@@ -6,8 +6,8 @@ use Rattle.book.proofs.Gathering.{off_first, on_first, on_behind}
 use Rattle.drawing.proofs.Gathered.{gathered_yes, gathered_no}
 use Rattle.campaign_page.specs.Trees.{item_by}
 use Rattle.campaign_page.proofs.TreeLemmas.{item_same, items_last, items_more}
-use Rattle.campaign_page.proofs.tree.+items.Goals as goal
-use Rattle.campaign_page.proofs.tree.+items.Goals.{put_items-then-other-general+then-not-has+in_ok-put_item, put_items-else-other-general, put_items-else-other-general-via-then-other-general+else-not-has, put_items-else-other-general-via-else-other-general}
+use Rattle.campaign_page.proofs.listing.+items.Goals as goal
+use Rattle.campaign_page.proofs.listing.+items.Goals.{put_items-then-other-general+then-not-has+in_ok-put_item, put_items-else-other-general, put_items-else-other-general-via-then-other-general+else-not-has, put_items-else-other-general-via-else-other-general}
 
 pub put_items-returns-then-relays-eq0 : goal.put_items-returns-then-relays-eq0
 put_items-returns-then-relays-eq0 g t c =
