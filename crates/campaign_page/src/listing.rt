@@ -104,7 +104,8 @@ fn put_item<H: Heard>(
     )?;
     put_list_end(out)?;
     put_fold_end(out)?;
-    put_item_end(out)
+    put_item_end(out)?;
+    Ok(())
 }
 
 /// Adds the items of the labels that go on from this one, with so many relays left.

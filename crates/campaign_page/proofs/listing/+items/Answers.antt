@@ -1,13 +1,20 @@
-use Rattle.std.proofs.Common.{ℕ, List, ◌≡◌, ◌-◌, ◌∙◌, ◌++◌, ◌∷◌, ap, arith, sym, append-nil}
+use Rattle.std.proofs.Common.{rules, ℕ, List, ◌≡◌, ◌-◌, ◌∙◌, ◌++◌, ◌∷◌, ap, arith, sym, append-nil}
 use Rattle.std.specs.List.{flat_map}
 use Rattle.std.specs.String.{string_bytes}
 use Rattle.label.specs.Labels.{others}
 use Rattle.book.proofs.Gathering.{off_first, on_first, on_behind}
 use Rattle.drawing.proofs.Gathered.{gathered_yes, gathered_no}
 use Rattle.campaign_page.specs.Trees.{item_by}
-use Rattle.campaign_page.proofs.TreeLemmas.{item_same, items_last, items_more}
+use Rattle.campaign_page.proofs.TreeLemmas.{item_same, items_last, items_more, opened}
 use Rattle.campaign_page.proofs.listing.+items.Goals as goal
 use Rattle.campaign_page.proofs.listing.+items.Goals.{put_items-then-other-general+then-not-has+in_ok-put_item, put_items-else-other-general, put_items-else-other-general-via-then-other-general+else-not-has, put_items-else-other-general-via-else-other-general}
+
+pub put_item-returns : goal.put_item-returns
+put_item-returns g t c =
+    opened (g.H.Heard.seen c.args.table.now) c.args.traitors.now c.args.view c.deeper.result c.args.relays c.args.label.now c.args.general c.args.node.now c.as_str-2.result.now
+    (string_bytes c.args.out.now) _ _ _ _ _ _ _ (sym c.is_open.ensures ∙ c.if-not-is_open.false) (search rules) c.deeper.ensures
+    c.in_ok-put_item_start.ensures c.in_ok-put_fold_start.ensures c.in_ok-put_list_start.ensures c.in_ok-put_items.ensures
+    c.in_ok-put_list_end.ensures c.in_ok-put_fold_end.ensures c.in_ok-put_item_end.ensures
 
 pub put_items-returns-then-relays-eq0 : goal.put_items-returns-then-relays-eq0
 put_items-returns-then-relays-eq0 g t c =
