@@ -1,0 +1,5 @@
+pub mod SumLemmas
+pub mod Rereading
+pub mod Ranges
+pub mod Choosing
+pub mod Gathered

@@ -1,0 +1,21 @@
+use Rattle.std.proofs.Common.{◌+◌, ◌-◌, ◌≡◌, arith}
+use Rattle.std.specs.Prelude.{min}
+use Rattle.std.specs.List.{AllZip, range_with_len}
+use Rattle.survey.specs.Judging.{IsFindingOf}
+use Rattle.survey.proofs.Ranges.{zip_on}
+use Rattle.survey.proofs.surveying.survey_in_turn.Goals as goal
+
+pub loop-seed-init : goal.loop-seed-init
+loop-seed-init c =
+    let none : min c.args.first c.args.end - c.args.first ≡ 0 = omega arith in
+    rw (none, c.new-findings.ensures.items) tt
+
+pub loop-seed-preserved : goal.loop-seed-preserved
+loop-seed-preserved c =
+    zip_on (IsFindingOf c.args.family.now) c.args.first c.loop-seed.seed (min c.loop-seed.seed c.args.end - c.args.first) (min (c.loop-seed.seed + 1) c.args.end - c.args.first)
+    c.loop-seed.findings.items c.in_ok-judged.field-0 c.push.new.self.items (omega arith) (omega arith) (omega arith) c.loop-seed.invariant c.in_ok-judged.ensures.found c.in_ok-push.ensures.items
+
+pub returns : goal.returns
+returns c =
+    let all : min c.loop-seed.seed c.args.end - c.args.first ≡ c.args.end - c.args.first = omega arith in
+    rw all at c.loop-seed.invariant

@@ -1,0 +1,47 @@
+-- What a campaign comes to: the verdict of the chronicle that `play` gives of it, with no schedule.
+use Rattle.std.specs.Prelude.{ℕ, ◌≡◌, List, [], length, Err}
+use Rattle.toml.specs.Parse.{parse_document}
+use Rattle.scenario.specs.Told.{ReadsAny, TellsAny}
+use Rattle.scenario.specs.declared.fault.ScenarioError.{ScenarioError}
+use Rattle.scenario.specs.declared.messages.Campaign.{Campaign}
+use Rattle.scenario.specs.declared.messages.Campaign.TheVariants.{Oral, Signed}
+use Rattle.signed.specs.Chronicle.{signed_chronicle_of}
+use Rattle.signed.specs.Kind.{played}
+use Rattle.world.specs.Chronicle.{chronicle_of}
+use Rattle.world.specs.Lists.{listed}
+use Rattle.world.specs.Promises.{IsWellUnderBound}
+use Rattle.world.specs.World.{opening, run}
+use Rattle.world.specs.declared.verdict.Verdict.{Verdict}
+use Rattle.survey.specs.declared.finding.Finding.{Finding}
+use Rattle.survey.specs.Family.{Family}
+use Rattle.survey.specs.Plot.{Plot}
+use Rattle.survey.specs.Plotting.{plot_of}
+use Rattle.survey.specs.Wording.{plot_text}
+
+-- the verdict on a campaign by the empty schedule
+abbrev pub verdict_in : Campaign → Verdict
+verdict_in (Oral s) = (chronicle_of (run (opening s) (listed s []))).verdict
+verdict_in (Signed s) = (signed_chronicle_of (played s (listed s []))).verdict
+
+-- the text tells a campaign, and this is the verdict on it; where its bound holds all is well
+pub record IsJudged (text : List ℕ) (v : Verdict) : Type 0 where
+  pub campaign : Campaign
+  pub told : TellsAny text campaign
+  pub verdict : v ≡ verdict_in campaign
+  pub well : IsWellUnderBound v
+
+-- the text tells no campaign, and this is its first fault
+abbrev pub IsRefused : List ℕ → ScenarioError → Type 0
+IsRefused text e = ReadsAny (parse_document text) (Err e)
+
+-- what is found of a campaign by this seed: its numbers, and the verdict on what its text tells
+pub record IsFound (p : Plot) (by : ℕ) (found : Finding) : Type 0 where
+  pub seed : found.seed ≡ by
+  pub generals : found.generals ≡ p.generals
+  pub bound : found.bound ≡ p.bound
+  pub traitors : found.traitors ≡ length p.traitors
+  pub judged : IsJudged (plot_text p) found.verdict
+
+-- of the campaign of a family that the seed gives
+abbrev pub IsFindingOf : Family → ℕ → Finding → Type 0
+IsFindingOf f seed found = IsFound (plot_of f seed) seed found

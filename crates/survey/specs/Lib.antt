@@ -1,0 +1,9 @@
+pub mod Draws
+pub mod Family
+pub mod Plot
+pub mod Plotting
+pub mod Wording
+pub mod Judging
+pub mod Sums
+pub mod Lines
+pub mod Reading

@@ -1,0 +1,33 @@
+-- The line of what a campaign comes to: an object of JSON (RFC 8259), its members by their names, ascending.
+use Rattle.std.specs.Prelude.{ℕ, ◌≡◌, ◌<◌, ◌^◌, Bool, true, false, List, ◌∷◌, ◌++◌, flat_map, decimal, codes, Option, None, Some}
+use Rattle.survey.specs.declared.finding.Finding.{Finding}
+
+abbrev pub flag_text : Bool → List ℕ
+flag_text true = codes "true"
+flag_text false = codes "false"
+
+abbrev pub answer_text : Option Bool → List ℕ
+answer_text None = codes "null"
+answer_text (Some b) = flag_text b
+
+-- a front, a colon, a word, and what stands behind them
+abbrev pub member : List ℕ → List ℕ → List ℕ → List ℕ
+member front word behind = front ++ 58 ∷ (word ++ behind)
+
+abbrev pub line_text : Finding → List ℕ
+line_text f =
+    member (codes "{\"alike\"") (flag_text f.verdict.alike)
+    (member (codes ",\"bound\"") (decimal f.bound)
+    (member (codes ",\"generals\"") (decimal f.generals)
+    (member (codes ",\"kept\"") (flag_text f.verdict.bound)
+    (member (codes ",\"line\"") (codes "\"campaign\"")
+    (member (codes ",\"obeyed\"") (answer_text f.verdict.obeyed)
+    (member (codes ",\"seed\"") (decimal f.seed)
+    (member (codes ",\"traitors\"") (decimal f.traitors) (codes "}\n"))))))))
+
+-- its numbers have the sizes of their types
+pub record AreNumbers (f : Finding) : Type 0 where
+  pub seed : f.seed < 2 ^ 64
+  pub generals : f.generals < 256
+  pub bound : f.bound < 256
+  pub traitors : f.traitors < 2 ^ 64

@@ -1,0 +1,62 @@
+-- The text of a campaign (docs/FORMATS.md, "Scenarios").
+use Rattle.std.specs.Prelude.{ℕ, Bool, true, false, List, [], ◌++◌, flat_map, decimal, codes, Option, None, Some}
+use Rattle.combine.specs.declared.chosen.Rule.TheVariants.{Majority, Median}
+use Rattle.survey.specs.declared.lie.Lie.{Lie}
+use Rattle.survey.specs.declared.lie.Lie.TheVariants.{Honest, Sway, Sign, Pass}
+use Rattle.survey.specs.declared.lie.Said.{Said}
+use Rattle.survey.specs.declared.lie.Said.TheVariants.{Number, Parity}
+use Rattle.survey.specs.declared.manner.Manner.{Manner}
+use Rattle.survey.specs.declared.manner.Manner.TheVariants.{Oral, Signed}
+use Rattle.survey.specs.Family.{Family}
+use Rattle.survey.specs.Plot.{Plot, Traitor}
+use Rattle.survey.specs.Plotting.{plot_of}
+
+abbrev pub said_text : Said → List ℕ
+said_text (Number number) = decimal number
+said_text Parity = codes "r6"
+
+-- a call with two arguments
+abbrev pub call_text : List ℕ → List ℕ → List ℕ → List ℕ
+call_text first second helper =
+    codes "mov r1, " ++ first ++ codes "\nmov r2, " ++ second ++ codes "\ncall " ++ helper ++ codes "\n"
+
+abbrev pub lie_text : Lie → List ℕ
+lie_text (Honest receiver) = codes "mov r1, " ++ decimal receiver ++ codes "\ncall honest\n"
+lie_text (Sway receiver said) = call_text (decimal receiver) (said_text said) (codes "sway")
+lie_text (Sign said receivers) = call_text (said_text said) (decimal receivers) (codes "sign_order")
+lie_text (Pass said receivers) = call_text (said_text said) (decimal receivers) (codes "pass_on")
+
+-- the count on the board is raised, and its parity kept in r6
+abbrev pub counting_text : Bool → List ℕ
+counting_text true = codes "mov r1, 0\nmov r2, 1\ncall board_add\nmov r6, r0\nand r6, 1\n"
+counting_text false = []
+
+unfoldable pub program_text : Traitor → List ℕ
+program_text t = counting_text t.counts ++ flat_map lie_text t.lies ++ codes "mov r0, 0\nexit\n"
+
+unfoldable pub source_text : Option (List ℕ) → Traitor → List ℕ
+source_text None t = codes "asm = \"\"\"\n" ++ program_text t ++ codes "\"\"\"\n"
+source_text (Some hex) t = codes "code = \"" ++ hex ++ codes "\"\n"
+
+unfoldable pub traitor_text : Option (List ℕ) → Traitor → List ℕ
+traitor_text given t = codes "\n[[traitor]]\ngeneral = " ++ decimal t.general ++ codes "\n" ++ source_text given t
+
+abbrev pub manner_text : Manner → List ℕ
+manner_text (Oral Majority) = []
+manner_text (Oral Median) = codes "rule = \"median\"\n"
+manner_text Signed = codes "messages = \"signed\"\n"
+
+abbrev pub patience_text : Option ℕ → List ℕ
+patience_text None = []
+patience_text (Some steps) = codes "patience = " ++ decimal steps ++ codes "\n"
+
+abbrev pub numbers_text : Plot → List ℕ
+numbers_text p =
+    codes "generals = " ++ decimal p.generals ++ codes "\nbound = " ++ decimal p.bound ++ codes "\ncommander = 0\norder = " ++ decimal p.order ++ codes "\n"
+
+unfoldable pub plot_text : Plot → List ℕ
+plot_text p = numbers_text p ++ manner_text p.manner ++ patience_text p.patience ++ flat_map (traitor_text p.given) p.traitors
+
+-- the text of the campaign that a seed gives
+abbrev pub campaign_text : Family → ℕ → List ℕ
+campaign_text f seed = plot_text (plot_of f seed)

@@ -1,0 +1,45 @@
+//! The numbers that a seed gives.
+ghost use Rattle.std.specs.Prelude.{◌≡◌, ◌≤◌, ◌<◌, ◌^◌};
+ghost use Rattle.survey.specs.Draws.{draw, folded, mixed, within};
+
+use crate::span::Span;
+
+/// By how much the generator's state grows from one number to the next.
+const STEP: u64 = 0x9e37_79b9_7f4a_7c15;
+
+/// A word with its high bits folded down by so many places, times a factor.
+fn folded(word: u64, places: u32, factor: u64) -> u64
+    requires { places < 64 }
+    ensures { result ≡ folded word places factor }
+{
+    (word ^ (word >> places)).wrapping_mul(factor)
+}
+
+/// A word whose bits are mixed.
+#[tactic(auto, unfolding(crate::specs::Draws::mixed))]
+fn mixed(word: u64) -> u64
+    ensures { result ≡ mixed word }
+{
+    let once = folded(word, 30, 0xbf58_476d_1ce4_e5b9);
+    let twice = folded(once, 27, 0x94d0_49bb_1331_11eb);
+    twice ^ (twice >> 31)
+}
+
+/// The number at this place, from 0, of those that a seed gives.
+#[tactic(auto, unfolding(crate::specs::Draws::draw))]
+pub(crate) fn draw(seed: u64, place: u16) -> u64
+    ensures { result ≡ draw seed place }
+{
+    mixed(seed.wrapping_add((u64::from(place) + 1).wrapping_mul(STEP)))
+}
+
+/// A number of the span, by one that was drawn.
+pub(crate) fn within(span: Span, drawn: u64) -> u8
+    requires { span.low ≤ span.high }
+    ensures number { result ≡ within span drawn }
+    ensures least { span.low ≤ result }
+    ensures greatest { result ≤ span.high }
+{
+    let count = u64::from(span.high) + 1 - u64::from(span.low);
+    span.low + (drawn % count) as u8
+}

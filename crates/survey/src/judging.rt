@@ -1,0 +1,103 @@
+//! What the campaign of a seed comes to.
+ghost use Rattle.std.specs.Prelude.{◌≡◌, ◌≢◌, [], IfOk, IfErr};
+ghost use Rattle.scenario.specs.declared.messages.Campaign.TheVariants.{Oral, Signed};
+ghost use Rattle.scenario.specs.declared.fault.ScenarioError.TheVariants.{Memory};
+ghost use Rattle.survey.specs.Judging.{IsFindingOf, IsFound, IsJudged, IsRefused, verdict_in};
+ghost use Rattle.survey.specs.Plotting.{plot_of};
+ghost use Rattle.survey.specs.Wording.{campaign_text, plot_text};
+ghost use Rattle.world.specs.Promises.{IsWellUnderBound};
+
+use crate::family::Family;
+use crate::finding::Finding;
+use crate::plot::Plot;
+use crate::plotting::plot_of;
+use crate::wording::plot_text;
+use round::Scenario;
+use scenario::{Campaign, ScenarioError, read_any};
+use signed::play_signed;
+use std::alloc::{AllocError, Global};
+use world::{Schedule, Verdict, play};
+
+/// The schedule without entries.
+fn unscheduled(alloc: Global) -> Schedule
+    ensures { result ≡ [] }
+{
+    Schedule {
+        lines: Vec::new(alloc),
+    }
+}
+
+/// The verdict on an oral campaign.
+fn oral_verdict(alloc: Global, scenario: Scenario) -> Result<Verdict, AllocError>
+    ensures same { IfOk result (λ v. v ≡ verdict_in (Oral scenario)) }
+    ensures well { IfOk result IsWellUnderBound }
+{
+    let chronicle = play(alloc, scenario, &unscheduled(alloc))?;
+    Ok(chronicle.verdict())
+}
+
+/// The verdict on a signed one.
+fn signed_verdict(alloc: Global, scenario: Scenario) -> Result<Verdict, AllocError>
+    ensures same { IfOk result (λ v. v ≡ verdict_in (Signed scenario)) }
+    ensures well { IfOk result IsWellUnderBound }
+{
+    let chronicle = play_signed(alloc, scenario, &unscheduled(alloc))?;
+    Ok(chronicle.verdict())
+}
+
+/// The verdict on a campaign.
+fn verdict_in(alloc: Global, campaign: Campaign) -> Result<Verdict, AllocError>
+    ensures same { IfOk result (λ v. v ≡ verdict_in campaign) }
+    ensures well { IfOk result IsWellUnderBound }
+{
+    match campaign {
+        Campaign::Oral(scenario) => oral_verdict(alloc, scenario),
+        Campaign::Signed(scenario) => signed_verdict(alloc, scenario),
+    }
+}
+
+/// The verdict of the chronicle that the campaign of a text has with no schedule.
+///
+/// # Errors
+///
+/// The first fault of the text, or want of memory.
+pub fn verdict_on(alloc: Global, text: &str) -> Result<Verdict, ScenarioError>
+    ensures judged { IfOk result (IsJudged text.now) }
+    ensures refused { IfErr result (λ e. e ≢ Memory → IsRefused text.now e) }
+{
+    let campaign = read_any(alloc, text)?;
+    Ok(verdict_in(alloc, campaign)?)
+}
+
+/// What this campaign comes to, which is said to be that of the seed.
+///
+/// # Errors
+///
+/// The first fault of its text, or want of memory.
+pub fn found(alloc: Global, plot: &Plot, seed: u64) -> Result<Finding, ScenarioError>
+    ensures found { IfOk result (IsFound plot.now seed) }
+    ensures refused { IfErr result (λ e. e ≢ Memory → IsRefused (plot_text plot.now) e) }
+{
+    let text = plot_text(alloc, plot)?;
+    let verdict = verdict_on(alloc, text.as_str())?;
+    Ok(Finding {
+        seed,
+        generals: plot.generals,
+        bound: plot.bound,
+        traitors: plot.traitors.len() as u64,
+        verdict,
+    })
+}
+
+/// What the campaign of the family comes to that the seed gives.
+///
+/// # Errors
+///
+/// The first fault of its text, or want of memory.
+pub fn judged(alloc: Global, family: &Family, seed: u64) -> Result<Finding, ScenarioError>
+    ensures found { IfOk result (IsFindingOf family.now seed) }
+    ensures refused { IfErr result (λ e. e ≢ Memory → IsRefused (campaign_text family.now seed) e) }
+{
+    let plot = plot_of(alloc, family, seed)?;
+    found(alloc, &plot, seed)
+}

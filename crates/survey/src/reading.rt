@@ -1,0 +1,148 @@
+//! Lines of what campaigns come to, read again.
+ghost use Rattle.std.specs.Prelude.{◌≡◌, ◌^◌, ◌↔◌, IfOk, IfSome, IsTrue, Some};
+ghost use Rattle.survey.specs.Lines.{AreNumbers, line_text};
+ghost use Rattle.survey.specs.Reading.{answer_told, flag_told, found_by, line_told, number_told, rest, word};
+ghost use Rattle.survey.specs.declared.finding.Finding.{Finding as Found};
+
+use crate::finding::Finding;
+use crate::lines::line;
+use std::alloc::{AllocError, Global};
+use text::{Stop, cut, decimal};
+use world::Verdict;
+
+/// The word behind the first colon up to the stop, and what stands from there on.
+fn member(stop: Stop, bytes: &[u8]) -> (&[u8], &[u8])
+    ensures word { result.0.now ≡ word stop bytes.now }
+    ensures rest { result.1.now ≡ rest stop bytes.now }
+{
+    let (_, behind) = cut(Stop::Byte(b':'), bytes);
+    match behind.split_first() {
+        Some((_, behind)) => cut(stop, behind),
+        None => cut(stop, behind),
+    }
+}
+
+/// The flag that a word says.
+fn flag_told(word: &[u8]) -> Option<bool>
+    ensures { result ≡ flag_told word.now }
+{
+    if word == b"true".as_slice() {
+        return Some(true);
+    }
+    if word == b"false".as_slice() {
+        return Some(false);
+    }
+    None
+}
+
+/// The answer that a word says.
+fn answer_told(word: &[u8]) -> Option<Option<bool>>
+    ensures { result ≡ answer_told word.now }
+{
+    if word == b"null".as_slice() {
+        return Some(None);
+    }
+    Some(Some(flag_told(word)?))
+}
+
+/// The number of 64 bits that a word says.
+fn number_told(word: &[u8]) -> Option<u64>
+    ensures { result ≡ number_told (2 ^ 64) word.now }
+{
+    let number = decimal(word)?;
+    if number < 18_446_744_073_709_551_616 {
+        Some(number as u64)
+    } else {
+        None
+    }
+}
+
+/// The number of 8 bits that a word says.
+fn small_told(word: &[u8]) -> Option<u8>
+    ensures { result ≡ number_told 256 word.now }
+{
+    let number = decimal(word)?;
+    if number < 256 {
+        Some(number as u8)
+    } else {
+        None
+    }
+}
+
+/// What is found by these words, in the order of the line.
+#[tactic(auto, unfolding(crate::specs::Reading::found_by))]
+fn found_by(
+    alike: &[u8],
+    bound: &[u8],
+    generals: &[u8],
+    kept: &[u8],
+    obeyed: &[u8],
+    seed: &[u8],
+    traitors: &[u8],
+) -> Option<Finding>
+    ensures { result ≡ found_by alike.now bound.now generals.now kept.now obeyed.now seed.now traitors.now }
+{
+    let alike = flag_told(alike)?;
+    let bound = small_told(bound)?;
+    let generals = small_told(generals)?;
+    let kept = flag_told(kept)?;
+    let obeyed = answer_told(obeyed)?;
+    let seed = number_told(seed)?;
+    let traitors = number_told(traitors)?;
+    Some(Finding {
+        seed,
+        generals,
+        bound,
+        traitors,
+        verdict: Verdict {
+            alike,
+            obeyed,
+            bound: kept,
+        },
+    })
+}
+
+/// What is found by the words of a line, whatever stands around them.
+#[tactic(auto, unfolding(crate::specs::Reading::line_told))]
+fn line_told(bytes: &[u8]) -> Option<Finding>
+    ensures { result ≡ line_told bytes.now }
+{
+    let comma = Stop::Byte(b',');
+    let (alike, behind) = member(comma, bytes);
+    let (bound, behind) = member(comma, behind);
+    let (generals, behind) = member(comma, behind);
+    let (kept, behind) = member(comma, behind);
+    let (_, behind) = member(comma, behind);
+    let (obeyed, behind) = member(comma, behind);
+    let (seed, behind) = member(comma, behind);
+    let (traitors, _) = member(Stop::Byte(b'}'), behind);
+    found_by(alike, bound, generals, kept, obeyed, seed, traitors)
+}
+
+/// Whether this is the line of what is found.
+fn is_line(alloc: Global, finding: &Finding, bytes: &[u8]) -> Result<bool, AllocError>
+    ensures { IfOk result (λ same. IsTrue same ↔ (bytes.now ≡ line_text finding.now)) }
+{
+    let again = line(alloc, finding)?;
+    Ok(bytes == again.as_bytes())
+}
+
+/// What the line tells a campaign comes to; none where it is no such line.
+///
+/// # Errors
+///
+/// `AllocError` where memory is refused.
+pub fn read_line(alloc: Global, bytes: &[u8]) -> Result<Option<Finding>, AllocError>
+    ensures told { IfOk result (λ told. IfSome told (λ f. bytes.now ≡ line_text f)) }
+    ensures back { (f : Found) → AreNumbers f → bytes.now ≡ line_text f → IfOk result (λ told. told ≡ Some f) }
+{
+    match line_told(bytes) {
+        None => Ok(None),
+        Some(finding) => {
+            if is_line(alloc, &finding, bytes)? {
+                return Ok(Some(finding));
+            }
+            Ok(None)
+        }
+    }
+}

@@ -1,0 +1,8 @@
+//! Spans of small numbers.
+
+/// The numbers from `low` to `high`, both of them within.
+#[derive(Clone, Copy, Debug, PartialEq, Eq)]
+pub struct Span {
+    pub low: u8,
+    pub high: u8,
+}

@@ -1,0 +1,86 @@
+//! Sums of what campaigns come to, counted.
+ghost use Rattle.std.specs.Prelude.{◌≡◌, count_by};
+ghost use Rattle.survey.specs.Sums.{has, is_denied, least, lesser, sums_of, tally_of};
+
+use crate::finding::Finding;
+use crate::sums::{Outcome, Sums, Tally};
+
+/// Whether the campaign has the outcome.
+pub fn has(outcome: Outcome, finding: &Finding) -> bool
+    ensures { result ≡ has outcome finding.now }
+{
+    let verdict = finding.verdict;
+    match outcome {
+        Outcome::Kept => verdict.bound,
+        Outcome::Broken => !verdict.alike,
+        Outcome::Disobeyed => is_denied(verdict.obeyed),
+    }
+}
+
+/// Whether it is said, and no.
+fn is_denied(answer: Option<bool>) -> bool
+    ensures { result ≡ is_denied answer }
+{
+    match answer {
+        None => false,
+        Some(answer) => !answer,
+    }
+}
+
+/// How many of the campaigns have the outcome.
+fn count(outcome: Outcome, findings: &[Finding]) -> u64
+    ensures { result ≡ count_by (has outcome) findings.now }
+{
+    let mut count = 0;
+    for finding in findings {
+        if has(outcome, finding) {
+            count += 1;
+        }
+    }
+    count
+}
+
+/// The lesser of the least so far and one more.
+fn lesser(least: Option<u64>, seed: u64) -> u64
+    ensures { lesser least (Some seed) ≡ Some result }
+{
+    match least {
+        None => seed,
+        Some(least) => least.min(seed),
+    }
+}
+
+/// The least seed that gives a campaign with the outcome.
+fn least(outcome: Outcome, findings: &[Finding]) -> Option<u64>
+    ensures { result ≡ least outcome findings.now }
+{
+    let mut least = None;
+    for finding in findings {
+        if has(outcome, finding) {
+            least = Some(lesser(least, finding.seed));
+        }
+    }
+    least
+}
+
+/// How many of the campaigns have the outcome, and the least seed that gives one.
+pub fn tally_of(outcome: Outcome, findings: &[Finding]) -> Tally
+    ensures { result ≡ tally_of outcome findings.now }
+{
+    Tally {
+        count: count(outcome, findings),
+        first: least(outcome, findings),
+    }
+}
+
+/// How many campaigns there are, and how many of them have each outcome.
+pub fn sums_of(findings: &[Finding]) -> Sums
+    ensures { result ≡ sums_of findings.now }
+{
+    Sums {
+        campaigns: findings.len() as u64,
+        kept: tally_of(Outcome::Kept, findings),
+        broken: tally_of(Outcome::Broken, findings),
+        disobeyed: tally_of(Outcome::Disobeyed, findings),
+    }
+}

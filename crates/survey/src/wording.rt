@@ -1,0 +1,212 @@
+//! The text of a campaign.
+ghost use Rattle.std.specs.Prelude.{◌≡◌, ◌++◌, OnOk, IfOk, codes, decimal, flat_map, option_map, string_bytes};
+ghost use Rattle.survey.specs.Wording.{call_text, campaign_text, counting_text, lie_text, manner_text, numbers_text, patience_text, plot_text, program_text, said_text, source_text, traitor_text};
+
+use crate::family::Family;
+use crate::lie::{Lie, Said};
+use crate::manner::Manner;
+use crate::plot::{Plot, Traitor};
+use crate::plotting::plot_of;
+use combine::Rule;
+use itoa::Buffer;
+use std::alloc::{AllocError, Global};
+
+/// Adds a number.
+fn put_number(out: &mut String, number: u64) -> Result<(), AllocError>
+    ensures { OnOk result (string_bytes out.new ≡ string_bytes out.old ++ decimal number) }
+{
+    let mut buffer = Buffer::new();
+    out.push_str(buffer.format(number))
+}
+
+/// Adds an order, or the register that has it.
+fn put_said(out: &mut String, said: Said) -> Result<(), AllocError>
+    ensures { OnOk result (string_bytes out.new ≡ string_bytes out.old ++ said_text said) }
+{
+    match said {
+        Said::Number(number) => put_number(out, u64::from(number)),
+        Said::Parity => out.push_str("r6"),
+    }
+}
+
+/// Adds a call whose first argument is a number.
+fn put_sway(out: &mut String, receiver: u8, said: Said) -> Result<(), AllocError>
+    ensures { OnOk result (string_bytes out.new ≡ string_bytes out.old ++ call_text (decimal receiver) (said_text said) (codes "sway")) }
+{
+    out.push_str("mov r1, ")?;
+    put_number(out, u64::from(receiver))?;
+    out.push_str("\nmov r2, ")?;
+    put_said(out, said)?;
+    out.push_str("\ncall ")?;
+    out.push_str("sway")?;
+    out.push_str("\n")
+}
+
+/// Adds a call whose second argument is a number of receivers.
+fn put_chain(out: &mut String, said: Said, receivers: u16, helper: &str) -> Result<(), AllocError>
+    ensures { OnOk result (string_bytes out.new ≡ string_bytes out.old ++ call_text (said_text said) (decimal receivers) helper.now) }
+{
+    out.push_str("mov r1, ")?;
+    put_said(out, said)?;
+    out.push_str("\nmov r2, ")?;
+    put_number(out, u64::from(receivers))?;
+    out.push_str("\ncall ")?;
+    out.push_str(helper)?;
+    out.push_str("\n")
+}
+
+/// Adds a call with one argument.
+fn put_honest(out: &mut String, receiver: u8) -> Result<(), AllocError>
+    ensures { OnOk result (string_bytes out.new ≡ string_bytes out.old ++ codes "mov r1, " ++ decimal receiver ++ codes "\ncall honest\n") }
+{
+    out.push_str("mov r1, ")?;
+    put_number(out, u64::from(receiver))?;
+    out.push_str("\ncall honest\n")
+}
+
+/// Adds a statement.
+fn put_lie(out: &mut String, lie: Lie) -> Result<(), AllocError>
+    ensures { OnOk result (string_bytes out.new ≡ string_bytes out.old ++ lie_text lie) }
+{
+    match lie {
+        Lie::Honest(receiver) => put_honest(out, receiver),
+        Lie::Sway(receiver, said) => put_sway(out, receiver, said),
+        Lie::Sign(said, receivers) => put_chain(out, said, receivers, "sign_order"),
+        Lie::Pass(said, receivers) => put_chain(out, said, receivers, "pass_on"),
+    }
+}
+
+/// Adds statements.
+fn put_lies(out: &mut String, lies: &[Lie]) -> Result<(), AllocError>
+    ensures { OnOk result (string_bytes out.new ≡ string_bytes out.old ++ flat_map lie_text lies.now) }
+{
+    for lie in lies {
+        put_lie(out, *lie)?;
+    }
+    Ok(())
+}
+
+/// Adds that the traitor counts on the board, if he does.
+fn put_counting(out: &mut String, counts: bool) -> Result<(), AllocError>
+    ensures { OnOk result (string_bytes out.new ≡ string_bytes out.old ++ counting_text counts) }
+{
+    if !counts {
+        return Ok(());
+    }
+    out.push_str("mov r1, 0\nmov r2, 1\ncall board_add\nmov r6, r0\nand r6, 1\n")
+}
+
+/// Adds a traitor's program.
+#[tactic(auto, unfolding(crate::specs::Wording::program_text))]
+fn put_program(out: &mut String, traitor: &Traitor) -> Result<(), AllocError>
+    ensures { OnOk result (string_bytes out.new ≡ string_bytes out.old ++ program_text traitor.now) }
+{
+    put_counting(out, traitor.counts)?;
+    put_lies(out, traitor.lies.as_slice())?;
+    out.push_str("mov r0, 0\nexit\n")
+}
+
+/// Adds what a traitor's program is read from.
+#[tactic(auto, unfolding(crate::specs::Wording::source_text))]
+fn put_source(out: &mut String, given: Option<&str>, traitor: &Traitor) -> Result<(), AllocError>
+    ensures { OnOk result (string_bytes out.new ≡ string_bytes out.old ++ source_text (option_map (λ hex. hex.now) given.entry) traitor.now) }
+{
+    let Some(hex) = given else {
+        out.push_str("asm = \"\"\"\n")?;
+        put_program(out, traitor)?;
+        return out.push_str("\"\"\"\n");
+    };
+    out.push_str("code = \"")?;
+    out.push_str(hex)?;
+    out.push_str("\"\n")
+}
+
+/// Adds a traitor's table.
+#[tactic(auto, unfolding(crate::specs::Wording::traitor_text))]
+fn put_traitor(out: &mut String, given: Option<&str>, traitor: &Traitor) -> Result<(), AllocError>
+    ensures { OnOk result (string_bytes out.new ≡ string_bytes out.old ++ traitor_text (option_map (λ hex. hex.now) given.entry) traitor.now) }
+{
+    out.push_str("\n[[traitor]]\ngeneral = ")?;
+    put_number(out, u64::from(traitor.general))?;
+    out.push_str("\n")?;
+    put_source(out, given, traitor)
+}
+
+/// Adds the traitors' tables.
+fn put_traitors(
+    out: &mut String,
+    given: Option<&str>,
+    traitors: &[Traitor],
+) -> Result<(), AllocError>
+    ensures { OnOk result (string_bytes out.new ≡ string_bytes out.old ++ flat_map (traitor_text (option_map (λ hex. hex.now) given.entry)) traitors.now) }
+{
+    for traitor in traitors {
+        put_traitor(out, given, traitor)?;
+    }
+    Ok(())
+}
+
+/// Adds how orders are sent.
+fn put_manner(out: &mut String, manner: Manner) -> Result<(), AllocError>
+    ensures { OnOk result (string_bytes out.new ≡ string_bytes out.old ++ manner_text manner) }
+{
+    match manner {
+        Manner::Oral(Rule::Majority) => Ok(()),
+        Manner::Oral(Rule::Median) => out.push_str("rule = \"median\"\n"),
+        Manner::Signed => out.push_str("messages = \"signed\"\n"),
+    }
+}
+
+/// Adds how long traitors are waited for.
+fn put_patience(out: &mut String, patience: Option<u32>) -> Result<(), AllocError>
+    ensures { OnOk result (string_bytes out.new ≡ string_bytes out.old ++ patience_text patience) }
+{
+    let Some(steps) = patience else {
+        return Ok(());
+    };
+    out.push_str("patience = ")?;
+    put_number(out, u64::from(steps))?;
+    out.push_str("\n")
+}
+
+/// Adds the numbers of a campaign.
+fn put_numbers(out: &mut String, plot: &Plot) -> Result<(), AllocError>
+    ensures { OnOk result (string_bytes out.new ≡ string_bytes out.old ++ numbers_text plot.now) }
+{
+    out.push_str("generals = ")?;
+    put_number(out, u64::from(plot.generals))?;
+    out.push_str("\nbound = ")?;
+    put_number(out, u64::from(plot.bound))?;
+    out.push_str("\ncommander = 0\norder = ")?;
+    put_number(out, u64::from(plot.order))?;
+    out.push_str("\n")
+}
+
+/// The text of the campaign.
+///
+/// # Errors
+///
+/// `AllocError` where memory is refused.
+#[tactic(auto, unfolding(crate::specs::Wording::plot_text))]
+pub fn plot_text(alloc: Global, plot: &Plot) -> Result<String, AllocError>
+    ensures { IfOk result (λ text. string_bytes text ≡ plot_text plot.now) }
+{
+    let mut out = String::new(alloc);
+    put_numbers(&mut out, plot)?;
+    put_manner(&mut out, plot.manner)?;
+    put_patience(&mut out, plot.patience)?;
+    put_traitors(&mut out, plot.given.as_deref(), plot.traitors.as_slice())?;
+    Ok(out)
+}
+
+/// The text of the campaign of the family that the seed gives: a scenario in TOML.
+///
+/// # Errors
+///
+/// `AllocError` where memory is refused.
+pub fn campaign_text(alloc: Global, family: &Family, seed: u64) -> Result<String, AllocError>
+    ensures { IfOk result (λ text. string_bytes text ≡ campaign_text family.now seed) }
+{
+    let plot = plot_of(alloc, family, seed)?;
+    plot_text(alloc, &plot)
+}
