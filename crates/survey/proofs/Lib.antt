@@ -3,3 +3,4 @@ pub mod Rereading
 pub mod Ranges
 pub mod Choosing
 pub mod Gathered
+pub mod LineLemmas

@@ -133,14 +133,14 @@ told_again f h =
     ∙ found_again f h
 
 -- a line that tells something tells what it was written of
-pub told_nothing : (bytes : List ℕ) (told : Option Finding) → told ≡ line_told bytes → told ≡ None → (f : Finding) → AreNumbers f → bytes ≡ line_text f → ⊥
-told_nothing bytes told e none f h is =
+pub told_nothing : (bytes : List ℕ) → None ≡ line_told bytes → (f : Finding) → AreNumbers f → bytes ≡ line_text f → ⊥
+told_nothing bytes e f h is =
     let again = told_again f h in
     let same = ap line_told is in
     cc
 
-pub told_this : (bytes : List ℕ) (told : Option Finding) (x : Finding) → told ≡ line_told bytes → told ≡ Some x → (f : Finding) → AreNumbers f → bytes ≡ line_text f → x ≡ f
-told_this bytes told x e some f h is =
+pub told_this : (bytes : List ℕ) (x : Finding) → Some x ≡ line_told bytes → (f : Finding) → AreNumbers f → bytes ≡ line_text f → x ≡ f
+told_this bytes x e f h is =
     let again = told_again f h in
     let same = ap line_told is in
     cc

@@ -35,11 +35,11 @@ unfoldable pub program_text : Traitor → List ℕ
 program_text t = counting_text t.counts ++ flat_map lie_text t.lies ++ codes "mov r0, 0\nexit\n"
 
 unfoldable pub source_text : Option (List ℕ) → Traitor → List ℕ
-source_text None t = codes "asm = \"\"\"\n" ++ program_text t ++ codes "\"\"\"\n"
-source_text (Some hex) t = codes "code = \"" ++ hex ++ codes "\"\n"
+source_text None t = codes "\nasm = \"\"\"\n" ++ program_text t ++ codes "\"\"\"\n"
+source_text (Some hex) t = codes "\ncode = \"" ++ hex ++ codes "\"\n"
 
 unfoldable pub traitor_text : Option (List ℕ) → Traitor → List ℕ
-traitor_text given t = codes "\n[[traitor]]\ngeneral = " ++ decimal t.general ++ codes "\n" ++ source_text given t
+traitor_text given t = codes "\n[[traitor]]\ngeneral = " ++ decimal t.general ++ source_text given t
 
 abbrev pub manner_text : Manner → List ℕ
 manner_text (Oral Majority) = []

@@ -12,6 +12,7 @@ mod lines;
 mod manner;
 mod plot;
 mod plotting;
+mod putting;
 mod reading;
 mod span;
 mod summing;

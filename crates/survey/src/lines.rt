@@ -1,8 +1,9 @@
 //! The line of what a campaign comes to.
 ghost use Rattle.std.specs.Prelude.{◌≡◌, ◌++◌, IfOk, OnOk, string_bytes};
-ghost use Rattle.survey.specs.Lines.{answer_text, flag_text, line_text};
+ghost use Rattle.survey.specs.Lines.{answer_text, back_text, flag_text, front_text, line_text};
 
 use crate::finding::Finding;
+use crate::putting::put_numbered;
 use std::alloc::{AllocError, Global};
 
 /// A flag's word.
@@ -22,6 +23,48 @@ fn answer_text(answer: Option<bool>) -> &'static str
     }
 }
 
+/// Adds a flag behind its name.
+fn put_flag(out: &mut String, name: &str, flag: bool) -> Result<(), AllocError>
+    ensures { OnOk result (string_bytes out.new ≡ string_bytes out.old ++ name.now ++ flag_text flag) }
+{
+    out.push_str(name)?;
+    out.push_str(flag_text(flag))
+}
+
+/// Adds an answer behind its name.
+fn put_answer(out: &mut String, name: &str, answer: Option<bool>) -> Result<(), AllocError>
+    ensures { OnOk result (string_bytes out.new ≡ string_bytes out.old ++ name.now ++ answer_text answer) }
+{
+    out.push_str(name)?;
+    out.push_str(answer_text(answer))
+}
+
+/// Adds the first half of a line.
+fn put_front(out: &mut String, finding: &Finding) -> Result<(), AllocError>
+    ensures { OnOk result (string_bytes out.new ≡ string_bytes out.old ++ front_text finding.now) }
+{
+    put_flag(out, "{\"alike\":", finding.verdict.alike)?;
+    put_numbered(out, ",\"bound\":", u64::from(finding.bound))?;
+    put_numbered(out, ",\"generals\":", u64::from(finding.generals))?;
+    put_flag(out, ",\"kept\":", finding.verdict.bound)?;
+    Ok(())
+}
+
+/// Adds the second half.
+fn put_back(out: &mut String, finding: &Finding) -> Result<(), AllocError>
+    ensures { OnOk result (string_bytes out.new ≡ string_bytes out.old ++ back_text finding.now) }
+{
+    put_answer(
+        out,
+        ",\"line\":\"campaign\",\"obeyed\":",
+        finding.verdict.obeyed,
+    )?;
+    put_numbered(out, ",\"seed\":", finding.seed)?;
+    put_numbered(out, ",\"traitors\":", finding.traitors)?;
+    out.push_str("}\n")?;
+    Ok(())
+}
+
 /// Adds the line of what a campaign comes to: an object of JSON, and a line feed.
 ///
 /// # Errors
@@ -30,22 +73,9 @@ fn answer_text(answer: Option<bool>) -> &'static str
 pub fn put_line(out: &mut String, finding: &Finding) -> Result<(), AllocError>
     ensures { OnOk result (string_bytes out.new ≡ string_bytes out.old ++ line_text finding.now) }
 {
-    let verdict = finding.verdict;
-    let alike = flag_text(verdict.alike);
-    let kept = flag_text(verdict.bound);
-    let obeyed = answer_text(verdict.obeyed);
-    let Finding {
-        seed,
-        generals,
-        bound,
-        traitors,
-        ..
-    } = *finding;
-    write!(
-        out,
-        "{{\"alike\":{alike},\"bound\":{bound},\"generals\":{generals},\"kept\":{kept},\"line\":\"campaign\",\
-         \"obeyed\":{obeyed},\"seed\":{seed},\"traitors\":{traitors}}}\n"
-    )
+    put_front(out, finding)?;
+    put_back(out, finding)?;
+    Ok(())
 }
 
 /// The line of what a campaign comes to: an object of JSON, and a line feed.

@@ -127,6 +127,18 @@ fn is_line(alloc: Global, finding: &Finding, bytes: &[u8]) -> Result<bool, Alloc
     Ok(bytes == again.as_bytes())
 }
 
+/// What is found, where this is its line.
+fn if_line(alloc: Global, finding: Finding, bytes: &[u8]) -> Result<Option<Finding>, AllocError>
+    ensures told { IfOk result (λ told. IfSome told (λ f. bytes.now ≡ line_text f)) }
+    ensures kept { bytes.now ≡ line_text finding → IfOk result (λ told. told ≡ Some finding) }
+{
+    let same = is_line(alloc, &finding, bytes)?;
+    if same {
+        return Ok(Some(finding));
+    }
+    Ok(None)
+}
+
 /// What the line tells a campaign comes to; none where it is no such line.
 ///
 /// # Errors
@@ -138,11 +150,6 @@ pub fn read_line(alloc: Global, bytes: &[u8]) -> Result<Option<Finding>, AllocEr
 {
     match line_told(bytes) {
         None => Ok(None),
-        Some(finding) => {
-            if is_line(alloc, &finding, bytes)? {
-                return Ok(Some(finding));
-            }
-            Ok(None)
-        }
+        Some(finding) => if_line(alloc, finding, bytes),
     }
 }

@@ -7,17 +7,9 @@ use crate::lie::{Lie, Said};
 use crate::manner::Manner;
 use crate::plot::{Plot, Traitor};
 use crate::plotting::plot_of;
+use crate::putting::{put_number, put_numbered};
 use combine::Rule;
-use itoa::Buffer;
 use std::alloc::{AllocError, Global};
-
-/// Adds a number.
-fn put_number(out: &mut String, number: u64) -> Result<(), AllocError>
-    ensures { OnOk result (string_bytes out.new ≡ string_bytes out.old ++ decimal number) }
-{
-    let mut buffer = Buffer::new();
-    out.push_str(buffer.format(number))
-}
 
 /// Adds an order, or the register that has it.
 fn put_said(out: &mut String, said: Said) -> Result<(), AllocError>
@@ -103,7 +95,8 @@ fn put_program(out: &mut String, traitor: &Traitor) -> Result<(), AllocError>
 {
     put_counting(out, traitor.counts)?;
     put_lies(out, traitor.lies.as_slice())?;
-    out.push_str("mov r0, 0\nexit\n")
+    out.push_str("mov r0, 0\nexit\n")?;
+    Ok(())
 }
 
 /// Adds what a traitor's program is read from.
@@ -112,11 +105,11 @@ fn put_source(out: &mut String, given: Option<&str>, traitor: &Traitor) -> Resul
     ensures { OnOk result (string_bytes out.new ≡ string_bytes out.old ++ source_text (option_map (λ hex. hex.now) given.entry) traitor.now) }
 {
     let Some(hex) = given else {
-        out.push_str("asm = \"\"\"\n")?;
+        out.push_str("\nasm = \"\"\"\n")?;
         put_program(out, traitor)?;
         return out.push_str("\"\"\"\n");
     };
-    out.push_str("code = \"")?;
+    out.push_str("\ncode = \"")?;
     out.push_str(hex)?;
     out.push_str("\"\n")
 }
@@ -126,10 +119,9 @@ fn put_source(out: &mut String, given: Option<&str>, traitor: &Traitor) -> Resul
 fn put_traitor(out: &mut String, given: Option<&str>, traitor: &Traitor) -> Result<(), AllocError>
     ensures { OnOk result (string_bytes out.new ≡ string_bytes out.old ++ traitor_text (option_map (λ hex. hex.now) given.entry) traitor.now) }
 {
-    out.push_str("\n[[traitor]]\ngeneral = ")?;
-    put_number(out, u64::from(traitor.general))?;
-    out.push_str("\n")?;
-    put_source(out, given, traitor)
+    put_numbered(out, "\n[[traitor]]\ngeneral = ", u64::from(traitor.general))?;
+    put_source(out, given, traitor)?;
+    Ok(())
 }
 
 /// Adds the traitors' tables.
@@ -173,13 +165,11 @@ fn put_patience(out: &mut String, patience: Option<u32>) -> Result<(), AllocErro
 fn put_numbers(out: &mut String, plot: &Plot) -> Result<(), AllocError>
     ensures { OnOk result (string_bytes out.new ≡ string_bytes out.old ++ numbers_text plot.now) }
 {
-    out.push_str("generals = ")?;
-    put_number(out, u64::from(plot.generals))?;
-    out.push_str("\nbound = ")?;
-    put_number(out, u64::from(plot.bound))?;
-    out.push_str("\ncommander = 0\norder = ")?;
-    put_number(out, u64::from(plot.order))?;
-    out.push_str("\n")
+    put_numbered(out, "generals = ", u64::from(plot.generals))?;
+    put_numbered(out, "\nbound = ", u64::from(plot.bound))?;
+    put_numbered(out, "\ncommander = 0\norder = ", u64::from(plot.order))?;
+    out.push_str("\n")?;
+    Ok(())
 }
 
 /// The text of the campaign.

@@ -1,4 +1,10 @@
+use Rattle.std.proofs.Common.{ℕ, List, ◌∙◌, ◌++◌, ap}
+use Rattle.std.specs.String.{string_bytes}
+use Rattle.survey.specs.Lines.{back_text}
+use Rattle.survey.proofs.LineLemmas.{joined_halves}
 use Rattle.survey.proofs.lines.put_line.Goals as goal
 
 pub returns : goal.returns
-returns c = rw (← c.flag_text-alike.ensures, ← c.flag_text-kept.ensures, ← c.answer_text-obeyed.ensures) c.write.ensures.bytes
+returns c =
+    let f = c.args.finding.now in
+    c.in_ok-put_back.ensures ∙ (ap (λ (xs : List ℕ). xs ++ back_text f) c.in_ok-put_front.ensures ∙ joined_halves (string_bytes c.args.out.now) f)
