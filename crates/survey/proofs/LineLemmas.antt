@@ -3,6 +3,10 @@ use Rattle.std.proofs.Common.{ℕ, ◌≡◌, List, ◌++◌, ap, ◌∙◌, app
 use Rattle.survey.specs.declared.finding.Finding.{Finding}
 use Rattle.survey.specs.Lines.{back_text, front_text, line_text}
 
+-- a name, and what stands behind it
+pub named : (s t n a : List ℕ) → t ≡ (s ++ n) ++ a → t ≡ s ++ (n ++ a)
+named s t n a e = e ∙ append_assoc s n a
+
 pub two_pieces : (s t u a b : List ℕ) → t ≡ s ++ a → u ≡ t ++ b → u ≡ s ++ (a ++ b)
 two_pieces s t u a b e f = f ∙ (ap (λ x. x ++ b) e ∙ append_assoc s a b)
 

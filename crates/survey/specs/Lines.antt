@@ -35,10 +35,10 @@ pub record AreNumbers (f : Finding) : Type 0 where
 -- a line in two halves
 abbrev pub front_text : Finding → List ℕ
 front_text f =
-    codes "{\"alike\":" ++ flag_text f.verdict.alike ++ codes ",\"bound\":" ++ decimal f.bound ++ codes ",\"generals\":" ++ decimal f.generals
-    ++ codes ",\"kept\":" ++ flag_text f.verdict.bound
+    codes "{\"alike\":" ++ (flag_text f.verdict.alike ++ (codes ",\"bound\":" ++ (decimal f.bound
+    ++ (codes ",\"generals\":" ++ (decimal f.generals ++ (codes ",\"kept\":" ++ flag_text f.verdict.bound))))))
 
 abbrev pub back_text : Finding → List ℕ
 back_text f =
-    codes ",\"line\":\"campaign\",\"obeyed\":" ++ answer_text f.verdict.obeyed ++ codes ",\"seed\":" ++ decimal f.seed ++ codes ",\"traitors\":" ++ decimal f.traitors
-    ++ codes "}\n"
+    codes ",\"line\":\"campaign\",\"obeyed\":" ++ (answer_text f.verdict.obeyed ++ (codes ",\"seed\":" ++ (decimal f.seed
+    ++ (codes ",\"traitors\":" ++ (decimal f.traitors ++ codes "}\n")))))

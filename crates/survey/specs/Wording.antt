@@ -32,14 +32,14 @@ counting_text true = codes "mov r1, 0\nmov r2, 1\ncall board_add\nmov r6, r0\nan
 counting_text false = []
 
 unfoldable pub program_text : Traitor → List ℕ
-program_text t = counting_text t.counts ++ flat_map lie_text t.lies ++ codes "mov r0, 0\nexit\n"
+program_text t = counting_text t.counts ++ (flat_map lie_text t.lies ++ codes "mov r0, 0\nexit\n")
 
 unfoldable pub source_text : Option (List ℕ) → Traitor → List ℕ
 source_text None t = codes "\nasm = \"\"\"\n" ++ program_text t ++ codes "\"\"\"\n"
 source_text (Some hex) t = codes "\ncode = \"" ++ hex ++ codes "\"\n"
 
 unfoldable pub traitor_text : Option (List ℕ) → Traitor → List ℕ
-traitor_text given t = codes "\n[[traitor]]\ngeneral = " ++ decimal t.general ++ source_text given t
+traitor_text given t = codes "\n[[traitor]]\ngeneral = " ++ (decimal t.general ++ source_text given t)
 
 abbrev pub manner_text : Manner → List ℕ
 manner_text (Oral Majority) = []
@@ -52,7 +52,8 @@ patience_text (Some steps) = codes "patience = " ++ decimal steps ++ codes "\n"
 
 abbrev pub numbers_text : Plot → List ℕ
 numbers_text p =
-    codes "generals = " ++ decimal p.generals ++ codes "\nbound = " ++ decimal p.bound ++ codes "\ncommander = 0\norder = " ++ decimal p.order ++ codes "\n"
+    codes "generals = " ++ (decimal p.generals ++ (codes "\nbound = " ++ (decimal p.bound
+    ++ (codes "\ncommander = 0\norder = " ++ (decimal p.order ++ codes "\n")))))
 
 unfoldable pub plot_text : Plot → List ℕ
 plot_text p = numbers_text p ++ manner_text p.manner ++ patience_text p.patience ++ flat_map (traitor_text p.given) p.traitors
