@@ -1,27 +1,37 @@
 -- Campaigns' pages are elements.
-use Rattle.std.proofs.Common.{ℕ, ◌≡◌, ◌==◌, nat_lt, List, [], ◌∷◌, ◌++◌, Option, None, Some, codes, encode_utf8, refl, subst, sym}
+use Rattle.std.proofs.Common.{ℕ, zero, suc, ◌≡◌, ◌==◌, nat_lt, List, [], ◌∷◌, ◌++◌, Option, None, Some, codes, encode_utf8, refl, subst, sym}
+use Rattle.std.specs.Prelude.{if◌then◌else◌}
+use Rattle.std.specs.Fmt.{decimal}
 use Rattle.std.specs.List.{flat_map, range_with_len}
 use Rattle.std.proofs.lemmas.Bool.{cond_both}
 use Rattle.markup.specs.Grammar.{IsContent, joined, no_text, text}
 use Rattle.markup.proofs.TagLaws.{proved_elements_are_elements}
 use Rattle.markup.proofs.TextLemmas.{bare_text}
-use Rattle.page.specs.Page.{fold, heading, lines, paragraph}
+use Rattle.page.specs.Page.{cell, fold, heading, item, lines, list, paragraph, table, text_item}
 use Rattle.page.proofs.PageLaws.{proved_pages_are_elements, proved_parts_are_content}
 use Rattle.board.specs.Board.{Access}
+use Rattle.book.specs.Decisions.{decision_of}
 use Rattle.book.specs.Explained.{explained_one}
 use Rattle.book.specs.Table.{MessageTable}
 use Rattle.diagram.specs.Svg.{svg_text}
 use Rattle.diagram.proofs.SvgLaws.{proved_diagrams_are_elements}
-use Rattle.drawing.specs.Lines.{tree_text}
-use Rattle.drawing.specs.declared.node.Style.TheVariants.{Boxes}
+use Rattle.diagram.specs.Words.{answered_words, asked_words}
+use Rattle.drawing.specs.Shown.{deeper, is_open}
+use Rattle.drawing.specs.Words.{said}
+use Rattle.drawing.specs.declared.node.Node.{Node}
+use Rattle.drawing.specs.declared.node.View.{View}
 use Rattle.explain.specs.Explained.{explained}
+use Rattle.explore.specs.Text.{schedule_text}
+use Rattle.label.specs.Labels.{on, others}
 use Rattle.insn.specs.declared.insn.Insn.{Insn}
 use Rattle.retold.specs.Retold.{traitors_of}
 use Rattle.round.specs.Scenario.{Scenario, program_of}
 use Rattle.trace.specs.Text.{chronicle_text}
 use Rattle.world.specs.Chronicle.{Chronicle}
+use Rattle.world.specs.declared.schedule.Repeat.{Repeat}
 use Rattle.world.specs.declared.verdict.Verdict.{Verdict}
-use Rattle.campaign_page.specs.Account.{access_rows, accesses_heading, accesses_part, alike_told, bound_told, chronicle_heading, chronicle_part, general_name, lieutenant_part, lieutenant_told, lieutenant_words, lieutenants_heading, lieutenants_part, obeyed_told, page_text, parts, picture_heading, picture_name, picture_part, program_if, program_part, programs_heading, programs_part, scenario_heading, scenario_part, title, verdict_heading, verdict_part, view, why_part}
+use Rattle.campaign_page.specs.Account.{access_heads, access_row, accesses_heading, accesses_part, alike_told, bound_told, chronicle_heading, chronicle_part, course_told, general_name, lieutenant_part, lieutenant_told, lieutenant_words, lieutenants_heading, lieutenants_part, obeyed_told, page_text, parts, picture_heading, picture_name, picture_part, program_if, program_part, programs_heading, programs_part, recorded_words, scenario_heading, scenario_part, schedule_heading, schedule_part, title, unscheduled_words, verdict_heading, verdict_part, view, why_part}
+use Rattle.campaign_page.specs.Trees.{item_by, items_below, label_item, node_by, root_told, tree_told}
 use Rattle.campaign_page.specs.Laws.{CampaignPagesAreElements}
 
 all : (f : ℕ → List ℕ) (xs : List ℕ) → ((x : ℕ) → IsContent (f x)) → IsContent (flat_map f xs)
@@ -34,6 +44,14 @@ below words parts c = joined (heading words) parts (proved_parts_are_content.hea
 
 scenario_content : (words : List ℕ) → IsContent (scenario_part words)
 scenario_content words = below scenario_heading (lines words) (proved_parts_are_content.lines words)
+
+course_content : (schedule : Option (List (List Repeat))) → IsContent (course_told schedule)
+course_content None = proved_parts_are_content.paragraph recorded_words
+course_content (Some []) = proved_parts_are_content.paragraph unscheduled_words
+course_content (Some (line ∷ rest)) = proved_parts_are_content.lines (schedule_text (line ∷ rest))
+
+schedule_content : (schedule : Option (List (List Repeat))) → IsContent (schedule_part schedule)
+schedule_content schedule = below schedule_heading (course_told schedule) (course_content schedule)
 
 program_content : (g : ℕ) (program : Option (List Insn)) → IsContent (program_if g program)
 program_content g None = text [] no_text
@@ -54,12 +72,33 @@ why_content : (t : MessageTable) (traitors : List ℕ) (g : ℕ) → IsContent (
 why_content t traitors g =
     cond_both (nat_lt t.bound 4) (lines (explained_one t traitors g)) [] IsContent (λ _. proved_parts_are_content.lines (explained_one t traitors g)) (λ _. text [] no_text)
 
+node_content : (node : Node) (inside : List ℕ) → IsContent inside → IsContent (label_item node inside)
+node_content node inside c =
+    cond_both (is_open node.extent) (item (fold (said node) (list inside))) (text_item (said node)) IsContent
+    (λ _. proved_parts_are_content.item (fold (said node) (list inside)) (proved_parts_are_content.fold (said node) (list inside) (proved_parts_are_content.list inside c)))
+    (λ _. proved_parts_are_content.text_item (said node))
+
+items_content : (t : MessageTable) (traitors : List ℕ) (view : View) (k : ℕ) (w : List ℕ) (p : ℕ) → IsContent (items_below t traitors view k w p)
+unfolding items_below
+items_content t traitors view zero w p = text [] no_text
+items_content t traitors view (suc k) w p =
+    all (item_by t traitors view k w p) (others t.generals (p ∷ w))
+    (λ j. node_content (node_by t traitors view k w p j) (items_below t traitors (deeper view) k (w ++ j ∷ []) p) (items_content t traitors (deeper view) k (w ++ j ∷ []) p))
+
+root_content : (node : Node) (inside : List ℕ) → IsContent inside → IsContent (root_told node inside)
+root_content node inside c =
+    joined (paragraph (said node)) (if is_open node.extent then list inside else []) (proved_parts_are_content.paragraph (said node))
+    (cond_both (is_open node.extent) (list inside) [] IsContent (λ _. proved_parts_are_content.list inside c) (λ _. text [] no_text))
+
+tree_content : (t : MessageTable) (traitors : List ℕ) (p : ℕ) → IsContent (tree_told t traitors view p)
+unfolding tree_told
+tree_content t traitors p = root_content _ _ (items_content t traitors (deeper view) t.bound (t.commander ∷ []) p)
+
 lieutenant_content : (t : MessageTable) (traitors : List ℕ) (g : ℕ) → IsContent (lieutenant_told t traitors g)
 lieutenant_content t traitors g =
-    let tree : List ℕ = lines (tree_text t traitors view Boxes g) in
+    let tree : List ℕ = tree_told t traitors view g in
     let why : List ℕ = why_part t traitors g in
-    proved_parts_are_content.fold (lieutenant_words g) (tree ++ why)
-    (joined tree why (proved_parts_are_content.lines (tree_text t traitors view Boxes g)) (why_content t traitors g))
+    proved_parts_are_content.fold (lieutenant_words g (on traitors g) (decision_of t g)) (tree ++ why) (joined tree why (tree_content t traitors g) (why_content t traitors g))
 
 one_content : (t : MessageTable) (traitors : List ℕ) (g : ℕ) → IsContent (lieutenant_part t traitors g)
 one_content t traitors g = cond_both (g == t.commander) [] (lieutenant_told t traitors g) IsContent (λ _. text [] no_text) (λ _. lieutenant_content t traitors g)
@@ -68,9 +107,32 @@ lieutenants_content : (t : MessageTable) (traitors : List ℕ) → IsContent (li
 lieutenants_content t traitors =
     below lieutenants_heading (flat_map (lieutenant_part t traitors) (range_with_len 0 t.generals)) (all (lieutenant_part t traitors) (range_with_len 0 t.generals) (one_content t traitors))
 
+heads_content : IsContent access_heads
+heads_content =
+    proved_parts_are_content.row _
+    (joined _ _ (joined _ _ (joined _ _ (proved_parts_are_content.head (codes "Round")) (proved_parts_are_content.head (codes "General"))) (proved_parts_are_content.head (codes "What he does")))
+    (proved_parts_are_content.head (codes "What the board answers")))
+
+access_content : (a : Access) → IsContent (access_row a)
+access_content a =
+    let one : List ℕ = cell (decimal a.round) in
+    let two : List ℕ = cell (decimal a.general) in
+    let three : List ℕ = cell (asked_words a.request) in
+    let four : List ℕ = cell (answered_words a.reply) in
+    proved_parts_are_content.row (one ++ two ++ three ++ four)
+    (joined (one ++ two ++ three) four
+    (joined (one ++ two) three (joined one two (proved_parts_are_content.cell (decimal a.round)) (proved_parts_are_content.cell (decimal a.general))) (proved_parts_are_content.cell (asked_words a.request)))
+    (proved_parts_are_content.cell (answered_words a.reply)))
+
+rows_content : (accesses : List Access) → IsContent (flat_map access_row accesses)
+rows_content [] = text [] no_text
+rows_content (a ∷ accesses) = joined (access_row a) (flat_map access_row accesses) (access_content a) (rows_content accesses)
+
 accesses_content : (accesses : List Access) → IsContent (accesses_part accesses)
 accesses_content [] = text [] no_text
-accesses_content (a ∷ accesses) = below accesses_heading (lines (access_rows (a ∷ accesses))) (proved_parts_are_content.lines (access_rows (a ∷ accesses)))
+accesses_content (a ∷ accesses) =
+    let rows : List ℕ = access_heads ++ flat_map access_row (a ∷ accesses) in
+    below accesses_heading (table rows) (proved_parts_are_content.table rows (joined access_heads (flat_map access_row (a ∷ accesses)) heads_content (rows_content (a ∷ accesses))))
 
 chronicle_content : (c : Chronicle) → IsContent (chronicle_part c)
 chronicle_content c = below chronicle_heading (lines (flat_map encode_utf8 (chronicle_text c))) (proved_parts_are_content.lines (flat_map encode_utf8 (chronicle_text c)))
@@ -83,15 +145,17 @@ verdict_content v =
     (proved_parts_are_content.paragraph (obeyed_told v.obeyed)))
     (proved_parts_are_content.paragraph (bound_told v.bound))
 
-parts_content : (words : List ℕ) (t : MessageTable) (c : Chronicle) → IsContent (parts words t c)
+parts_content : (words : List ℕ) (schedule : Option (List (List Repeat))) (t : MessageTable) (c : Chronicle) → IsContent (parts words schedule t c)
 unfolding parts
-parts_content words t c =
+parts_content words schedule t c =
     joined _ (verdict_part c.verdict)
     (joined _ (chronicle_part c)
     (joined _ (accesses_part c.accesses)
     (joined _ (lieutenants_part t (traitors_of c.scenario))
     (joined _ (picture_part t c)
-    (joined (scenario_part words) (programs_part c.scenario) (scenario_content words) (programs_content c.scenario))
+    (joined _ (programs_part c.scenario)
+    (joined (scenario_part words) (schedule_part schedule) (scenario_content words) (schedule_content schedule))
+    (programs_content c.scenario))
     (picture_content t c))
     (lieutenants_content t (traitors_of c.scenario)))
     (accesses_content c.accesses))
@@ -99,5 +163,5 @@ parts_content words t c =
     (verdict_content c.verdict)
 
 pub proved_campaign_pages_are_elements : CampaignPagesAreElements
-proved_campaign_pages_are_elements words t c =
-    proved_pages_are_elements (title c.scenario) (parts words t c) (parts_content words t c)
+proved_campaign_pages_are_elements words schedule t c =
+    proved_pages_are_elements (title c.scenario) (parts words schedule t c) (parts_content words schedule t c)

@@ -1,2 +1,3 @@
 mod AccountLaws
 mod ChainLemmas
+mod TreeLemmas

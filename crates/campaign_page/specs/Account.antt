@@ -3,21 +3,24 @@ use Rattle.std.specs.Prelude.{ℕ, ◌==◌, nat_lt, Bool, true, false, if◌the
 use Rattle.std.specs.Fmt.{decimal}
 use Rattle.std.specs.List.{range_with_len}
 use Rattle.board.specs.Board.{Access}
+use Rattle.book.specs.Decisions.{decision_of}
 use Rattle.book.specs.Explained.{explained_one}
 use Rattle.book.specs.Table.{MessageTable}
 use Rattle.diagram.specs.Svg.{svg_text}
-use Rattle.diagram.specs.Words.{access_words}
-use Rattle.drawing.specs.Lines.{tree_text}
-use Rattle.drawing.specs.declared.node.Style.TheVariants.{Boxes}
+use Rattle.diagram.specs.Words.{answered_words, asked_words}
 use Rattle.drawing.specs.declared.node.View.{View}
 use Rattle.explain.specs.Explained.{explained}
+use Rattle.explore.specs.Text.{schedule_text}
 use Rattle.insn.specs.declared.insn.Insn.{Insn}
-use Rattle.page.specs.Page.{fold, heading, lines, page, paragraph, picture}
+use Rattle.label.specs.Labels.{on}
+use Rattle.page.specs.Page.{cell, fold, head, heading, lines, page, paragraph, picture, row, table}
 use Rattle.retold.specs.Retold.{traitors_of}
 use Rattle.round.specs.Scenario.{Scenario, program_of}
 use Rattle.trace.specs.Text.{chronicle_text}
 use Rattle.world.specs.Chronicle.{Chronicle}
+use Rattle.world.specs.declared.schedule.Repeat.{Repeat}
 use Rattle.world.specs.declared.verdict.Verdict.{Verdict}
+use Rattle.campaign_page.specs.Trees.{tree_told}
 
 -- ---- headings
 
@@ -39,6 +42,15 @@ lieutenants_heading = codes "What each lieutenant was told, and why he decides s
 unfoldable pub accesses_heading : List ℕ
 accesses_heading = codes "Accesses to the board"
 
+unfoldable pub schedule_heading : List ℕ
+schedule_heading = codes "Who acts when"
+
+unfoldable pub recorded_words : List ℕ
+recorded_words = codes "As the chronicle tells: the accesses to the board are made in its order."
+
+unfoldable pub unscheduled_words : List ℕ
+unscheduled_words = codes "By no schedule: in each round the loyal generals write, and then each traitor acts up to his end, by their numbers."
+
 unfoldable pub verdict_heading : List ℕ
 verdict_heading = codes "Verdict, and what was promised"
 
@@ -50,6 +62,18 @@ picture_name = codes "Space-time diagram"
 -- the scenario as it is written, with its story at its head
 abbrev pub scenario_part : List ℕ → List ℕ
 scenario_part text = heading scenario_heading ++ lines text
+
+-- the schedule by which the campaign was played, if it was played and is not a chronicle's
+abbrev pub schedule_told : List (List Repeat) → List ℕ
+schedule_told [] = paragraph unscheduled_words
+schedule_told (line ∷ rest) = lines (schedule_text (line ∷ rest))
+
+abbrev pub course_told : Option (List (List Repeat)) → List ℕ
+course_told None = paragraph recorded_words
+course_told (Some schedule) = schedule_told schedule
+
+abbrev pub schedule_part : Option (List (List Repeat)) → List ℕ
+schedule_part schedule = heading schedule_heading ++ course_told schedule
 
 -- the program of a traitor, and what the verifier knows of it
 abbrev pub general_name : ℕ → List ℕ
@@ -72,19 +96,22 @@ programs_part s = heading programs_heading ++ flat_map (program_part s) (range_w
 abbrev pub picture_part : MessageTable → Chronicle → List ℕ
 picture_part t c = heading picture_heading ++ picture picture_name (svg_text t c)
 
--- a lieutenant's tree, two levels below the commander's, and shorter where all tell the same; and how his decision comes about
+-- what a lieutenant decides, his tree, three levels below the commander's, and shorter where all tell the same, and how his decision comes about
 abbrev pub view : View
-view = record { depth = 2; folds = true }
+view = record { depth = 3; folds = true }
 
-abbrev pub lieutenant_words : ℕ → List ℕ
-lieutenant_words g = codes "Lieutenant " ++ decimal g
+abbrev pub traitor_words : Bool → List ℕ
+traitor_words is_traitor = if is_traitor then codes ", a traitor," else []
+
+unfoldable pub lieutenant_words : ℕ → Bool → ℕ → List ℕ
+lieutenant_words g is_traitor order = codes "Lieutenant " ++ (decimal g ++ (traitor_words is_traitor ++ (codes " decides " ++ decimal order)))
 
 -- of five rounds, in which a lieutenant may have more than a thousand lists, only the tree tells how
 abbrev pub why_part : MessageTable → List ℕ → ℕ → List ℕ
 why_part t traitors g = if nat_lt t.bound 4 then lines (explained_one t traitors g) else []
 
 abbrev pub lieutenant_told : MessageTable → List ℕ → ℕ → List ℕ
-lieutenant_told t traitors g = fold (lieutenant_words g) (lines (tree_text t traitors view Boxes g) ++ why_part t traitors g)
+lieutenant_told t traitors g = fold (lieutenant_words g (on traitors g) (decision_of t g)) (tree_told t traitors view g ++ why_part t traitors g)
 
 abbrev pub lieutenant_part : MessageTable → List ℕ → ℕ → List ℕ
 lieutenant_part t traitors g = if g == t.commander then [] else lieutenant_told t traitors g
@@ -93,16 +120,16 @@ abbrev pub lieutenants_part : MessageTable → List ℕ → List ℕ
 lieutenants_part t traitors =
     heading lieutenants_heading ++ flat_map (lieutenant_part t traitors) (range_with_len 0 t.generals)
 
--- the accesses, in the board's order, if there are any
-abbrev pub access_row : Access → List ℕ
-access_row a = codes "round " ++ decimal a.round ++ codes ": " ++ access_words a ++ codes "\n"
+-- the accesses, in the board's order, if there are any: a table with a row for each
+abbrev pub access_heads : List ℕ
+access_heads = row (head (codes "Round") ++ head (codes "General") ++ head (codes "What he does") ++ head (codes "What the board answers"))
 
-abbrev pub access_rows : List Access → List ℕ
-access_rows accesses = flat_map access_row accesses
+abbrev pub access_row : Access → List ℕ
+access_row a = row (cell (decimal a.round) ++ cell (decimal a.general) ++ cell (asked_words a.request) ++ cell (answered_words a.reply))
 
 abbrev pub accesses_part : List Access → List ℕ
 accesses_part [] = []
-accesses_part (a ∷ accesses) = heading accesses_heading ++ lines (access_rows (a ∷ accesses))
+accesses_part (a ∷ accesses) = heading accesses_heading ++ table (access_heads ++ flat_map access_row (a ∷ accesses))
 
 -- the chronicle, each of its bytes as a character
 abbrev pub chronicle_part : Chronicle → List ℕ
@@ -126,10 +153,10 @@ abbrev pub verdict_part : Verdict → List ℕ
 verdict_part v =
     heading verdict_heading ++ paragraph (alike_told v.alike) ++ paragraph (obeyed_told v.obeyed) ++ paragraph (bound_told v.bound)
 
--- all sections, of a chronicle whose letters tell this message table, and whose scenario this text tells
-unfoldable pub parts : List ℕ → MessageTable → Chronicle → List ℕ
-parts text t c =
-    scenario_part text ++ programs_part c.scenario ++ picture_part t c ++ lieutenants_part t (traitors_of c.scenario) ++ accesses_part c.accesses ++ chronicle_part c
+-- all sections, of a chronicle whose letters tell this message table, whose scenario this text tells, and which was played by this schedule, if by one
+unfoldable pub parts : List ℕ → Option (List (List Repeat)) → MessageTable → Chronicle → List ℕ
+parts text schedule t c =
+    scenario_part text ++ schedule_part schedule ++ programs_part c.scenario ++ picture_part t c ++ lieutenants_part t (traitors_of c.scenario) ++ accesses_part c.accesses ++ chronicle_part c
     ++ verdict_part c.verdict
 
 -- the campaign's numbers
@@ -141,5 +168,5 @@ abbrev pub title : Scenario → List ℕ
 title s = title_words s.generals s.bound s.commander s.order
 
 -- the page, under the campaign's numbers
-abbrev pub page_text : List ℕ → MessageTable → Chronicle → List ℕ
-page_text text t c = page (title c.scenario) (parts text t c)
+abbrev pub page_text : List ℕ → Option (List (List Repeat)) → MessageTable → Chronicle → List ℕ
+page_text text schedule t c = page (title c.scenario) (parts text schedule t c)

@@ -1,49 +1,54 @@
 //! A campaign as a page.
-ghost use Rattle.std.specs.Prelude.{◌≡◌, ◌++◌, encode_utf8, flat_map, string_bytes, IfOk, OnOk};
+ghost use Rattle.std.specs.Prelude.{◌≡◌, ◌++◌, encode_utf8, flat_map, option_map, string_bytes, IfOk, OnOk};
 ghost use Rattle.campaign_page.specs.Account.{picture_name, chronicle_heading, picture_heading, scenario_heading, chronicle_part, page_text, parts, picture_part, scenario_part, title, title_words};
 ghost use Rattle.trace.specs.Text.{chronicle_text};
 
-use crate::sections::{put_accesses, put_lieutenants, put_programs};
+use crate::accesses::put_accesses;
+use crate::schedule::put_schedule;
+use crate::sections::{put_lieutenants, put_programs};
 use crate::verdict::put_verdict;
-use book::Table;
+use book::Heard;
 use diagram::campaign_svg;
 use page::{finish, put_heading, put_lines, put_picture, start};
 use std::alloc::{AllocError, Global};
 use trace::{Latch, write_chronicle};
-use world::Chronicle;
+use world::{Chronicle, Schedule};
 
-/// The campaign of a chronicle, whose letters tell this message table and whose scenario this text tells, as one page of
-/// HTML.
+/// The campaign of a chronicle, whose letters tell this message table, whose scenario this text tells, and which was played by
+/// this schedule, if by one, as one page of HTML.
 ///
 /// # Errors
 ///
 /// No memory for the text.
-pub fn page_text(
+pub fn page_text<H: Heard>(
     alloc: Global,
     scenario_text: &str,
-    table: &Table,
+    schedule: Option<&Schedule>,
+    table: &H,
     chronicle: &Chronicle,
 ) -> Result<String, AllocError>
-    ensures { IfOk result (λ text. string_bytes text ≡ page_text scenario_text.now table.now chronicle.now) }
+    ensures { IfOk result (λ text. string_bytes text ≡ page_text scenario_text.now (option_map (λ s. s.now) schedule.entry) (H.seen table.now) chronicle.now) }
 {
     let title = title(alloc, chronicle)?;
     let mut out = start(alloc, title.as_str())?;
-    put_parts(alloc, &mut out, scenario_text, table, chronicle)?;
+    put_parts(alloc, &mut out, scenario_text, schedule, table, chronicle)?;
     finish(&mut out)?;
     Ok(out)
 }
 
 /// Adds all sections.
-fn put_parts(
+fn put_parts<H: Heard>(
     alloc: Global,
     out: &mut String,
     scenario_text: &str,
-    table: &Table,
+    schedule: Option<&Schedule>,
+    table: &H,
     chronicle: &Chronicle,
 ) -> Result<(), AllocError>
-    ensures { OnOk result (string_bytes out.new ≡ string_bytes out.old ++ parts scenario_text.now table.now chronicle.now) }
+    ensures { OnOk result (string_bytes out.new ≡ string_bytes out.old ++ parts scenario_text.now (option_map (λ s. s.now) schedule.entry) (H.seen table.now) chronicle.now) }
 {
     put_scenario(out, scenario_text)?;
+    put_schedule(alloc, out, schedule)?;
     put_programs(alloc, out, chronicle)?;
     put_diagram(alloc, out, table, chronicle)?;
     put_lieutenants(alloc, out, table, chronicle)?;
@@ -92,13 +97,13 @@ fn put_scenario(out: &mut String, text: &str) -> Result<(), AllocError>
 }
 
 /// Adds the picture.
-fn put_diagram(
+fn put_diagram<H: Heard>(
     alloc: Global,
     out: &mut String,
-    table: &Table,
+    table: &H,
     chronicle: &Chronicle,
 ) -> Result<(), AllocError>
-    ensures { OnOk result (string_bytes out.new ≡ string_bytes out.old ++ picture_part table.now chronicle.now) }
+    ensures { OnOk result (string_bytes out.new ≡ string_bytes out.old ++ picture_part (H.seen table.now) chronicle.now) }
 {
     let svg = campaign_svg(alloc, table, chronicle)?;
     put_heading(out, picture_heading())?;

@@ -1,8 +1,11 @@
 //! A campaign as a page of HTML: its scenario, the programs, the picture, the trees, the chronicle and the verdict.
 #![tactic(auto)]
 
+mod accesses;
 mod account;
 mod laws;
+mod listing;
+mod schedule;
 mod sections;
 mod verdict;
 

@@ -1,14 +1,14 @@
-//! Sections with a part for each general or access.
+//! Sections with a part for each general.
 ghost use Rattle.std.specs.Prelude.{◌≡◌, ◌<◌, ◌++◌, flat_map, option_map, string_bytes, IfOk, OnOk};
 ghost use Rattle.std.specs.List.{range_with_len};
-ghost use Rattle.campaign_page.specs.Account.{accesses_heading, lieutenants_heading, programs_heading, access_row, access_rows, accesses_part, lieutenant_part, lieutenant_words, lieutenants_part, program_part, program_told, programs_part, why_part, general_name, view};
+ghost use Rattle.campaign_page.specs.Account.{lieutenants_heading, programs_heading, lieutenant_part, lieutenant_words, lieutenants_part, program_part, program_told, programs_part, traitor_words, why_part, general_name, view};
+ghost use Rattle.label.specs.Labels.{on};
 ghost use Rattle.retold.specs.Retold.{traitors_of};
 ghost use Rattle.round.specs.Scenario.{program_of};
 
-use board::Access;
-use book::{Table, explain_one};
-use diagram::put_access_words;
-use drawing::{Style, View, tree_text};
+use crate::listing::put_tree;
+use book::{Heard, decision, explain_one};
+use drawing::View;
 use explain::explanation;
 use insn::Program;
 use page::{put_fold_end, put_fold_start, put_heading, put_lines};
@@ -79,13 +79,13 @@ fn general_name(alloc: Global, general: u8) -> Result<String, AllocError>
 }
 
 /// Adds what each lieutenant was told, and why he decides so.
-pub(crate) fn put_lieutenants(
+pub(crate) fn put_lieutenants<H: Heard>(
     alloc: Global,
     out: &mut String,
-    table: &Table,
+    table: &H,
     chronicle: &Chronicle,
 ) -> Result<(), AllocError>
-    ensures { OnOk result (string_bytes out.new ≡ string_bytes out.old ++ lieutenants_part table.now (traitors_of chronicle.now.scenario)) }
+    ensures { OnOk result (string_bytes out.new ≡ string_bytes out.old ++ lieutenants_part (H.seen table.now) (traitors_of chronicle.now.scenario)) }
 {
     let traitors = traitors(alloc, chronicle.scenario())?;
     put_heading(out, lieutenants_heading())?;
@@ -93,13 +93,13 @@ pub(crate) fn put_lieutenants(
 }
 
 /// Adds that of each lieutenant.
-fn put_each_lieutenant(
+fn put_each_lieutenant<H: Heard>(
     alloc: Global,
     out: &mut String,
-    table: &Table,
+    table: &H,
     traitors: &[u8],
 ) -> Result<(), AllocError>
-    ensures { OnOk result (string_bytes out.new ≡ string_bytes out.old ++ flat_map (lieutenant_part table.now traitors.now) (range_with_len 0 table.now.generals)) }
+    ensures { OnOk result (string_bytes out.new ≡ string_bytes out.old ++ flat_map (lieutenant_part (H.seen table.now) traitors.now) (range_with_len 0 (H.seen table.now).generals)) }
 {
     for general in 0..table.generals() {
         put_lieutenant_of(alloc, out, table, traitors, general)?;
@@ -108,40 +108,53 @@ fn put_each_lieutenant(
 }
 
 /// Adds that of a general, if he is a lieutenant.
-fn put_lieutenant_of(
+fn put_lieutenant_of<H: Heard>(
     alloc: Global,
     out: &mut String,
-    table: &Table,
+    table: &H,
     traitors: &[u8],
     general: u8,
 ) -> Result<(), AllocError>
-    requires { general < table.now.generals }
-    ensures { OnOk result (string_bytes out.new ≡ string_bytes out.old ++ lieutenant_part table.now traitors.now general) }
+    requires { general < (H.seen table.now).generals }
+    ensures { OnOk result (string_bytes out.new ≡ string_bytes out.old ++ lieutenant_part (H.seen table.now) traitors.now general) }
 {
     if general == table.commander() {
         return Ok(());
     }
-    let view = View {
-        depth: 2,
-        folds: true,
-    };
-    let tree = tree_text(alloc, table, traitors, view, Style::Boxes, general)?;
-    let name = lieutenant_name(alloc, general)?;
+    let is_traitor = has(traitors, general);
+    let name = lieutenant_name(alloc, general, is_traitor, decision(table, general))?;
     put_fold_start(out, name.as_str())?;
-    put_lines(out, tree.as_str())?;
+    put_tree(alloc, out, table, traitors, view(), general)?;
     put_why(alloc, out, table, traitors, general)?;
     put_fold_end(out)
 }
 
+/// How much of a tree is shown.
+fn view() -> View
+    ensures { result ≡ view }
+{
+    View {
+        depth: 3,
+        folds: true,
+    }
+}
+
+/// Whether the general is one of these.
+fn has(generals: &[u8], general: u8) -> bool
+    ensures { result ≡ on generals.now general }
+{
+    generals.iter().any(|x| *x == general)
+}
+
 /// Adds how a lieutenant's decision comes about, if there are at most four rounds.
-fn put_why(
+fn put_why<H: Heard>(
     alloc: Global,
     out: &mut String,
-    table: &Table,
+    table: &H,
     traitors: &[u8],
     general: u8,
 ) -> Result<(), AllocError>
-    ensures { OnOk result (string_bytes out.new ≡ string_bytes out.old ++ why_part table.now traitors.now general) }
+    ensures { OnOk result (string_bytes out.new ≡ string_bytes out.old ++ why_part (H.seen table.now) traitors.now general) }
 {
     if table.bound() >= 4 {
         return Ok(());
@@ -150,55 +163,25 @@ fn put_why(
     put_lines(out, why.as_str())
 }
 
-/// A lieutenant's name.
-fn lieutenant_name(alloc: Global, general: u8) -> Result<String, AllocError>
-    ensures { IfOk result (λ name. string_bytes name ≡ lieutenant_words general) }
-{
-    format!(in alloc; "Lieutenant {general}")
-}
-
-/// Adds the accesses to the board, if there are any.
-pub(crate) fn put_accesses(
+/// A lieutenant's name, and what he decides.
+#[tactic(auto, unfolding(crate::specs::Account::lieutenant_words))]
+fn lieutenant_name(
     alloc: Global,
-    out: &mut String,
-    chronicle: &Chronicle,
-) -> Result<(), AllocError>
-    ensures { OnOk result (string_bytes out.new ≡ string_bytes out.old ++ accesses_part chronicle.now.accesses) }
+    general: u8,
+    is_traitor: bool,
+    order: u32,
+) -> Result<String, AllocError>
+    ensures { IfOk result (λ name. string_bytes name ≡ lieutenant_words general is_traitor order) }
 {
-    put_listed(alloc, out, chronicle.accesses())
+    let mark = traitor_words(is_traitor);
+    format!(in alloc; "Lieutenant {general}{mark} decides {order}")
 }
 
-/// Adds these accesses, if there are any.
-fn put_listed(alloc: Global, out: &mut String, accesses: &[Access]) -> Result<(), AllocError>
-    ensures { OnOk result (string_bytes out.new ≡ string_bytes out.old ++ accesses_part accesses.now) }
+/// What marks a traitor.
+fn traitor_words(is_traitor: bool) -> &'static str
+    ensures { result.now ≡ traitor_words is_traitor }
 {
-    if accesses.is_empty() {
-        return Ok(());
-    }
-    let rows = access_rows(alloc, accesses)?;
-    put_heading(out, accesses_heading())?;
-    put_lines(out, rows.as_str())
-}
-
-/// A line for each access.
-fn access_rows(alloc: Global, accesses: &[Access]) -> Result<String, AllocError>
-    ensures { IfOk result (λ rows. string_bytes rows ≡ access_rows accesses.now) }
-{
-    let mut rows = String::new(alloc);
-    for access in accesses {
-        put_row(&mut rows, access)?;
-    }
-    Ok(rows)
-}
-
-/// Adds the line of an access.
-fn put_row(out: &mut String, access: &Access) -> Result<(), AllocError>
-    ensures { OnOk result (string_bytes out.new ≡ string_bytes out.old ++ access_row access.now) }
-{
-    let round = access.round;
-    write!(out, "round {round}: ")?;
-    put_access_words(out, access)?;
-    out.push_str("\n")
+    if is_traitor { ", a traitor," } else { "" }
 }
 
 /// The heading of the programs.
@@ -215,12 +198,4 @@ fn lieutenants_heading() -> &'static str
     ensures { result.now ≡ lieutenants_heading }
 {
     "What each lieutenant was told, and why he decides so"
-}
-
-/// The heading of the accesses.
-#[tactic(auto, unfolding(crate::specs::Account::accesses_heading))]
-fn accesses_heading() -> &'static str
-    ensures { result.now ≡ accesses_heading }
-{
-    "Accesses to the board"
 }

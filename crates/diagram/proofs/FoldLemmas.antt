@@ -3,8 +3,8 @@ use Rattle.std.proofs.Common.{ℕ, zero, suc, ◌+◌, ◌<◌, ◌≤◌, ◌�
 use Rattle.std.proofs.lemmas.List.{drop_all, drop_more}
 use Rattle.board.specs.Board.{Access}
 use Rattle.book.specs.Table.{MessageTable}
-use Rattle.drawing.specs.declared.node.Node.{Node}
 use Rattle.diagram.specs.declared.stroke.Stroke.{Stroke}
+use Rattle.diagram.specs.declared.telling.Telling.{Telling}
 use Rattle.diagram.specs.Bands.{access_at, accesses_from}
 use Rattle.diagram.specs.Facts.{added, strokes_below, strokes_of, strokes_to, strokes_with}
 use Rattle.diagram.specs.Layout.{access_top}
@@ -27,18 +27,18 @@ accesses_all n round place xs out whole past so =
     sym (append-nil out) ∙ (ap (λ ys. out ++ accesses_from n xs round place ys) (sym (drop_all place xs past)) ∙ so)
 
 -- one label more, and all of them
-pub told_more : (order p place : ℕ) (nodes : List Node) (node : Node) (old new whole : List Stroke) → place < length nodes → node ≡ get_or nodes place node
-    → strokes_below order p nodes place old (drop place nodes) ≡ whole → new ≡ added order p nodes place old node
-    → strokes_below order p nodes (place + 1) new (drop (place + 1) nodes) ≡ whole
+pub told_more : (p place : ℕ) (tellings : List Telling) (telling : Telling) (old new whole : List Stroke) → place < length tellings → telling ≡ get_or tellings place telling
+    → strokes_below p tellings place old (drop place tellings) ≡ whole → new ≡ added p tellings place old telling
+    → strokes_below p tellings (place + 1) new (drop (place + 1) tellings) ≡ whole
 unfolding strokes_below
-told_more order p place nodes node old new whole within is so e =
-    let rest : List Node = drop (place + 1) nodes in
-    let left : drop place nodes ≡ node ∷ rest = drop_more nodes place node within ∙ ap (λ x. x ∷ rest) (sym is) in
-    ap (λ d. strokes_below order p nodes (place + 1) d rest) e ∙ (ap (λ xs. strokes_below order p nodes place old xs) (sym left) ∙ so)
+told_more p place tellings telling old new whole within is so e =
+    let rest : List Telling = drop (place + 1) tellings in
+    let left : drop place tellings ≡ telling ∷ rest = drop_more tellings place telling within ∙ ap (λ x. x ∷ rest) (sym is) in
+    ap (λ d. strokes_below p tellings (place + 1) d rest) e ∙ (ap (λ xs. strokes_below p tellings place old xs) (sym left) ∙ so)
 
-pub told_all : (order p place : ℕ) (nodes : List Node) (out whole : List Stroke) → length nodes ≤ place → strokes_below order p nodes place out (drop place nodes) ≡ whole → out ≡ whole
+pub told_all : (p place : ℕ) (tellings : List Telling) (out whole : List Stroke) → length tellings ≤ place → strokes_below p tellings place out (drop place tellings) ≡ whole → out ≡ whole
 unfolding strokes_below
-told_all order p place nodes out whole past so = ap (λ xs. strokes_below order p nodes place out xs) (sym (drop_all place nodes past)) ∙ so
+told_all p place tellings out whole past so = ap (λ xs. strokes_below p tellings place out xs) (sym (drop_all place tellings past)) ∙ so
 
 -- one receiver more
 pub receiver_more : (t : MessageTable) (order p : ℕ) (old new : List Stroke) → old ≡ strokes_to t order p → new ≡ strokes_with t order p old → new ≡ strokes_to t order (p + 1)

@@ -1,3 +1,5 @@
 pub mod FoldLemmas
 pub mod LayoutLemmas
+pub mod PictureLemmas
 pub mod SvgLaws
+pub mod TellingLemmas

@@ -1,24 +1,43 @@
 -- Who told whom what in a campaign, by the message table t that its letters tell.
-use Rattle.std.specs.Prelude.{ℕ, zero, suc, ◌+◌, ◌-◌, ◌==◌, Bool, true, false, not, ◌&&◌, if◌then◌else◌, List, [], ◌∷◌, ◌++◌, length, take, count_by, slice_index, Option, None, Some}
-use Rattle.std.specs.List.{list_any}
-use Rattle.book.specs.Table.{MessageTable}
-use Rattle.drawing.specs.declared.node.Mark.{Mark}
-use Rattle.drawing.specs.declared.node.Mark.TheVariants.{Honest, Traitor, Lie}
-use Rattle.drawing.specs.declared.node.Node.{Node}
-use Rattle.drawing.specs.declared.node.View.{View}
-use Rattle.drawing.specs.Shown.{nodes_of}
+use Rattle.std.specs.Prelude.{ℕ, zero, suc, ◌+◌, ◌==◌, Bool, true, false, not, ◌&&◌, if◌then◌else◌, List, [], ◌∷◌, ◌++◌, length, take, count_by, Option, None, Some}
+use Rattle.std.specs.List.{flat_map, list_any}
+use Rattle.label.specs.Labels.{others}
+use Rattle.label.specs.Oral.{taken}
+use Rattle.book.specs.Conditions.{is_told}
+use Rattle.book.specs.Table.{MessageTable, told}
 use Rattle.diagram.specs.declared.stroke.Stroke.{Stroke}
+use Rattle.diagram.specs.declared.telling.Telling.{Telling}
 
--- all generals, so that each word is compared with what its teller took, and the whole tree
-abbrev pub everyone : List ℕ
-everyone = 0 ∷ 1 ∷ 2 ∷ 3 ∷ 4 ∷ 5 ∷ 6 ∷ 7 ∷ 8 ∷ 9 ∷ 10 ∷ 11 ∷ 12 ∷ []
+-- what j tells p of the label w; an honest relay tells what he took
+abbrev pub telling_at : MessageTable → List ℕ → ℕ → ℕ → Telling
+telling_at t w j p = record {
+  round = length w + 1;
+  teller = j;
+  told = told t.messages (w ++ j ∷ []) p;
+  differs = not (is_told (taken (told t.messages) w j) (told t.messages (w ++ j ∷ []) p));
+}
 
-abbrev pub whole : View
-whole = record { depth = 4; folds = false }
+-- what the commander tells him; an honest one tells the order that he was given
+abbrev pub first_telling : MessageTable → ℕ → ℕ → Telling
+first_telling t order p = record {
+  round = 1;
+  teller = t.commander;
+  told = told t.messages (t.commander ∷ []) p;
+  differs = not (is_told order (told t.messages (t.commander ∷ []) p));
+}
 
--- who told of a label: its last general
-abbrev pub teller : Node → ℕ
-teller node = slice_index node.label (length node.label - 1)
+-- what p is told of the labels that go on from w with k relays left, by their next general, of each before those that go on from it
+unfoldable pub tellings_below : MessageTable → ℕ → List ℕ → ℕ → List Telling
+tellings_below t zero w p = []
+tellings_below t (suc k) w p = flat_map (λ j. telling_at t w j p ∷ tellings_below t k (w ++ j ∷ []) p) (others t.generals (p ∷ w))
+
+-- those by the next general j
+abbrev pub tellings_by : MessageTable → ℕ → List ℕ → ℕ → ℕ → List Telling
+tellings_by t k w p j = telling_at t w j p ∷ tellings_below t k (w ++ j ∷ []) p
+
+-- all that p is told, by the commander first
+unfoldable pub tellings_of : MessageTable → ℕ → ℕ → List Telling
+tellings_of t order p = first_telling t order p ∷ tellings_below t t.bound (t.commander ∷ []) p
 
 -- the same was told, or nothing both times
 abbrev pub is_same_told : Option ℕ → Option ℕ → Bool
@@ -26,53 +45,43 @@ is_same_told (Some one) (Some other) = one == other
 is_same_told None None = true
 is_same_told _ _ = false
 
--- an honest relay would have told something else: of a label what its last general took, and the commander the order that he was given
-abbrev pub differs_by : ℕ → Option ℕ → Mark → Bool
-differs_by order told Honest = false
-differs_by order told (Lie general took) = true
-differs_by order told Traitor = not (is_same_told (Some order) told)
-
-abbrev pub differs : ℕ → Node → Bool
-differs order node = differs_by order node.told node.mark
-
 abbrev pub is_alike : Bool → Bool → Bool
 is_alike true other = other
 is_alike false other = not other
 
--- both labels make one stroke: the same general told the same in the same round
-abbrev pub is_same : ℕ → Node → Node → Bool
-is_same order one other =
-    length one.label == length other.label && teller one == teller other && is_same_told one.told other.told && is_alike (differs order one) (differs order other)
+-- both make one stroke: the same general told the same in the same round
+abbrev pub is_same : Telling → Telling → Bool
+is_same one other = one.round == other.round && one.teller == other.teller && is_same_told one.told other.told && is_alike one.differs other.differs
 
 abbrev pub is_before : ℕ → ℕ → Stroke → Bool
 is_before round p stroke = stroke.round == round && stroke.receiver == p
 
--- the stroke of a label to p, with this row
-abbrev pub made : ℕ → ℕ → List Node → Node → ℕ → Stroke
-made order p nodes node row = record {
-  round = length node.label;
-  teller = teller node;
+-- the stroke to p of what he was told, with this row
+abbrev pub made : ℕ → List Telling → Telling → ℕ → Stroke
+made p tellings telling row = record {
+  round = telling.round;
+  teller = telling.teller;
   receiver = p;
-  told = node.told;
-  differs = differs order node;
-  labels = count_by (is_same order node) nodes;
+  told = telling.told;
+  differs = telling.differs;
+  labels = count_by (is_same telling) tellings;
   row = row;
 }
 
--- with the stroke of a label to p, which has this place among the labels, where none before it has the same
-unfoldable pub added : ℕ → ℕ → List Node → ℕ → List Stroke → Node → List Stroke
-added order p nodes place done node =
-    if list_any (is_same order node) (take place nodes) then done
-    else done ++ made order p nodes node (count_by (is_before (length node.label) p) done) ∷ []
+-- with the stroke of what p was told, which has this place among all that he was, where none before it is the same
+unfoldable pub added : ℕ → List Telling → ℕ → List Stroke → Telling → List Stroke
+added p tellings place done telling =
+    if list_any (is_same telling) (take place tellings) then done
+    else done ++ made p tellings telling (count_by (is_before telling.round p) done) ∷ []
 
--- with those of labels, the first of which has this place
-unfoldable pub strokes_below : ℕ → ℕ → List Node → ℕ → List Stroke → List Node → List Stroke
-strokes_below order p nodes place done [] = done
-strokes_below order p nodes place done (node ∷ rest) = strokes_below order p nodes (place + 1) (added order p nodes place done node) rest
+-- with those of what he was told, the first of which has this place
+unfoldable pub strokes_below : ℕ → List Telling → ℕ → List Stroke → List Telling → List Stroke
+strokes_below p tellings place done [] = done
+strokes_below p tellings place done (telling ∷ rest) = strokes_below p tellings (place + 1) (added p tellings place done telling) rest
 
 -- with those to p, if he is a lieutenant
 unfoldable pub strokes_with : MessageTable → ℕ → ℕ → List Stroke → List Stroke
-strokes_with t order p done = if p == t.commander then done else strokes_below order p (nodes_of t everyone whole p) 0 done (nodes_of t everyone whole p)
+strokes_with t order p done = if p == t.commander then done else strokes_below p (tellings_of t order p) 0 done (tellings_of t order p)
 
 -- those to the first so many generals
 unfoldable pub strokes_to : MessageTable → ℕ → ℕ → List Stroke

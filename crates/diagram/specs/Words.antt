@@ -66,8 +66,11 @@ abbrev pub word_words : ℕ → List ℕ
 word_words word = codes " " ++ decimal word
 
 -- what the board answered
+abbrev pub answered_words : List ℕ → List ℕ
+answered_words words = flat_map word_words words
+
 abbrev pub answer_words : List ℕ → List ℕ
-answer_words words = codes "; answer" ++ flat_map word_words words
+answer_words words = codes "; answer" ++ answered_words words
 
 abbrev pub general_words : ℕ → List ℕ
 general_words g = codes "general " ++ decimal g

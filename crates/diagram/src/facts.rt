@@ -1,29 +1,13 @@
 //! The strokes of a campaign, by the message table that its letters tell.
-ghost use Rattle.std.specs.Prelude.{◌≡◌, ◌≢◌, ◌<◌, ◌≤◌, IfOk, OnOk, count_by, length, take};
+ghost use Rattle.std.specs.Prelude.{◌≡◌, ◌<◌, ◌≤◌, IfOk, OnOk, count_by, length, take};
 ghost use Rattle.std.specs.List.{list_any};
-ghost use Rattle.diagram.specs.Facts.{added, differs, everyone, is_alike, is_before, is_same, is_same_told, made, strokes_below, strokes_of, strokes_with, teller, whole};
+ghost use Rattle.diagram.specs.Facts.{added, is_alike, is_before, is_same, is_same_told, made, strokes_below, strokes_of, strokes_with};
 
 use crate::stroke::Stroke;
-use book::Table;
-use drawing::{Mark, Node, View, nodes};
+use crate::telling::Telling;
+use crate::tellings::tellings;
+use book::Heard;
 use std::alloc::{AllocError, Global};
-
-/// All generals: each word is compared with what its teller took.
-fn everyone() -> &'static [u8]
-    ensures { result.now ≡ everyone }
-{
-    &[0, 1, 2, 3, 4, 5, 6, 7, 8, 9, 10, 11, 12]
-}
-
-/// The whole tree.
-fn whole() -> View
-    ensures { result ≡ whole }
-{
-    View {
-        depth: 4,
-        folds: false,
-    }
-}
 
 /// Who told whom what, where the commander was given this order: by receiver, in the order of his tree's labels, what one
 /// general told him of several labels of one length alike as one stroke.
@@ -32,8 +16,8 @@ fn whole() -> View
 ///
 /// No memory for them.
 #[tactic(auto, unfolding(crate::specs::Facts::strokes_of, crate::specs::Facts::strokes_to))]
-pub fn strokes(alloc: Global, table: &Table, order: u32) -> Result<Vec<Stroke>, AllocError>
-    ensures { IfOk result (λ strokes. strokes.items ≡ strokes_of table.now order) }
+pub fn strokes<H: Heard>(alloc: Global, table: &H, order: u32) -> Result<Vec<Stroke>, AllocError>
+    ensures { IfOk result (λ strokes. strokes.items ≡ strokes_of (H.seen table.now) order) }
 {
     let mut strokes = Vec::new(alloc);
     for receiver in 0..table.generals() {
@@ -44,78 +28,76 @@ pub fn strokes(alloc: Global, table: &Table, order: u32) -> Result<Vec<Stroke>, 
 
 /// Adds what a general was told, if he is a lieutenant.
 #[tactic(auto, unfolding(crate::specs::Facts::strokes_with))]
-fn push_received(
+fn push_received<H: Heard>(
     alloc: Global,
     strokes: &mut Vec<Stroke>,
-    table: &Table,
+    table: &H,
     order: u32,
     receiver: u8,
 ) -> Result<(), AllocError>
-    requires general { receiver < table.now.generals }
-    ensures { OnOk result (strokes.new.items ≡ strokes_with table.now order receiver strokes.old.items) }
+    requires general { receiver < (H.seen table.now).generals }
+    ensures { OnOk result (strokes.new.items ≡ strokes_with (H.seen table.now) order receiver strokes.old.items) }
 {
     if receiver == table.commander() {
         return Ok(());
     }
-    let nodes = nodes(alloc, table, everyone(), whole(), receiver)?;
-    push_told(strokes, order, receiver, nodes.as_slice())
+    let tellings = tellings(alloc, table, order, receiver)?;
+    push_told(strokes, receiver, tellings.as_slice())
 }
 
 /// Adds what a lieutenant was told of the labels of his tree.
 fn push_told(
     strokes: &mut Vec<Stroke>,
-    order: u32,
     receiver: u8,
-    nodes: &[Node],
+    tellings: &[Telling],
 ) -> Result<(), AllocError>
-    ensures { OnOk result (strokes.new.items ≡ strokes_below order receiver nodes.now 0 strokes.old.items nodes.now) }
+    ensures { OnOk result (strokes.new.items ≡ strokes_below receiver tellings.now 0 strokes.old.items tellings.now) }
 {
-    for (place, node) in nodes.iter().enumerate() {
-        push_stroke(strokes, order, receiver, nodes, place, node)?;
+    for (place, telling) in tellings.iter().enumerate() {
+        push_stroke(strokes, receiver, tellings, place, telling)?;
     }
     Ok(())
 }
 
-/// Adds the stroke of a label, which has this place, where none before it has the same.
+/// Adds the stroke of what was told of a label, which has this place, where none before it is the same.
 #[tactic(auto, unfolding(crate::specs::Facts::added))]
 fn push_stroke(
     strokes: &mut Vec<Stroke>,
-    order: u32,
     receiver: u8,
-    nodes: &[Node],
+    tellings: &[Telling],
     place: usize,
-    node: &Node,
+    telling: &Telling,
 ) -> Result<(), AllocError>
-    requires place { place ≤ length nodes.now }
-    ensures { OnOk result (strokes.new.items ≡ added order receiver nodes.now place strokes.old.items node.now) }
+    requires place { place ≤ length tellings.now }
+    ensures { OnOk result (strokes.new.items ≡ added receiver tellings.now place strokes.old.items telling.now) }
 {
-    if is_known(order, nodes, place, node) {
+    if is_known(tellings, place, telling) {
         return Ok(());
     }
-    let row = rows(strokes.as_slice(), node.label.len(), receiver);
-    strokes.push(made(order, receiver, nodes, node, row))?;
+    let row = rows(strokes.as_slice(), telling.round, receiver);
+    strokes.push(made(receiver, tellings, telling, row))?;
     Ok(())
 }
 
-/// Whether a label before this place makes the same stroke.
-fn is_known(order: u32, nodes: &[Node], place: usize, node: &Node) -> bool
-    requires place { place ≤ length nodes.now }
-    ensures { result ≡ list_any (is_same order node.now) (take place nodes.now) }
+/// Whether the same was told of a label before this place.
+fn is_known(tellings: &[Telling], place: usize, telling: &Telling) -> bool
+    requires place { place ≤ length tellings.now }
+    ensures { result ≡ list_any (is_same telling.now) (take place tellings.now) }
 {
-    nodes[..place].iter().any(|x| is_same(order, node, x))
+    tellings[..place].iter().any(|x| is_same(telling, x))
 }
 
-/// The stroke of a label, with this row.
-fn made(order: u32, receiver: u8, nodes: &[Node], node: &Node, row: usize) -> Stroke
-    ensures { result ≡ made order receiver nodes.now node.now row }
+/// The stroke of what was told, with this row.
+fn made(receiver: u8, tellings: &[Telling], telling: &Telling, row: usize) -> Stroke
+    ensures { result ≡ made receiver tellings.now telling.now row }
 {
     Stroke {
-        round: node.label.len(),
-        teller: teller(node),
+        round: telling.round,
+        teller: telling.teller,
         receiver,
-        told: node.told,
-        differs: differs(order, node),
-        labels: alike(order, nodes, node),
+        told: telling.told,
+        differs: telling.differs,
+        labels: alike(tellings, telling),
         row,
     }
 }
@@ -131,30 +113,10 @@ fn rows(strokes: &[Stroke], round: usize, receiver: u8) -> usize
 }
 
 /// Of how many labels the same was told.
-fn alike(order: u32, nodes: &[Node], node: &Node) -> usize
-    ensures { result ≡ count_by (is_same order node.now) nodes.now }
+fn alike(tellings: &[Telling], telling: &Telling) -> usize
+    ensures { result ≡ count_by (is_same telling.now) tellings.now }
 {
-    nodes.iter().filter(|x| is_same(order, node, x)).count()
-}
-
-/// Who told of a label.
-fn teller(node: &Node) -> u8
-    ensures { result ≡ teller node.now }
-{
-    let label = node.label.generals();
-    label[node.label.len() - 1]
-}
-
-/// Whether an honest relay would have told something else: of a label what its last general took, and the commander the
-/// order that he was given.
-fn differs(order: u32, node: &Node) -> bool
-    ensures { result ≡ differs order node.now }
-{
-    match node.mark {
-        Mark::Honest => false,
-        Mark::Lie(_, _) => true,
-        Mark::Traitor => !is_same_told(Some(order), node.told),
-    }
+    tellings.iter().filter(|x| is_same(telling, x)).count()
 }
 
 /// Whether the same was told, or nothing both times.
@@ -175,12 +137,12 @@ fn is_alike(one: bool, other: bool) -> bool
     if one { other } else { !other }
 }
 
-/// Whether both labels make one stroke.
-fn is_same(order: u32, one: &Node, other: &Node) -> bool
-    ensures { result ≡ is_same order one.now other.now }
+/// Whether both make one stroke.
+fn is_same(one: &Telling, other: &Telling) -> bool
+    ensures { result ≡ is_same one.now other.now }
 {
-    one.label.len() == other.label.len()
-        && teller(one) == teller(other)
+    one.round == other.round
+        && one.teller == other.teller
         && is_same_told(one.told, other.told)
-        && is_alike(differs(order, one), differs(order, other))
+        && is_alike(one.differs, other.differs)
 }

@@ -10,6 +10,8 @@ pub mod layout;
 pub mod shapes;
 mod stroke;
 pub mod svg;
+mod telling;
+mod tellings;
 pub mod words;
 
 pub use facts::strokes;

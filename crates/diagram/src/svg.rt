@@ -16,7 +16,7 @@ use crate::shapes::{
 use crate::stroke::Stroke;
 use crate::words::{put_general, role_words};
 use board::Access;
-use book::Table;
+use book::Heard;
 use round::Scenario;
 use std::alloc::{AllocError, Global};
 use world::Chronicle;
@@ -27,12 +27,12 @@ use world::Chronicle;
 ///
 /// No memory for the text.
 #[tactic(auto, unfolding(crate::specs::Svg::svg_text))]
-pub fn campaign_svg(
+pub fn campaign_svg<H: Heard>(
     alloc: Global,
-    table: &Table,
+    table: &H,
     chronicle: &Chronicle,
 ) -> Result<String, AllocError>
-    ensures { IfOk result (λ text. string_bytes text ≡ svg_text table.now chronicle.now) }
+    ensures { IfOk result (λ text. string_bytes text ≡ svg_text (H.seen table.now) chronicle.now) }
 {
     let scenario = chronicle.scenario();
     let accesses = chronicle.accesses();

@@ -1,7 +1,7 @@
 //! What a picture says, in words.
-ghost use Rattle.std.specs.Prelude.{◌≡◌, ◌++◌, string_bytes, flat_map, OnOk};
+ghost use Rattle.std.specs.Prelude.{◌≡◌, ◌++◌, string_bytes, OnOk};
 ghost use Rattle.semantics.specs.Replies.{words_in};
-ghost use Rattle.diagram.specs.Words.{answer_words, access_words, asked_words, copy_words, differs_words, kind, labels_words, order_words, outline, from_words, general_words, is_copy, kind_of, outline_of, role_words, row_words, shown_words, stroke_words, swap_words, tells_words, word_words};
+ghost use Rattle.diagram.specs.Words.{answer_words, answered_words, access_words, asked_words, copy_words, differs_words, kind, labels_words, order_words, outline, from_words, general_words, is_copy, kind_of, outline_of, role_words, row_words, shown_words, stroke_words, swap_words, tells_words, word_words};
 
 use crate::stroke::Stroke;
 use board::Access;
@@ -111,7 +111,11 @@ fn outline_of(differs: bool, told: Option<u32>) -> &'static str
 }
 
 /// Adds what was asked of the board.
-fn put_asked(out: &mut String, request: &Request) -> Result<(), AllocError>
+///
+/// # Errors
+///
+/// No memory for the text.
+pub fn put_asked(out: &mut String, request: &Request) -> Result<(), AllocError>
     ensures { OnOk result (string_bytes out.new ≡ string_bytes out.old ++ asked_words request.now) }
 {
     match *request {
@@ -157,6 +161,17 @@ fn put_answer(out: &mut String, reply: &Reply) -> Result<(), AllocError>
     ensures { OnOk result (string_bytes out.new ≡ string_bytes out.old ++ answer_words (words_in reply.now)) }
 {
     out.push_str("; answer")?;
+    put_answered(out, reply)
+}
+
+/// Adds the words that the board answered, each behind a space.
+///
+/// # Errors
+///
+/// No memory for the text.
+pub fn put_answered(out: &mut String, reply: &Reply) -> Result<(), AllocError>
+    ensures { OnOk result (string_bytes out.new ≡ string_bytes out.old ++ answered_words (words_in reply.now)) }
+{
     match reply {
         Reply::Word(word) => put_word(out, *word),
         Reply::Words(copied) => put_all(out, copied.as_slice()),
@@ -172,7 +187,7 @@ fn put_word(out: &mut String, word: u64) -> Result<(), AllocError>
 
 /// Adds words of the board, each behind a space.
 fn put_all(out: &mut String, words: &[u64]) -> Result<(), AllocError>
-    ensures { OnOk result (string_bytes out.new ≡ string_bytes out.old ++ flat_map word_words words.now) }
+    ensures { OnOk result (string_bytes out.new ≡ string_bytes out.old ++ answered_words words.now) }
 {
     for word in words {
         put_word(out, *word)?;

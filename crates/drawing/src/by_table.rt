@@ -9,7 +9,7 @@ use crate::graph::tree_graph;
 use crate::lines::tree_text;
 use crate::node::View;
 use crate::svg::tree_svg;
-use book::{Table, TableError, read_table};
+use book::{Heard, TableError, read_table};
 use std::alloc::{AllocError, Global};
 
 /// What this general was told by the message table, in this form, where these are named as traitors; nothing where he is
@@ -30,19 +30,23 @@ pub fn drawn(
     ensures refused { IfErr result (λ e. e ≢ Memory → table_told text.now ≡ Err e) }
 {
     let table = read_table(alloc, text)?;
-    Ok(tree_of(alloc, &table, traitors, view, form, general)?)
+    Ok(tree_drawn(alloc, &table, traitors, view, form, general)?)
 }
 
-/// His tree of the table.
-fn tree_of(
+/// The same of a table.
+///
+/// # Errors
+///
+/// No memory for the text.
+pub fn tree_drawn<H: Heard>(
     alloc: Global,
-    table: &Table,
+    table: &H,
     traitors: &[u8],
     view: View,
     form: Form,
     general: u8,
 ) -> Result<String, AllocError>
-    ensures { IfOk result (λ picture. string_bytes picture ≡ drawn table.now traitors.now view form general) }
+    ensures { IfOk result (λ picture. string_bytes picture ≡ drawn (H.seen table.now) traitors.now view form general) }
 {
     if general >= table.generals() || general == table.commander() {
         return Ok(String::new(alloc));

@@ -9,17 +9,17 @@ ghost use Rattle.drawing.specs.Facts.{below, extent_at, is_alike, is_alike_by, i
 
 use crate::node::{Extent, Mark, Node, Outcome, View};
 use arrayvec::ArrayVec;
-use book::Table;
+use book::Heard;
 use combine::{Combine, Rule};
 use label::Label;
 
 /// What the lieutenant holds of a label, with so many relays left: what he was told or, above the longest labels, what
 /// his list comes to.
 #[cycle(lists)]
-fn held(table: &Table, general: u8, label: &Label, relays: u8) -> Option<u32>
-    requires place { is_place table.now label.now general ≡ true }
-    requires relays { length label.now + relays ≡ table.now.bound + 1 }
-    ensures { result ≡ held table.now relays label.now general }
+fn held<H: Heard>(table: &H, general: u8, label: &Label, relays: u8) -> Option<u32>
+    requires place { is_place (H.seen table.now) label.now general ≡ true }
+    requires relays { length label.now + relays ≡ (H.seen table.now).bound + 1 }
+    ensures { result ≡ held (H.seen table.now) relays label.now general }
 {
     if relays == 0 {
         return table.told(label, general);
@@ -30,10 +30,10 @@ fn held(table: &Table, general: u8, label: &Label, relays: u8) -> Option<u32>
 
 /// The list that the lieutenant combines at a label, with so many relays left behind the next general.
 #[cycle(lists)]
-fn orders(table: &Table, general: u8, label: &Label, relays: u8) -> ArrayVec<u32, 13>
-    requires place { is_place table.now label.now general ≡ true }
-    requires relays { length label.now + relays ≡ table.now.bound }
-    ensures { result.items ≡ list_of table.now relays label.now general }
+fn orders<H: Heard>(table: &H, general: u8, label: &Label, relays: u8) -> ArrayVec<u32, 13>
+    requires place { is_place (H.seen table.now) label.now general ≡ true }
+    requires relays { length label.now + relays ≡ (H.seen table.now).bound }
+    ensures { result.items ≡ list_of (H.seen table.now) relays label.now general }
 {
     let mut orders: ArrayVec<u32, 13> = ArrayVec::new();
     for other in 0..table.generals() {
@@ -47,10 +47,10 @@ fn orders(table: &Table, general: u8, label: &Label, relays: u8) -> ArrayVec<u32
 }
 
 /// What the list of a label comes to, with so many relays left.
-fn outcome(table: &Table, general: u8, label: &Label, relays: u8) -> Outcome
-    requires place { is_place table.now label.now general ≡ true }
-    requires relays { length label.now + relays ≡ table.now.bound + 1 }
-    ensures { result ≡ outcome_at table.now relays label.now general }
+fn outcome<H: Heard>(table: &H, general: u8, label: &Label, relays: u8) -> Outcome
+    requires place { is_place (H.seen table.now) label.now general ≡ true }
+    requires relays { length label.now + relays ≡ (H.seen table.now).bound + 1 }
+    ensures { result ≡ outcome_at (H.seen table.now) relays label.now general }
 {
     if relays == 0 {
         return Outcome::Told;
@@ -113,8 +113,8 @@ fn is_same(one: Option<u32>, other: Option<u32>) -> bool
 
 /// How far the word of this general is to be trusted, who tells the lieutenant of a label: the next label has him behind
 /// it.
-pub(crate) fn mark(
-    table: &Table,
+pub fn mark_at<H: Heard>(
+    table: &H,
     traitors: &[u8],
     general: u8,
     label: &Label,
@@ -122,22 +122,24 @@ pub(crate) fn mark(
     next: &Label,
 ) -> Mark
     requires next { next.now ≡ label.now ++ teller ∷ [] }
-    requires place { is_place table.now next.now general ≡ true }
-    ensures { result ≡ mark_at table.now traitors.now label.now teller general }
+    requires place { is_place (H.seen table.now) next.now general ≡ true }
+    ensures { result ≡ mark_at (H.seen table.now) traitors.now label.now teller general }
 {
+    if !is_named(traitors, teller) {
+        return Mark::Honest;
+    }
     let _size = label.len();
     let took = table.told(label, teller).unwrap_or(0);
-    let told = table.told(next, general);
-    if is_named(traitors, teller) && !is_told(took, told) {
-        Mark::Lie(teller, took)
-    } else {
+    if is_told(took, table.told(next, general)) {
         Mark::Honest
+    } else {
+        Mark::Lie(teller, took)
     }
 }
 
 /// Whether the lieutenant is told the same of a label and of the next one, and this is no lie.
-fn tells(
-    table: &Table,
+fn tells<H: Heard>(
+    table: &H,
     traitors: &[u8],
     general: u8,
     label: &Label,
@@ -145,12 +147,12 @@ fn tells(
     next: &Label,
 ) -> bool
     requires next { next.now ≡ label.now ++ teller ∷ [] }
-    requires place { is_place table.now next.now general ≡ true }
-    ensures { result ≡ tells table.now traitors.now label.now teller general }
+    requires place { is_place (H.seen table.now) next.now general ≡ true }
+    ensures { result ≡ tells (H.seen table.now) traitors.now label.now teller general }
 {
     let _size = label.len();
-    let mark = mark(table, traitors, general, label, teller, next);
-    is_same(table.told(next, general), table.told(label, general)) && is_honest(mark)
+    is_same(table.told(next, general), table.told(label, general))
+        && is_honest(mark_at(table, traitors, general, label, teller, next))
 }
 
 /// Whether it is no lie.
@@ -163,10 +165,10 @@ fn is_honest(mark: Mark) -> bool
 /// Whether the lieutenant is told the same of a label and of all that go on from it, with so many relays left, and none
 /// of these is a lie.
 #[cycle(alike)]
-fn is_alike(table: &Table, traitors: &[u8], general: u8, label: &Label, relays: u8) -> bool
-    requires place { is_place table.now label.now general ≡ true }
-    requires relays { length label.now + relays ≡ table.now.bound + 1 }
-    ensures { result ≡ is_alike table.now traitors.now relays label.now general }
+fn is_alike<H: Heard>(table: &H, traitors: &[u8], general: u8, label: &Label, relays: u8) -> bool
+    requires place { is_place (H.seen table.now) label.now general ≡ true }
+    requires relays { length label.now + relays ≡ (H.seen table.now).bound + 1 }
+    ensures { result ≡ is_alike (H.seen table.now) traitors.now relays label.now general }
 {
     if relays == 0 {
         return true;
@@ -183,8 +185,8 @@ fn is_alike(table: &Table, traitors: &[u8], general: u8, label: &Label, relays: 
 
 /// The same of a label, the next one, and all that go on from that.
 #[cycle(alike)]
-fn is_alike_by(
-    table: &Table,
+fn is_alike_by<H: Heard>(
+    table: &H,
     traitors: &[u8],
     general: u8,
     label: &Label,
@@ -193,9 +195,9 @@ fn is_alike_by(
     relays: u8,
 ) -> bool
     requires next { next.now ≡ label.now ++ teller ∷ [] }
-    requires place { is_place table.now next.now general ≡ true }
-    requires relays { length next.now + relays ≡ table.now.bound + 1 }
-    ensures { result ≡ is_alike_by table.now traitors.now relays label.now teller general }
+    requires place { is_place (H.seen table.now) next.now general ≡ true }
+    requires relays { length next.now + relays ≡ (H.seen table.now).bound + 1 }
+    ensures { result ≡ is_alike_by (H.seen table.now) traitors.now relays label.now teller general }
 {
     tells(table, traitors, general, label, teller, next)
         && is_alike(table, traitors, general, next, relays)
@@ -217,17 +219,17 @@ fn below(generals: u8, size: u8, relays: u8) -> u32
 }
 
 /// Whether the labels below a label are shown.
-fn extent(
-    table: &Table,
+fn extent<H: Heard>(
+    table: &H,
     traitors: &[u8],
     view: View,
     general: u8,
     label: &Label,
     relays: u8,
 ) -> Extent
-    requires place { is_place table.now label.now general ≡ true }
-    requires relays { length label.now + relays ≡ table.now.bound + 1 }
-    ensures { result ≡ extent_at table.now traitors.now view relays label.now general }
+    requires place { is_place (H.seen table.now) label.now general ≡ true }
+    requires relays { length label.now + relays ≡ (H.seen table.now).bound + 1 }
+    ensures { result ≡ extent_at (H.seen table.now) traitors.now view relays label.now general }
 {
     if relays == 0 {
         return Extent::Last;
@@ -244,8 +246,8 @@ fn extent(
 
 /// What is said of a label, with so many relays left.
 #[tactic(auto, unfolding(crate::specs::Facts::node_at))]
-pub(crate) fn node(
-    table: &Table,
+pub fn node_at<H: Heard>(
+    table: &H,
     traitors: &[u8],
     view: View,
     general: u8,
@@ -253,9 +255,9 @@ pub(crate) fn node(
     mark: Mark,
     relays: u8,
 ) -> Node
-    requires place { is_place table.now label general ≡ true }
-    requires relays { length label + relays ≡ table.now.bound + 1 }
-    ensures { result ≡ node_at table.now traitors.now view mark relays label general }
+    requires place { is_place (H.seen table.now) label general ≡ true }
+    requires relays { length label + relays ≡ (H.seen table.now).bound + 1 }
+    ensures { result ≡ node_at (H.seen table.now) traitors.now view mark relays label general }
 {
     let told = table.told(&label, general);
     let outcome = outcome(table, general, &label, relays);

@@ -6,7 +6,7 @@ use crate::node::{Extent, Mark, Node, Outcome, View};
 use crate::places::put_label;
 use crate::shown::nodes;
 use crate::words::put_words;
-use book::{Table, decision};
+use book::{Heard, decision};
 use std::alloc::{AllocError, Global};
 
 /// The tree of what a lieutenant was told, as a graph: a box for each label that is shown, an octagon for a lie and for
@@ -17,16 +17,16 @@ use std::alloc::{AllocError, Global};
 ///
 /// No memory for the text.
 #[tactic(auto, unfolding(crate::specs::Graph::graph_text))]
-pub fn tree_graph(
+pub fn tree_graph<H: Heard>(
     alloc: Global,
-    table: &Table,
+    table: &H,
     traitors: &[u8],
     view: View,
     general: u8,
 ) -> Result<String, AllocError>
-    requires general { general < table.now.generals }
-    requires lieutenant { general ≢ table.now.commander }
-    ensures { IfOk result (λ text. string_bytes text ≡ graph_text table.now traitors.now view general) }
+    requires general { general < (H.seen table.now).generals }
+    requires lieutenant { general ≢ (H.seen table.now).commander }
+    ensures { IfOk result (λ text. string_bytes text ≡ graph_text (H.seen table.now) traitors.now view general) }
 {
     let nodes = nodes(alloc, table, traitors, view, general)?;
     let mut text = String::new(alloc);

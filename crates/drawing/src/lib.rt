@@ -15,11 +15,13 @@ mod shown;
 mod svg;
 mod words;
 
-pub use by_table::drawn;
+pub use by_table::{drawn, tree_drawn};
+pub use facts::{mark_at, node_at};
 pub use form::Form;
 pub use graph::tree_graph;
 pub use laws::{outcomes_are_explained, pictures_are_elements};
 pub use lines::tree_text;
 pub use node::{Branch, Extent, Mark, Node, Outcome, Style, View};
-pub use shown::nodes;
+pub use shown::{deeper, is_open, nodes, root_mark};
 pub use svg::tree_svg;
+pub use words::put_said;

@@ -8,7 +8,7 @@ use crate::node::{Branch, Node, Style, View};
 use crate::places::branch_at;
 use crate::shown::nodes;
 use crate::words::put_said;
-use book::{Table, decision};
+use book::{Heard, decision};
 use std::alloc::{AllocError, Global};
 
 /// The tree of what a lieutenant was told: a line for each label that is shown, below the label that it goes on from,
@@ -19,17 +19,17 @@ use std::alloc::{AllocError, Global};
 ///
 /// No memory for the text.
 #[tactic(auto, unfolding(crate::specs::Lines::tree_text))]
-pub fn tree_text(
+pub fn tree_text<H: Heard>(
     alloc: Global,
-    table: &Table,
+    table: &H,
     traitors: &[u8],
     view: View,
     style: Style,
     general: u8,
 ) -> Result<String, AllocError>
-    requires general { general < table.now.generals }
-    requires lieutenant { general ≢ table.now.commander }
-    ensures { IfOk result (λ text. string_bytes text ≡ tree_text table.now traitors.now view style general) }
+    requires general { general < (H.seen table.now).generals }
+    requires lieutenant { general ≢ (H.seen table.now).commander }
+    ensures { IfOk result (λ text. string_bytes text ≡ tree_text (H.seen table.now) traitors.now view style general) }
 {
     let nodes = nodes(alloc, table, traitors, view, general)?;
     let mut text = format!(in alloc; "lieutenant {general}\n")?;

@@ -3,9 +3,9 @@ ghost use Rattle.std.specs.Prelude.{◌≡◌, ◌≢◌, ◌≤◌, ◌<◌, �
 ghost use Rattle.book.specs.Grammar.{is_place};
 ghost use Rattle.drawing.specs.Shown.{deeper, is_open, nodes_below, nodes_of, root_mark, with_those};
 
-use crate::facts::{is_named, mark, node};
+use crate::facts::{is_named, mark_at, node_at};
 use crate::node::{Extent, Mark, Node, View};
-use book::Table;
+use book::Heard;
 use label::Label;
 use std::alloc::{AllocError, Global};
 
@@ -16,21 +16,21 @@ use std::alloc::{AllocError, Global};
 ///
 /// No memory for them.
 #[tactic(auto, unfolding(crate::specs::Shown::nodes_of))]
-pub fn nodes(
+pub fn nodes<H: Heard>(
     alloc: Global,
-    table: &Table,
+    table: &H,
     traitors: &[u8],
     view: View,
     general: u8,
 ) -> Result<Vec<Node>, AllocError>
-    requires general { general < table.now.generals }
-    requires lieutenant { general ≢ table.now.commander }
-    ensures { IfOk result (λ nodes. nodes.items ≡ nodes_of table.now traitors.now view general) }
+    requires general { general < (H.seen table.now).generals }
+    requires lieutenant { general ≢ (H.seen table.now).commander }
+    ensures { IfOk result (λ nodes. nodes.items ≡ nodes_of (H.seen table.now) traitors.now view general) }
 {
     let commander = table.commander();
     let relays = table.bound();
     let mark = root_mark(traitors, commander);
-    let root = node(
+    let root = node_at(
         table,
         traitors,
         view,
@@ -47,8 +47,8 @@ pub fn nodes(
     Ok(nodes)
 }
 
-/// The mark of the commander's own word.
-fn root_mark(traitors: &[u8], commander: u8) -> Mark
+/// The mark of the commander's own word, where these generals are named as traitors.
+pub fn root_mark(traitors: &[u8], commander: u8) -> Mark
     ensures { result ≡ root_mark traitors.now commander }
 {
     if is_named(traitors, commander) {
@@ -59,14 +59,14 @@ fn root_mark(traitors: &[u8], commander: u8) -> Mark
 }
 
 /// Whether the labels below are shown.
-fn is_open(extent: Extent) -> bool
+pub fn is_open(extent: Extent) -> bool
     ensures { result ≡ is_open extent }
 {
     matches!(extent, Extent::Open)
 }
 
 /// The view one level deeper.
-fn deeper(view: View) -> View
+pub fn deeper(view: View) -> View
     ensures { result ≡ deeper view }
 {
     View {
@@ -77,9 +77,9 @@ fn deeper(view: View) -> View
 
 /// Adds a label, and where they are shown those that go on from it, with so many relays left.
 #[cycle(pushes)]
-fn push_with(
+fn push_with<H: Heard>(
     nodes: &mut Vec<Node>,
-    table: &Table,
+    table: &H,
     traitors: &[u8],
     view: View,
     general: u8,
@@ -87,9 +87,9 @@ fn push_with(
     label: &Label,
     relays: u8,
 ) -> Result<(), AllocError>
-    requires place { is_place table.now label.now general ≡ true }
-    requires relays { length label.now + relays ≡ table.now.bound + 1 }
-    ensures { OnOk result (nodes.new.items ≡ nodes.old.items ++ with_those node (nodes_below table.now traitors.now (deeper view) relays label.now general)) }
+    requires place { is_place (H.seen table.now) label.now general ≡ true }
+    requires relays { length label.now + relays ≡ (H.seen table.now).bound + 1 }
+    ensures { OnOk result (nodes.new.items ≡ nodes.old.items ++ with_those node (nodes_below (H.seen table.now) traitors.now (deeper view) relays label.now general)) }
 {
     let opens = is_open(node.extent);
     nodes.push(node)?;
@@ -101,18 +101,18 @@ fn push_with(
 
 /// Adds the labels that go on from this one, with so many relays left.
 #[cycle(pushes)]
-fn push_below(
+fn push_below<H: Heard>(
     nodes: &mut Vec<Node>,
-    table: &Table,
+    table: &H,
     traitors: &[u8],
     view: View,
     general: u8,
     label: &Label,
     relays: u8,
 ) -> Result<(), AllocError>
-    requires place { is_place table.now label.now general ≡ true }
-    requires relays { length label.now + relays ≡ table.now.bound + 1 }
-    ensures { OnOk result (nodes.new.items ≡ nodes.old.items ++ nodes_below table.now traitors.now view relays label.now general) }
+    requires place { is_place (H.seen table.now) label.now general ≡ true }
+    requires relays { length label.now + relays ≡ (H.seen table.now).bound + 1 }
+    ensures { OnOk result (nodes.new.items ≡ nodes.old.items ++ nodes_below (H.seen table.now) traitors.now view relays label.now general) }
 {
     if relays == 0 {
         return Ok(());
@@ -120,8 +120,8 @@ fn push_below(
     for other in 0..table.generals() {
         if other != general && !label.has(other) {
             let next = label.with(other);
-            let mark = mark(table, traitors, general, label, other, &next);
-            let child = node(
+            let mark = mark_at(table, traitors, general, label, other, &next);
+            let child = node_at(
                 table,
                 traitors,
                 view,

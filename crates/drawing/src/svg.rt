@@ -5,7 +5,7 @@ ghost use Rattle.drawing.specs.Svg.{head, heading, key, look, size, start, svg_t
 use crate::node::View;
 use crate::rows::{put_rows, widest};
 use crate::shown::nodes;
-use book::{Table, decision};
+use book::{Heard, decision};
 use std::alloc::{AllocError, Global};
 
 /// The tree of what a lieutenant was told, in SVG: a circle for each label that is shown, a square for the word of a
@@ -15,16 +15,16 @@ use std::alloc::{AllocError, Global};
 ///
 /// No memory for the text.
 #[tactic(auto, unfolding(crate::specs::Svg::svg_text))]
-pub fn tree_svg(
+pub fn tree_svg<H: Heard>(
     alloc: Global,
-    table: &Table,
+    table: &H,
     traitors: &[u8],
     view: View,
     general: u8,
 ) -> Result<String, AllocError>
-    requires general { general < table.now.generals }
-    requires lieutenant { general ≢ table.now.commander }
-    ensures { IfOk result (λ text. string_bytes text ≡ svg_text table.now traitors.now view general) }
+    requires general { general < (H.seen table.now).generals }
+    requires lieutenant { general ≢ (H.seen table.now).commander }
+    ensures { IfOk result (λ text. string_bytes text ≡ svg_text (H.seen table.now) traitors.now view general) }
 {
     let nodes = nodes(alloc, table, traitors, view, general)?;
     let width = 48 + widest(alloc, nodes.as_slice())?;

@@ -7,7 +7,11 @@ use crate::places::put_label;
 use std::alloc::AllocError;
 
 /// Adds a label, and what is said of it.
-pub(crate) fn put_said(out: &mut String, node: &Node) -> Result<(), AllocError>
+///
+/// # Errors
+///
+/// No memory for the text.
+pub fn put_said(out: &mut String, node: &Node) -> Result<(), AllocError>
     ensures { OnOk result (string_bytes out.new ≡ string_bytes out.old ++ said node.now) }
 {
     put_label(out, node.label.generals())?;

@@ -157,7 +157,7 @@ answered_tried (Page scenario (Recorded listing) target) files first text progra
 answered_tried (Retrace scenario chronicle) files first text program steps are comes tried = absurd comes
 
 -- a picture by the second file's schedule
-pub answered_drawn : (task : Task) (files : Files) (first text : List ℕ) (s : Scenario) → AreBytes files.first first
+pub answered_drawn : (task : Task) (files : Files) (first text : List ℕ) (s : Campaign) → AreBytes files.first first
     → ComesTo task first (answer.Draw s) → IsDrawnBy files.second s text → IsAnswer task files text
 answered_drawn (Check file notation None explained traced) files first text s are comes by = absurd comes
 answered_drawn (Check file notation (Some context) explained traced) files first text s are comes by = absurd comes
@@ -181,7 +181,7 @@ answered_drawn (Page scenario (Recorded listing) target) files first text s are 
 answered_drawn (Retrace scenario chronicle) files first text s are comes by = absurd comes
 
 -- a picture of the second file's chronicle
-pub answered_recorded : (task : Task) (files : Files) (first text : List ℕ) (s : Scenario) → AreBytes files.first first
+pub answered_recorded : (task : Task) (files : Files) (first text : List ℕ) (s : Campaign) → AreBytes files.first first
     → ComesTo task first (answer.DrawRecorded s) → IsDrawnAs files.second s text → IsAnswer task files text
 answered_recorded (Check file notation None explained traced) files first text s are comes by = absurd comes
 answered_recorded (Check file notation (Some context) explained traced) files first text s are comes by = absurd comes
@@ -225,7 +225,7 @@ answered_paged (Tree file general marked drawing depth folded) files first page 
 answered_paged (Draw scenario (Scheduled listing)) files first page s text are comes by = absurd comes
 answered_paged (Draw scenario (Recorded listing)) files first page s text are comes by = absurd comes
 answered_paged (Page scenario (Scheduled listing) target) files first page s text are comes (schedule, listed, paged) =
-    (first, are, (listed.0, listed.1, (s, comes.0, (schedule, listed.2, subst (λ (own : List ℕ). IsPage own (played s schedule) page) comes.1 paged))))
+    (first, are, (listed.0, listed.1, (s, comes.0, (schedule, listed.2, subst (λ (own : List ℕ). IsPage own (Some schedule) (played s schedule) page) comes.1 paged))))
 answered_paged (Page scenario (Recorded listing) target) files first page s text are comes by = absurd comes
 answered_paged (Retrace scenario chronicle) files first page s text are comes by = absurd comes
 

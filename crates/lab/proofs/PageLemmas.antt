@@ -1,15 +1,16 @@
 -- The page of a chronicle.
-use Rattle.std.proofs.Common.{ℕ, ◌≡◌, List, Ok, subst}
+use Rattle.std.proofs.Common.{ℕ, ◌≡◌, List, Option, Ok, subst}
 use Rattle.book.specs.Grammar.{table_told}
 use Rattle.book.specs.Table.{MessageTable}
 use Rattle.campaign_page.specs.Account.{page_text}
 use Rattle.retold.specs.Retold.{table_of}
 use Rattle.world.specs.Chronicle.{Chronicle}
+use Rattle.world.specs.declared.schedule.Repeat.{Repeat}
 use Rattle.lab.specs.Pages.{IsPage}
 
-pub is_page : (scenario : List ℕ) (c : Chronicle) (t : MessageTable) (text page : List ℕ) → text ≡ table_of c → table_told text ≡ Ok t → page ≡ page_text scenario t c
-    → IsPage scenario c page
-is_page scenario c t text page written told is = (t, subst (λ (own : List ℕ). table_told own ≡ Ok t) written told, is)
+pub is_page : (scenario : List ℕ) (schedule : Option (List (List Repeat))) (c : Chronicle) (t : MessageTable) (page : List ℕ)
+    → table_told (table_of c) ≡ Ok t → page ≡ page_text scenario schedule t c → IsPage scenario schedule c page
+is_page scenario schedule c t page told is = (t, told, is)
 
-pub of_same : (scenario : List ℕ) (c own : Chronicle) (page : List ℕ) → c ≡ own → IsPage scenario c page → IsPage scenario own page
-of_same scenario c own page same told = subst (λ (x : Chronicle). IsPage scenario x page) same told
+pub of_same : (scenario : List ℕ) (schedule : Option (List (List Repeat))) (c own : Chronicle) (page : List ℕ) → c ≡ own → IsPage scenario schedule c page → IsPage scenario schedule own page
+of_same scenario schedule c own page same told = subst (λ (x : Chronicle). IsPage scenario schedule x page) same told

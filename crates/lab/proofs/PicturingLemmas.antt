@@ -1,6 +1,8 @@
 -- What is drawn of a text that is a message table or a campaign's.
-use Rattle.std.proofs.Common.{ℕ, ◌≡◌, Bool, true, false, List, [], refl, subst, sym}
-use Rattle.drawing.specs.Drawn.{DrawsTable}
+use Rattle.std.proofs.Common.{ℕ, ◌≡◌, Bool, true, false, List, [], Ok, refl, subst, sym}
+use Rattle.book.specs.Grammar.{table_told}
+use Rattle.book.specs.Table.{MessageTable}
+use Rattle.drawing.specs.Drawn.{DrawsTable, drawn}
 use Rattle.drawing.specs.declared.form.Form.{Form}
 use Rattle.drawing.specs.declared.node.View.{View}
 use Rattle.retold.specs.Retold.{table_of}
@@ -23,11 +25,9 @@ module _ (text traitors : List ℕ) (view : View) (form : Form) (general : ℕ) 
   of_campaign s is tells draws =
       (table_of (played s []), subst (λ (own : Bool). IsTableIn own text (table_of (played s []))) (sym is) (s, tells, refl), draws)
 
-  pub of_chronicle : (s : Scenario) (c : Chronicle) → c ≡ played s [] → text ≡ table_of c → DrawsTable text traitors view form general picture
+  pub of_chronicle : (s : Scenario) (c : Chronicle) (t : MessageTable) → c ≡ played s [] → table_told (table_of c) ≡ Ok t → picture ≡ drawn t traitors view form general
       → DrawsTable (table_of (played s [])) traitors view form general picture
-  of_chronicle s c is written draws =
-      subst (λ (own : Chronicle). DrawsTable (table_of own) traitors view form general picture) is
-      (subst (λ (own : List ℕ). DrawsTable own traitors view form general picture) written draws)
+  of_chronicle s c t is told draws = subst (λ (own : Chronicle). DrawsTable (table_of own) traitors view form general picture) is (t, told, draws)
 
 pub no_table : (named text : List ℕ) (refusal : Refusal) → is_toml text ≡ false → RefusesNaming named text refusal → RefusesTree named text refusal
 no_table named text refusal none refuses = subst (λ (own : Bool). RefusesEither own named text refusal) (sym none) refuses

@@ -146,8 +146,8 @@ GoesOn (Play scenario schedule account explained) first (answer.Play c told why)
 GoesOn (Muster scenario explained) first (answer.Muster s why) = Tells first s × (why ≡ explained)
 GoesOn (Audit scenario chronicle explained) first (answer.Audit c why) =
     TellsAny first c × (why ≡ explained)
-GoesOn (Draw scenario (Scheduled file)) first (answer.Draw s) = Tells first s
-GoesOn (Draw scenario (Recorded file)) first (answer.DrawRecorded s) = Tells first s
+GoesOn (Draw scenario (Scheduled file)) first (answer.Draw c) = TellsAny first c
+GoesOn (Draw scenario (Recorded file)) first (answer.DrawRecorded c) = TellsAny first c
 GoesOn (Page scenario (Scheduled file) target) first (answer.Page s text) = Tells first s × (string_bytes text ≡ first)
 GoesOn (Page scenario (Recorded file) target) first (answer.PageRecorded s text) = Tells first s × (string_bytes text ≡ first)
 GoesOn (Retrace scenario chronicle) first (answer.Retrace s) = Tells first s

@@ -7,24 +7,34 @@ use Rattle.command_line.specs.declared.tasks.Course.TheVariants.{Scheduled, Reco
 use Rattle.diagram.specs.Svg.{svg_text}
 use Rattle.retold.specs.Retold.{table_of}
 use Rattle.round.specs.Scenario.{Scenario}
-use Rattle.scenario.specs.Told.{Tells}
+use Rattle.scenario.specs.Told.{TellsAny}
+use Rattle.scenario.specs.declared.messages.Campaign.{Campaign}
+use Rattle.scenario.specs.declared.messages.Campaign.TheVariants.{Oral, Signed}
+use Rattle.signed_diagram.specs.Svg.{signed_svg}
 use Rattle.trace.specs.Laws.{IsSoundText}
 use Rattle.trace.specs.Names.{chronicle_told}
+use Rattle.trace.specs.SignedAudit.{IsSoundSignedText, signed_chronicle_told}
 use Rattle.world.specs.declared.schedule.Repeat.{Repeat}
 use Rattle.world.specs.Chronicle.{Chronicle}
-use Rattle.lab.specs.Campaigns.{IsSchedule, played}
+use Rattle.lab.specs.Campaigns.{IsSchedule, played, signed_played}
 
 -- the picture is that of the chronicle and of the message table that its own letters tell
 abbrev pub IsDiagram : Chronicle → List ℕ → Type 0
 IsDiagram c picture = (table : MessageTable) × (table_told (table_of c) ≡ Ok table) × (picture ≡ svg_text table c)
 
--- the bytes are the text of a chronicle of the campaign, and this is its picture
-abbrev pub IsRecordDrawn : Scenario → List ℕ → List ℕ → Type 0
-IsRecordDrawn s bytes picture = IsSoundText s bytes × IsDiagram (chronicle_told s bytes) picture
+-- the picture is that of the campaign's chronicle by a schedule
+abbrev pub IsCampaignDrawn : Campaign → List (List Repeat) → List ℕ → Type 0
+IsCampaignDrawn (Oral s) schedule picture = IsDiagram (played s schedule) picture
+IsCampaignDrawn (Signed s) schedule picture = picture ≡ signed_svg (signed_played s schedule)
 
--- the first file's bytes tell an oral campaign, and the picture is that of its chronicle by the schedule that the second's tell, or of the
+-- the bytes are the text of a chronicle of the campaign, and this is its picture
+abbrev pub IsRecordDrawn : Campaign → List ℕ → List ℕ → Type 0
+IsRecordDrawn (Oral s) bytes picture = IsSoundText s bytes × IsDiagram (chronicle_told s bytes) picture
+IsRecordDrawn (Signed s) bytes picture = IsSoundSignedText s bytes × (picture ≡ signed_svg (signed_chronicle_told s bytes))
+
+-- the first file's bytes tell a campaign, and the picture is that of its chronicle by the schedule that the second's tell, or of the
 -- chronicle whose text they are; there is no schedule but the empty one, and no byte of a chronicle, where there is no second file
 abbrev pub Draws : Course → List ℕ → Option (List ℕ) → List ℕ → Type 0
 Draws (Scheduled file) first second picture =
-    (s : Scenario) × Tells first s × ((schedule : List (List Repeat)) × IsSchedule second schedule × IsDiagram (played s schedule) picture)
-Draws (Recorded file) first second picture = (s : Scenario) × Tells first s × IsRecordDrawn s (unwrap_or second []) picture
+    (c : Campaign) × TellsAny first c × ((schedule : List (List Repeat)) × IsSchedule second schedule × IsCampaignDrawn c schedule picture)
+Draws (Recorded file) first second picture = (c : Campaign) × TellsAny first c × IsRecordDrawn c (unwrap_or second []) picture

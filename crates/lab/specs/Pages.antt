@@ -1,5 +1,5 @@
 -- What a campaign's page is.
-use Rattle.std.specs.Prelude.{ℕ, ◌≡◌, List, [], Option, Ok, unwrap_or}
+use Rattle.std.specs.Prelude.{ℕ, ◌≡◌, List, [], Option, None, Some, Ok, unwrap_or}
 use Rattle.book.specs.Grammar.{table_told}
 use Rattle.book.specs.Table.{MessageTable}
 use Rattle.campaign_page.specs.Account.{page_text}
@@ -14,17 +14,17 @@ use Rattle.world.specs.declared.schedule.Repeat.{Repeat}
 use Rattle.world.specs.Chronicle.{Chronicle}
 use Rattle.lab.specs.Campaigns.{IsSchedule, played}
 
--- the page is that of the chronicle, of the message table that its own letters tell, and of the scenario's text
-abbrev pub IsPage : List ℕ → Chronicle → List ℕ → Type 0
-IsPage text c page = (table : MessageTable) × (table_told (table_of c) ≡ Ok table) × (page ≡ page_text text table c)
+-- the page is that of the chronicle, of the message table that its own letters tell, of the scenario's text, and of the schedule, if it was played by one
+abbrev pub IsPage : List ℕ → Option (List (List Repeat)) → Chronicle → List ℕ → Type 0
+IsPage text schedule c page = (table : MessageTable) × (table_told (table_of c) ≡ Ok table) × (page ≡ page_text text schedule table c)
 
 -- the bytes are the text of a chronicle of the campaign, and this is its page
 abbrev pub IsRecordTold : Scenario → List ℕ → List ℕ → List ℕ → Type 0
-IsRecordTold s text bytes page = IsSoundText s bytes × IsPage text (chronicle_told s bytes) page
+IsRecordTold s text bytes page = IsSoundText s bytes × IsPage text None (chronicle_told s bytes) page
 
 -- the first file's bytes tell an oral campaign, and the page has them, and is that of its chronicle by the schedule that the second's tell, or
 -- of the chronicle whose text they are; there is no schedule but the empty one, and no byte of a chronicle, where there is no second file
 abbrev pub TellsPage : Course → List ℕ → Option (List ℕ) → List ℕ → Type 0
 TellsPage (Scheduled file) first second page =
-    (s : Scenario) × Tells first s × ((schedule : List (List Repeat)) × IsSchedule second schedule × IsPage first (played s schedule) page)
+    (s : Scenario) × Tells first s × ((schedule : List (List Repeat)) × IsSchedule second schedule × IsPage first (Some schedule) (played s schedule) page)
 TellsPage (Recorded file) first second page = (s : Scenario) × Tells first s × IsRecordTold s first (unwrap_or second []) page

@@ -18,7 +18,7 @@ use Rattle.lab.specs.declared.first_answer.FirstAnswer.{FirstAnswer}
 use Rattle.lab.specs.declared.first_answer.FirstAnswer.TheVariants as answer
 use Rattle.lab.specs.Answers.{GoesOn, IsPlace, IsTriedAt, IsTriedBy, Prints}
 use Rattle.lab.specs.Campaigns.{IsAudited, IsPlayed, IsSchedule, played}
-use Rattle.lab.specs.Diagrams.{IsDiagram, IsRecordDrawn}
+use Rattle.lab.specs.Diagrams.{IsCampaignDrawn, IsRecordDrawn}
 use Rattle.lab.specs.Pages.{IsPage, IsRecordTold}
 use Rattle.lab.specs.Retracing.{IsScheduleFor}
 use Rattle.streams.specs.Names.{shown}
@@ -74,16 +74,16 @@ abbrev pub IsAuditOf : Option (Option (List ℕ)) → Campaign → Option Lieute
 IsAuditOf known c explained text = (bytes : List ℕ) × AreSecondBytes known bytes × IsAudited c explained bytes text
 
 -- the picture is that of the campaign by the second file's schedule
-abbrev pub IsDrawnBy : Option (Option (List ℕ)) → Scenario → List ℕ → Type 0
-IsDrawnBy known s picture = (schedule : List (List Repeat)) × IsScheduleOf known schedule × IsDiagram (played s schedule) picture
+abbrev pub IsDrawnBy : Option (Option (List ℕ)) → Campaign → List ℕ → Type 0
+IsDrawnBy known c picture = (schedule : List (List Repeat)) × IsScheduleOf known schedule × IsCampaignDrawn c schedule picture
 
 -- that of the campaign as the second file tells it
-abbrev pub IsDrawnAs : Option (Option (List ℕ)) → Scenario → List ℕ → Type 0
-IsDrawnAs known s picture = (bytes : List ℕ) × AreSecondBytes known bytes × IsRecordDrawn s bytes picture
+abbrev pub IsDrawnAs : Option (Option (List ℕ)) → Campaign → List ℕ → Type 0
+IsDrawnAs known c picture = (bytes : List ℕ) × AreSecondBytes known bytes × IsRecordDrawn c bytes picture
 
 -- the page is that of the campaign, whose scenario this text tells, by the second file's schedule
 abbrev pub IsPagedBy : Option (Option (List ℕ)) → Scenario → List ℕ → List ℕ → Type 0
-IsPagedBy known s text page = (schedule : List (List Repeat)) × IsScheduleOf known schedule × IsPage text (played s schedule) page
+IsPagedBy known s text page = (schedule : List (List Repeat)) × IsScheduleOf known schedule × IsPage text (Some schedule) (played s schedule) page
 
 -- that of the campaign as the second file tells it
 abbrev pub IsPagedAs : Option (Option (List ℕ)) → Scenario → List ℕ → List ℕ → Type 0
@@ -151,8 +151,8 @@ IsRefusedLater (answer.Trial program told) known refusal = IsSettingRefused know
 IsRefusedLater (answer.Play c account explained) known refusal = IsScheduleRefused known refusal
 IsRefusedLater (answer.Muster s explained) known refusal = IsUnmustered refusal
 IsRefusedLater (answer.Audit c explained) known refusal = IsChronicleRefused c known refusal
-IsRefusedLater (answer.Draw s) known refusal = IsScheduleRefused known refusal
-IsRefusedLater (answer.DrawRecorded s) known refusal = IsChronicleRefused (Oral s) known refusal
+IsRefusedLater (answer.Draw c) known refusal = IsScheduleRefused known refusal
+IsRefusedLater (answer.DrawRecorded c) known refusal = IsChronicleRefused c known refusal
 IsRefusedLater (answer.Page s text) known refusal = IsScheduleRefused known refusal
 IsRefusedLater (answer.PageRecorded s text) known refusal = IsChronicleRefused (Oral s) known refusal
 IsRefusedLater (answer.Retrace s) known refusal = IsChronicleRefused (Oral s) known refusal

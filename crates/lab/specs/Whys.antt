@@ -77,7 +77,7 @@ TellsWhy _ of name bytes told = told ≡ []
 abbrev pub role_behind : FirstAnswer → Role
 role_behind (answer.Play c account explained) = Schedule
 role_behind (answer.Audit c explained) = Chronicle c
-role_behind (answer.Draw s) = Schedule
+role_behind (answer.Draw c) = Schedule
 role_behind (answer.Page s text) = Schedule
 role_behind _ = Nothing
 

@@ -139,11 +139,11 @@ pub fn answer(alloc: Global, task: &Task, bytes: &[u8]) -> Result<FirstAnswer, R
         Task::Draw {
             course: Course::Scheduled(_),
             ..
-        } => Ok(FirstAnswer::Draw(campaign(alloc, bytes)?)),
+        } => Ok(FirstAnswer::Draw(any_campaign(alloc, bytes)?)),
         Task::Draw {
             course: Course::Recorded(_),
             ..
-        } => Ok(FirstAnswer::DrawRecorded(campaign(alloc, bytes)?)),
+        } => Ok(FirstAnswer::DrawRecorded(any_campaign(alloc, bytes)?)),
         Task::Page {
             course: Course::Scheduled(_),
             ..

@@ -12,23 +12,24 @@ use crate::scheduling::retraced;
 use crate::serving::scheduled;
 use crate::whys::{Traced, later};
 use round::Scenario;
+use scenario::Campaign;
 use std::alloc::Global;
 use streams::Source;
 
 /// The picture of the campaign by the schedule of the second file.
 pub(crate) fn draw_by<'a, R: Source>(
     alloc: Global,
-    scenario: Scenario,
+    campaign: Campaign,
     reported: bool,
     file: &'a str,
     second: Option<R>,
 ) -> Result<Vec<u8>, Failure<'a>>
-    ensures drawn { IfOk result (λ text. IsDrawnBy (option_map R.bytes second) scenario text.items) }
+    ensures drawn { IfOk result (λ text. IsDrawnBy (option_map R.bytes second) campaign text.items) }
     ensures fault { IfErr result
-        (Stops (IsSomeAnd second R.fails) (IsToldLater reported file.entry.now (option_map R.bytes second) (Draw scenario)) file.entry.now) }
+        (Stops (IsSomeAnd second R.fails) (IsToldLater reported file.entry.now (option_map R.bytes second) (Draw campaign)) file.entry.now) }
 {
     let schedule = scheduled(alloc, reported, file, second)?;
-    match diagrammed(alloc, scenario, &schedule) {
+    match diagrammed(alloc, campaign, &schedule) {
         Ok(picture) => Ok(picture),
         Err(_) => Err(Failure::Memory),
     }
@@ -37,17 +38,17 @@ pub(crate) fn draw_by<'a, R: Source>(
 /// The picture of the campaign as the chronicle in the second file tells it.
 pub(crate) fn draw_record<'a, R: Source>(
     alloc: Global,
-    scenario: &Scenario,
+    campaign: &Campaign,
     reported: bool,
     file: &'a str,
     second: Option<R>,
 ) -> Result<Vec<u8>, Failure<'a>>
-    ensures drawn { IfOk result (λ text. IsDrawnAs (option_map R.bytes second) scenario.now text.items) }
+    ensures drawn { IfOk result (λ text. IsDrawnAs (option_map R.bytes second) campaign.now text.items) }
     ensures fault { IfErr result
-        (Stops (IsSomeAnd second R.fails) (IsToldLater reported file.entry.now (option_map R.bytes second) (DrawRecorded scenario.now)) file.entry.now) }
+        (Stops (IsSomeAnd second R.fails) (IsToldLater reported file.entry.now (option_map R.bytes second) (DrawRecorded campaign.now)) file.entry.now) }
 {
     let bytes = read_second(alloc, file, second)?;
-    match record_diagrammed(alloc, scenario, bytes.as_slice()) {
+    match record_diagrammed(alloc, campaign, bytes.as_slice()) {
         Ok(picture) => Ok(picture),
         Err(refusal) => {
             Err(later(

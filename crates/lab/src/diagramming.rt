@@ -1,28 +1,45 @@
 //! Campaigns as pictures.
 ghost use Rattle.std.specs.Prelude.{◌≡◌, IfErr, IfOk};
-ghost use Rattle.lab.specs.Campaigns.{played};
-ghost use Rattle.lab.specs.Diagrams.{IsDiagram, IsRecordDrawn};
+ghost use Rattle.lab.specs.Campaigns.{played, signed_played};
+ghost use Rattle.lab.specs.Diagrams.{IsCampaignDrawn, IsDiagram, IsRecordDrawn};
 ghost use Rattle.lab.specs.Refusals.{RefusesChronicle, RefusesText};
 ghost use Rattle.retold.specs.Retold.{IsWhole};
-ghost use Rattle.scenario.specs.declared.messages.Campaign.TheVariants.{Oral};
+ghost use Rattle.scenario.specs.declared.messages.Campaign.TheVariants.{Oral, Signed};
+ghost use Rattle.signed_diagram.specs.Svg.{signed_svg};
 
 use crate::refusal::Refusal;
 use crate::texts::as_text;
-use book::{TableError, read_table};
 use diagram::campaign_svg;
-use retold::table;
+use retold::{hearing, told_table};
 use round::Scenario;
+use scenario::Campaign;
+use signed::{SignedChronicle, play_signed};
+use signed_diagram::signed_campaign_svg;
 use std::alloc::{AllocError, Global};
-use trace::sound_chronicle;
+use trace::{sound_chronicle, sound_signed_chronicle};
 use world::{Chronicle, Schedule, play};
 
-/// The oral campaign by this schedule, as a space-time diagram in SVG.
+/// The campaign by this schedule, as a space-time diagram in SVG.
 ///
 /// # Errors
 ///
 /// `AllocError` where memory is refused.
-#[tactic(auto, using(crate::proofs::CampaignLemmas::played_wholly, crate::proofs::DiagramLemmas::of_same))]
 pub fn diagrammed(
+    alloc: Global,
+    campaign: Campaign,
+    schedule: &Schedule,
+) -> Result<Vec<u8>, AllocError>
+    ensures { IfOk result (λ picture. IsCampaignDrawn campaign schedule.now picture.items) }
+{
+    match campaign {
+        Campaign::Oral(scenario) => oral_diagrammed(alloc, scenario, schedule),
+        Campaign::Signed(scenario) => signed_diagrammed(alloc, scenario, schedule),
+    }
+}
+
+/// An oral one.
+#[tactic(auto, using(crate::proofs::CampaignLemmas::played_wholly, crate::proofs::DiagramLemmas::of_same))]
+fn oral_diagrammed(
     alloc: Global,
     scenario: Scenario,
     schedule: &Schedule,
@@ -34,23 +51,65 @@ pub fn diagrammed(
     Ok(diagram_of(alloc, &chronicle)?)
 }
 
-/// The oral campaign whose chronicle these bytes are.
+/// A signed one.
+#[tactic(auto, using(crate::proofs::DiagramLemmas::of_signed))]
+fn signed_diagrammed(
+    alloc: Global,
+    scenario: Scenario,
+    schedule: &Schedule,
+) -> Result<Vec<u8>, AllocError>
+    ensures { IfOk result (λ picture. picture.items ≡ signed_svg (signed_played scenario schedule.now)) }
+{
+    let chronicle = play_signed(alloc, scenario, schedule)?;
+    Ok(signed_diagram_of(alloc, &chronicle)?)
+}
+
+/// The campaign whose chronicle these bytes are.
 ///
 /// # Errors
 ///
 /// The first line that is not the chronicle's, or want of memory.
-#[tactic(auto, using(crate::proofs::CampaignLemmas::told_wholly, crate::proofs::DiagramLemmas::of_same))]
 pub fn record_diagrammed(
+    alloc: Global,
+    campaign: &Campaign,
+    bytes: &[u8],
+) -> Result<Vec<u8>, Refusal>
+    ensures drawn { IfOk result (λ picture. IsRecordDrawn campaign.now bytes.now picture.items) }
+    ensures refused { IfErr result (RefusesText (RefusesChronicle campaign.now) bytes.now) }
+{
+    match campaign {
+        Campaign::Oral(scenario) => oral_record_diagrammed(alloc, scenario, bytes),
+        Campaign::Signed(scenario) => signed_record_diagrammed(alloc, scenario, bytes),
+    }
+}
+
+/// An oral one.
+#[tactic(auto, using(crate::proofs::CampaignLemmas::told_wholly, crate::proofs::DiagramLemmas::of_same))]
+fn oral_record_diagrammed(
     alloc: Global,
     scenario: &Scenario,
     bytes: &[u8],
 ) -> Result<Vec<u8>, Refusal>
-    ensures drawn { IfOk result (λ picture. IsRecordDrawn scenario.now bytes.now picture.items) }
+    ensures drawn { IfOk result (λ picture. IsRecordDrawn (Oral scenario.now) bytes.now picture.items) }
     ensures refused { IfErr result (RefusesText (RefusesChronicle (Oral scenario.now)) bytes.now) }
 {
     scenario.recall();
     let chronicle = sound_chronicle(alloc, scenario, as_text(bytes)?)?;
     Ok(diagram_of(alloc, &chronicle)?)
+}
+
+/// A signed one.
+#[tactic(auto, using(crate::proofs::DiagramLemmas::of_signed))]
+fn signed_record_diagrammed(
+    alloc: Global,
+    scenario: &Scenario,
+    bytes: &[u8],
+) -> Result<Vec<u8>, Refusal>
+    ensures drawn { IfOk result (λ picture. IsRecordDrawn (Signed scenario.now) bytes.now picture.items) }
+    ensures refused { IfErr result (RefusesText (RefusesChronicle (Signed scenario.now)) bytes.now) }
+{
+    let chronicle = sound_signed_chronicle(alloc, scenario, as_text(bytes)?)?;
+    Ok(signed_diagram_of(alloc, &chronicle)?)
 }
 
 /// The picture of a chronicle, with the message table that its letters tell.
@@ -59,11 +118,14 @@ fn diagram_of(alloc: Global, chronicle: &Chronicle) -> Result<Vec<u8>, AllocErro
     requires { IsWhole chronicle.now }
     ensures { IfOk result (λ picture. IsDiagram chronicle.now picture.items) }
 {
-    let text = table(alloc, chronicle)?;
-    match read_table(alloc, text.as_str()) {
-        Ok(table) => Ok(campaign_svg(alloc, &table, chronicle)?.into_bytes()),
-        Err(TableError::Memory) => Err(AllocError),
-        // The table is one that `book` reads.
-        Err(TableError::At(_, _)) => unreachable!(),
-    }
+    let told = hearing(alloc, chronicle)?;
+    let table = told_table(&told, chronicle);
+    Ok(campaign_svg(alloc, &table, chronicle)?.into_bytes())
+}
+
+/// The picture of a signed campaign's.
+fn signed_diagram_of(alloc: Global, chronicle: &SignedChronicle) -> Result<Vec<u8>, AllocError>
+    ensures { IfOk result (λ picture. picture.items ≡ signed_svg chronicle.now) }
+{
+    Ok(signed_campaign_svg(alloc, chronicle)?.into_bytes())
 }

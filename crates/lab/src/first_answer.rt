@@ -18,10 +18,10 @@ pub enum FirstAnswer {
     Muster(Scenario, Option<Lieutenants>),
     /// A campaign whose chronicle the second file may be, and whose decisions to explain.
     Audit(Campaign, Option<Lieutenants>),
-    /// An oral campaign to draw, by the schedule of the second file.
-    Draw(Scenario),
-    /// An oral campaign to draw as the chronicle that the second file may be tells it.
-    DrawRecorded(Scenario),
+    /// A campaign to draw, by the schedule of the second file.
+    Draw(Campaign),
+    /// A campaign to draw as the chronicle that the second file may be tells it.
+    DrawRecorded(Campaign),
     /// An oral campaign to tell as a page, by the schedule of the second file, and its scenario's text.
     Page(Scenario, String),
     /// An oral campaign to tell as a page, as the chronicle that the second file may be tells it, and its scenario's text.

@@ -1,5 +1,5 @@
 //! Campaigns as pages.
-ghost use Rattle.std.specs.Prelude.{◌≡◌, IfErr, IfOk};
+ghost use Rattle.std.specs.Prelude.{◌≡◌, IfErr, IfOk, None, Some, option_map};
 ghost use Rattle.lab.specs.Campaigns.{played};
 ghost use Rattle.lab.specs.Pages.{IsPage, IsRecordTold};
 ghost use Rattle.lab.specs.Refusals.{RefusesChronicle, RefusesText};
@@ -8,9 +8,8 @@ ghost use Rattle.scenario.specs.declared.messages.Campaign.TheVariants.{Oral};
 
 use crate::refusal::Refusal;
 use crate::texts::as_text;
-use book::{TableError, read_table};
 use campaign_page::page_text;
-use retold::table;
+use retold::{hearing, told_table};
 use round::Scenario;
 use std::alloc::{AllocError, Global};
 use trace::sound_chronicle;
@@ -28,11 +27,11 @@ pub fn paged(
     scenario: Scenario,
     schedule: &Schedule,
 ) -> Result<Vec<u8>, AllocError>
-    ensures { IfOk result (λ page. IsPage text.now (played scenario schedule.now) page.items) }
+    ensures { IfOk result (λ page. IsPage text.now (Some schedule.now) (played scenario schedule.now) page.items) }
 {
     scenario.recall();
     let chronicle = play(alloc, scenario, schedule)?;
-    Ok(page_of(alloc, text, &chronicle)?)
+    Ok(page_of(alloc, text, Some(schedule), &chronicle)?)
 }
 
 /// The oral campaign whose chronicle these bytes are, and whose scenario this text tells.
@@ -52,20 +51,21 @@ pub fn record_paged(
 {
     scenario.recall();
     let chronicle = sound_chronicle(alloc, scenario, as_text(bytes)?)?;
-    Ok(page_of(alloc, text, &chronicle)?)
+    Ok(page_of(alloc, text, None, &chronicle)?)
 }
 
 /// The page of a chronicle, with the message table that its letters tell.
 #[tactic(auto, using(crate::proofs::PageLemmas::is_page))]
-fn page_of(alloc: Global, scenario_text: &str, chronicle: &Chronicle) -> Result<Vec<u8>, AllocError>
+fn page_of(
+    alloc: Global,
+    scenario_text: &str,
+    schedule: Option<&Schedule>,
+    chronicle: &Chronicle,
+) -> Result<Vec<u8>, AllocError>
     requires { IsWhole chronicle.now }
-    ensures { IfOk result (λ page. IsPage scenario_text.now chronicle.now page.items) }
+    ensures { IfOk result (λ page. IsPage scenario_text.now (option_map (λ s. s.now) schedule.entry) chronicle.now page.items) }
 {
-    let text = table(alloc, chronicle)?;
-    match read_table(alloc, text.as_str()) {
-        Ok(table) => Ok(page_text(alloc, scenario_text, &table, chronicle)?.into_bytes()),
-        Err(TableError::Memory) => Err(AllocError),
-        // The table is one that `book` reads.
-        Err(TableError::At(_, _)) => unreachable!(),
-    }
+    let told = hearing(alloc, chronicle)?;
+    let table = told_table(&told, chronicle);
+    Ok(page_text(alloc, scenario_text, schedule, &table, chronicle)?.into_bytes())
 }

@@ -141,9 +141,9 @@ where
         Ok(FirstAnswer::Audit(campaign, explained)) => {
             audit_of(alloc, &campaign, explained, reported, file, second)
         }
-        Ok(FirstAnswer::Draw(scenario)) => draw_by(alloc, scenario, reported, file, second),
-        Ok(FirstAnswer::DrawRecorded(scenario)) => {
-            draw_record(alloc, &scenario, reported, file, second)
+        Ok(FirstAnswer::Draw(campaign)) => draw_by(alloc, campaign, reported, file, second),
+        Ok(FirstAnswer::DrawRecorded(campaign)) => {
+            draw_record(alloc, &campaign, reported, file, second)
         }
         Ok(FirstAnswer::Page(scenario, text)) => {
             page_by(alloc, scenario, text, reported, file, second)

@@ -20,7 +20,11 @@ pub fn put_escaped(out: &mut String, text: &str) -> Result<(), AllocError>
 }
 
 /// Adds a character, escaped.
-fn put_character(out: &mut String, character: char) -> Result<(), AllocError>
+///
+/// # Errors
+///
+/// No memory for the text.
+pub fn put_character(out: &mut String, character: char) -> Result<(), AllocError>
     ensures { OnOk result (string_bytes out.new ≡ string_bytes out.old ++ encode_utf8_all (written character)) }
 {
     match reference(character) {

@@ -7,6 +7,7 @@ use Rattle.std.proofs.Math.Utf8.{encode, next}
 use Rattle.markup.specs.Escaped.{escaped, is_character, is_within, shown, written}
 use Rattle.markup.specs.Grammar.{IsText, character, no_text, referred}
 use Rattle.page.specs.Page.{shown as shown_bytes}
+use Rattle.page.specs.Visible.{visible}
 
 -- the bytes of a character past ASCII
 two : (c : ℕ) → 128 ≤ c → c < 2048 → encode c ≡ (192 + c / 64) ∷ next c ∷ []
@@ -124,4 +125,4 @@ encoded_text [] = no_text
 encoded_text (c ∷ cs) = subst IsText (sym (encodes-append (written c) (escaped cs))) (goes_on (encode_utf8_all (escaped cs)) (encoded_text cs) c)
 
 pub shown_text : (text : List ℕ) → IsText (shown_bytes text)
-shown_text text = encoded_text (chars text)
+shown_text text = encoded_text (visible (chars text))

@@ -1,2 +1,4 @@
 mod EncodedLaws
+pub mod NumberLemmas
+mod VisibleLaws
 pub mod PageLaws

@@ -7,7 +7,7 @@ use Rattle.markup.specs.Escaped.{is_character}
 use Rattle.markup.specs.Grammar.{IsContent, IsElement, IsTag, IsText, alone, attributed, character, joined, nested, no_attributes, no_text, text, is_name}
 use Rattle.markup.specs.Tags.{attribute, element, empty}
 use Rattle.page.specs.Laws.{PagesAreElements, PartsAreContent}
-use Rattle.page.specs.Page.{fold, heading, lines, look, page, paragraph, picture, picture_tag, preamble, shown}
+use Rattle.page.specs.Page.{cell, fold, head, head_start, heading, item, lines, list, look, page, paragraph, picture, picture_tag, preamble, row, shown, table, text_item}
 use Rattle.page.proofs.EncodedLaws.{shown_text}
 
 -- a character that is no markup, and no quotation mark
@@ -102,8 +102,53 @@ picture_content name svg c =
     (nested (codes "figure") attributes (codes "\n" ++ svg)
     (two_tag (codes "figure") (codes "tabindex") (codes "0") (codes "aria-label") (shown name) refl refl (bare (codes "0") refl) refl (shown_text name) refl) (led svg c)))
 
+text_item_content : (words : List ℕ) → IsContent (text_item words)
+text_item_content words =
+    subst IsContent (sym (three_parts (codes "<li>") (shown words) (codes "</li>") (codes "\n"))) (fed (element (codes "li") [] (shown words)) (worded (codes "li") (shown words) refl (shown_text words)))
+
+-- parts in an element without attributes, between line feeds
+around_parts : (first feed parts close : List ℕ) → (first ++ feed) ++ parts ++ (close ++ feed) ≡ (first ++ (feed ++ parts) ++ close) ++ feed
+around_parts first feed parts close = simp append_assoc
+
+around : (name parts : List ℕ) → is_name name ≡ true → IsContent parts → IsContent (element name [] (codes "\n" ++ parts) ++ codes "\n")
+around name parts n c = fed (element name [] (codes "\n" ++ parts)) (nested name [] (codes "\n" ++ parts) (bare_tag name n) (led parts c))
+
+list_content : (items : List ℕ) → IsContent items → IsContent (list items)
+list_content items c = subst IsContent (sym (around_parts (codes "<ul>") (codes "\n") items (codes "</ul>"))) (around (codes "ul") items refl c)
+
+item_content : (parts : List ℕ) → IsContent parts → IsContent (item parts)
+item_content parts c = subst IsContent (sym (around_parts (codes "<li>") (codes "\n") parts (codes "</li>"))) (around (codes "li") parts refl c)
+
+table_content : (rows : List ℕ) → IsContent rows → IsContent (table rows)
+table_content rows c = subst IsContent (sym (around_parts (codes "<table>") (codes "\n") rows (codes "</table>"))) (around (codes "table") rows refl c)
+
+row_content : (cells : List ℕ) → IsContent cells → IsContent (row cells)
+row_content cells c = subst IsContent (sym (three_parts (codes "<tr>") cells (codes "</tr>") (codes "\n"))) (fed (element (codes "tr") [] cells) (nested (codes "tr") [] cells (bare_tag (codes "tr") refl) c))
+
+cell_content : (words : List ℕ) → IsContent (cell words)
+cell_content words = worded (codes "td") (shown words) refl (shown_text words)
+
+head_content_of : (words : List ℕ) → IsContent (head words)
+unfolding head_start
+head_content_of words =
+    nested (codes "th") (attribute (codes "scope") (codes "col") ++ []) (shown words) (one_tag (codes "th") (codes "scope") (codes "col") refl refl (bare (codes "col") refl))
+    (text (shown words) (shown_text words))
+
 pub proved_parts_are_content : PartsAreContent
-proved_parts_are_content = record { heading = heading_content; paragraph = paragraph_content; lines = lines_content; fold = fold_content; picture = picture_content }
+proved_parts_are_content = record {
+  heading = heading_content;
+  paragraph = paragraph_content;
+  lines = lines_content;
+  fold = fold_content;
+  list = list_content;
+  text_item = text_item_content;
+  item = item_content;
+  table = table_content;
+  row = row_content;
+  head = head_content_of;
+  cell = cell_content;
+  picture = picture_content;
+}
 
 -- ---- the page
 

@@ -1,18 +1,32 @@
 -- Laws of pages. Each is the contract of a function of this crate.
-use Rattle.std.specs.Prelude.{ℕ, ◌≡◌, List, ◌++◌, codes}
+use Rattle.std.specs.Prelude.{ℕ, ◌≡◌, true, not, List, ◌++◌, codes}
+use Rattle.std.specs.List.{list_all}
 use Rattle.markup.specs.Grammar.{IsContent, IsElement, IsText}
-use Rattle.page.specs.Page.{fold, heading, lines, page, paragraph, picture, shown}
+use Rattle.page.specs.Page.{cell, fold, head, heading, item, lines, list, page, paragraph, picture, row, shown, table, text_item}
+use Rattle.page.specs.Visible.{is_hidden, visible}
 
 -- a text of others is text without tags: no < > and ", and no & but that of a reference
 abbrev pub TextsAreText : Type 0
 TextsAreText = (text : List ℕ) → IsText (shown text)
 
--- parts are content: a fold with content, and a picture that is content
+-- what is shown of a text has no character that is not seen; a text without such characters is shown as it is
+pub record TextsAreVisible : Type 0 where
+  pub seen : (cs : List ℕ) → list_all (λ c. not (is_hidden c)) (visible cs) ≡ true
+  pub same : (cs : List ℕ) → list_all (λ c. not (is_hidden c)) cs ≡ true → visible cs ≡ cs
+
+-- parts are content, with content in them: folds, lists and their items, tables and their rows, and a picture that is content
 pub record PartsAreContent : Type 0 where
   pub heading : (text : List ℕ) → IsContent (heading text)
   pub paragraph : (text : List ℕ) → IsContent (paragraph text)
   pub lines : (text : List ℕ) → IsContent (lines text)
   pub fold : (summary parts : List ℕ) → IsContent parts → IsContent (fold summary parts)
+  pub list : (items : List ℕ) → IsContent items → IsContent (list items)
+  pub text_item : (text : List ℕ) → IsContent (text_item text)
+  pub item : (parts : List ℕ) → IsContent parts → IsContent (item parts)
+  pub table : (rows : List ℕ) → IsContent rows → IsContent (table rows)
+  pub row : (cells : List ℕ) → IsContent cells → IsContent (row cells)
+  pub head : (text : List ℕ) → IsContent (head text)
+  pub cell : (text : List ℕ) → IsContent (cell text)
   pub picture : (name svg : List ℕ) → IsContent svg → IsContent (picture name svg)
 
 -- a page with such parts is one element of XML, between the line that says that it is HTML and a line feed

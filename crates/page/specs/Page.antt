@@ -1,11 +1,12 @@
--- A page of HTML (HTML Living Standard, section 13.1) that is one element of XML too, byte by byte. Texts of others are escaped.
+-- A page of HTML (HTML Living Standard, section 13.1) that is one element of XML too, byte by byte. Texts of others are made visible and escaped.
 use Rattle.std.specs.Prelude.{ℕ, List, ◌++◌, codes}
 use Rattle.std.specs.Str.{chars, encode_utf8_all}
 use Rattle.markup.specs.Escaped.{escaped}
+use Rattle.page.specs.Visible.{visible}
 
 -- a text of others
 abbrev pub shown : List ℕ → List ℕ
-shown text = encode_utf8_all (escaped (chars text))
+shown text = encode_utf8_all (escaped (visible (chars text)))
 
 -- that it is HTML, in English, and what it may use: its own style, and pictures that stand in it
 unfoldable pub preamble : List ℕ
@@ -17,13 +18,17 @@ preamble =
 -- how it looks
 unfoldable pub look : List ℕ
 look =
-    codes ":root{color-scheme:light dark}body{margin:0;background:#fff;color:#111;font:16px/1.5 sans-serif}main{max-width:70rem;mar"
-    ++ codes "gin:auto;padding:1rem}h1{font-size:1.4rem}h2{font-size:1.15rem;margin-top:2rem}pre{margin:.5rem 0;padding-left:.6rem;bor"
-    ++ codes "der-left:3px solid #8a8a8a;font:13px/1.45 monospace;white-space:pre-wrap;overflow-wrap:anywhere}summary{padding:.4rem 0;"
-    ++ codes "font-weight:bold;cursor:pointer}figure{margin:0;overflow-x:auto}summary:focus-visible,figure:focus-visible{outline:3px s"
-    ++ codes "olid #0b5fa5;outline-offset:2px}@media(prefers-color-scheme:dark){body{background:#111;color:#eee}summary:focus-visible,"
-    ++ codes "figure:focus-visible{outline-color:#6cb8f5}}@media print{body{background:#fff;color:#000}figure{overflow:visible}svg{max"
-    ++ codes "-width:100%;height:auto}details::details-content{content-visibility:visible;block-size:auto}}"
+    codes ":root{color-scheme:light dark}body{margin:0;background:#fff;color:#111;font:16px/1.5 sans-serif}main{max-width:70rem;ma"
+    ++ codes "rgin:auto;padding:1rem}h1{font-size:1.4rem}h2{font-size:1.15rem;margin-top:2rem}pre{margin:.5rem 0;padding-left:.6rem;b"
+    ++ codes "order-left:3px solid #8a8a8a;font:13px/1.45 monospace;white-space:pre-wrap;overflow-wrap:anywhere}ul{list-style:none;ma"
+    ++ codes "rgin:.2rem 0 .2rem .3rem;padding-left:.8rem;border-left:1px solid #8a8a8a}table{border-collapse:collapse;table-layout:f"
+    ++ codes "ixed;width:100%}th:nth-child(-n+2){width:4rem}th,td{border:1px solid #8a8a8a;padding:.2rem .5rem;text-align:left;vertic"
+    ++ codes "al-align:top;overflow-wrap:anywhere}summary{padding:.4rem 0;font-weight:bold;cursor:pointer}li summary{padding:.1rem 0;"
+    ++ codes "font-weight:normal}figure{margin:0;overflow-x:auto}summary:focus-visible,figure:focus-visible{outline:3px solid #0b5fa5"
+    ++ codes ";outline-offset:2px}@media(prefers-color-scheme:dark){body{background:#111;color:#eee}summary:focus-visible,figure:focu"
+    ++ codes "s-visible{outline-color:#6cb8f5}}@media print{body{background:#fff;color:#000}figure{overflow:visible;break-inside:avoi"
+    ++ codes "d}h2,summary{break-after:avoid}svg{max-width:100%;height:auto}details::details-content{content-visibility:visible;block"
+    ++ codes "-size:auto}}"
 
 abbrev pub look_end : List ℕ
 look_end = codes "</style>\n<title>"
@@ -78,3 +83,53 @@ picture_end = codes "</figure>\n"
 
 abbrev pub picture : List ℕ → List ℕ → List ℕ
 picture name svg = picture_start name ++ svg ++ picture_end
+
+-- items of a list: a text, or parts
+abbrev pub list_start : List ℕ
+list_start = codes "<ul>\n"
+
+abbrev pub list_end : List ℕ
+list_end = codes "</ul>\n"
+
+abbrev pub list : List ℕ → List ℕ
+list items = list_start ++ items ++ list_end
+
+abbrev pub text_item : List ℕ → List ℕ
+text_item text = codes "<li>" ++ shown text ++ codes "</li>\n"
+
+abbrev pub item_start : List ℕ
+item_start = codes "<li>\n"
+
+abbrev pub item_end : List ℕ
+item_end = codes "</li>\n"
+
+abbrev pub item : List ℕ → List ℕ
+item parts = item_start ++ parts ++ item_end
+
+-- a table: rows of cells, of which some are the heads of columns
+abbrev pub table_start : List ℕ
+table_start = codes "<table>\n"
+
+abbrev pub table_end : List ℕ
+table_end = codes "</table>\n"
+
+abbrev pub table : List ℕ → List ℕ
+table rows = table_start ++ rows ++ table_end
+
+abbrev pub row_start : List ℕ
+row_start = codes "<tr>"
+
+abbrev pub row_end : List ℕ
+row_end = codes "</tr>\n"
+
+abbrev pub row : List ℕ → List ℕ
+row cells = row_start ++ cells ++ row_end
+
+unfoldable pub head_start : List ℕ
+head_start = codes "<th scope=\"col\">"
+
+abbrev pub head : List ℕ → List ℕ
+head text = head_start ++ shown text ++ codes "</th>"
+
+abbrev pub cell : List ℕ → List ℕ
+cell text = codes "<td>" ++ shown text ++ codes "</td>"

@@ -1,9 +1,14 @@
 //! Laws of pages: each function does nothing, and its contract is the law.
-ghost use Rattle.page.specs.Laws.{PagesAreElements, PartsAreContent, TextsAreText};
+ghost use Rattle.page.specs.Laws.{PagesAreElements, PartsAreContent, TextsAreText, TextsAreVisible};
 
 /// A text of others has no markup: no angle bracket, no quotation mark, and no ampersand but that of a reference.
 pub fn texts_are_text()
     ensures { TextsAreText }
+{}
+
+/// Of a text of others each character is seen, and none turns the order of the others.
+pub fn texts_are_visible()
+    ensures { TextsAreVisible }
 {}
 
 /// What is written of a part is content of an element, whatever its texts.

@@ -1,8 +1,8 @@
 //! The parts of a page.
 ghost use Rattle.std.specs.Prelude.{◌≡◌, ◌++◌, string_bytes, OnOk};
-ghost use Rattle.page.specs.Page.{fold_end, fold_start, heading, lines, paragraph, picture, picture_end, picture_start, picture_tag};
+ghost use Rattle.page.specs.Page.{cell, fold_end, fold_start, head, head_start, heading, item_end, item_start, lines, list_end, list_start, paragraph, picture, picture_end, picture_start, picture_tag, row_end, row_start, table_end, table_start, text_item};
 
-use markup::put_escaped;
+use crate::visible::put_shown;
 use std::alloc::AllocError;
 
 /// Adds a heading.
@@ -14,7 +14,7 @@ pub fn put_heading(out: &mut String, text: &str) -> Result<(), AllocError>
     ensures { OnOk result (string_bytes out.new ≡ string_bytes out.old ++ heading text.now) }
 {
     out.push_str("<h2>")?;
-    put_escaped(out, text)?;
+    put_shown(out, text)?;
     out.push_str("</h2>\n")
 }
 
@@ -23,7 +23,7 @@ pub fn put_paragraph(out: &mut String, text: &str) -> Result<(), AllocError>
     ensures { OnOk result (string_bytes out.new ≡ string_bytes out.old ++ paragraph text.now) }
 {
     out.push_str("<p>")?;
-    put_escaped(out, text)?;
+    put_shown(out, text)?;
     out.push_str("</p>\n")
 }
 
@@ -32,7 +32,7 @@ pub fn put_lines(out: &mut String, text: &str) -> Result<(), AllocError>
     ensures { OnOk result (string_bytes out.new ≡ string_bytes out.old ++ lines text.now) }
 {
     out.push_str("<pre>\n")?;
-    put_escaped(out, text)?;
+    put_shown(out, text)?;
     out.push_str("</pre>\n")
 }
 
@@ -41,7 +41,7 @@ pub fn put_fold_start(out: &mut String, summary: &str) -> Result<(), AllocError>
     ensures { OnOk result (string_bytes out.new ≡ string_bytes out.old ++ fold_start summary.now) }
 {
     out.push_str("<details>\n<summary>")?;
-    put_escaped(out, summary)?;
+    put_shown(out, summary)?;
     out.push_str("</summary>\n")
 }
 
@@ -66,7 +66,7 @@ fn put_picture_start(out: &mut String, name: &str) -> Result<(), AllocError>
     ensures { OnOk result (string_bytes out.new ≡ string_bytes out.old ++ picture_start name.now) }
 {
     out.push_str(picture_tag())?;
-    put_escaped(out, name)?;
+    put_shown(out, name)?;
     out.push_str("\">\n")
 }
 
@@ -83,4 +83,95 @@ fn put_picture_end(out: &mut String) -> Result<(), AllocError>
     ensures { OnOk result (string_bytes out.new ≡ string_bytes out.old ++ picture_end) }
 {
     out.push_str("</figure>\n")
+}
+
+/// Adds what begins a list of items.
+pub fn put_list_start(out: &mut String) -> Result<(), AllocError>
+    ensures { OnOk result (string_bytes out.new ≡ string_bytes out.old ++ list_start) }
+{
+    out.push_str("<ul>\n")
+}
+
+/// Adds what ends it.
+pub fn put_list_end(out: &mut String) -> Result<(), AllocError>
+    ensures { OnOk result (string_bytes out.new ≡ string_bytes out.old ++ list_end) }
+{
+    out.push_str("</ul>\n")
+}
+
+/// Adds an item that is a text.
+pub fn put_text_item(out: &mut String, text: &str) -> Result<(), AllocError>
+    ensures { OnOk result (string_bytes out.new ≡ string_bytes out.old ++ text_item text.now) }
+{
+    out.push_str("<li>")?;
+    put_shown(out, text)?;
+    out.push_str("</li>\n")
+}
+
+/// Adds what begins an item of parts.
+pub fn put_item_start(out: &mut String) -> Result<(), AllocError>
+    ensures { OnOk result (string_bytes out.new ≡ string_bytes out.old ++ item_start) }
+{
+    out.push_str("<li>\n")
+}
+
+/// Adds what ends it.
+pub fn put_item_end(out: &mut String) -> Result<(), AllocError>
+    ensures { OnOk result (string_bytes out.new ≡ string_bytes out.old ++ item_end) }
+{
+    out.push_str("</li>\n")
+}
+
+/// Adds what begins a table.
+pub fn put_table_start(out: &mut String) -> Result<(), AllocError>
+    ensures { OnOk result (string_bytes out.new ≡ string_bytes out.old ++ table_start) }
+{
+    out.push_str("<table>\n")
+}
+
+/// Adds what ends it.
+pub fn put_table_end(out: &mut String) -> Result<(), AllocError>
+    ensures { OnOk result (string_bytes out.new ≡ string_bytes out.old ++ table_end) }
+{
+    out.push_str("</table>\n")
+}
+
+/// Adds what begins a row of a table.
+pub fn put_row_start(out: &mut String) -> Result<(), AllocError>
+    ensures { OnOk result (string_bytes out.new ≡ string_bytes out.old ++ row_start) }
+{
+    out.push_str("<tr>")
+}
+
+/// Adds what ends it.
+pub fn put_row_end(out: &mut String) -> Result<(), AllocError>
+    ensures { OnOk result (string_bytes out.new ≡ string_bytes out.old ++ row_end) }
+{
+    out.push_str("</tr>\n")
+}
+
+/// Adds the head of a column.
+pub fn put_head(out: &mut String, text: &str) -> Result<(), AllocError>
+    ensures { OnOk result (string_bytes out.new ≡ string_bytes out.old ++ head text.now) }
+{
+    out.push_str(head_start())?;
+    put_shown(out, text)?;
+    out.push_str("</th>")
+}
+
+/// What stands before the head of a column.
+#[tactic(auto, unfolding(crate::specs::Page::head_start))]
+fn head_start() -> &'static str
+    ensures { result.now ≡ head_start }
+{
+    "<th scope=\"col\">"
+}
+
+/// Adds a cell.
+pub fn put_cell(out: &mut String, text: &str) -> Result<(), AllocError>
+    ensures { OnOk result (string_bytes out.new ≡ string_bytes out.old ++ cell text.now) }
+{
+    out.push_str("<td>")?;
+    put_shown(out, text)?;
+    out.push_str("</td>")
 }

@@ -71,15 +71,6 @@ asked_of : (text : List ℕ) (t : MessageTable) (traitors : List ℕ) (general :
 asked_of text t traitors None lines read is = (t, read, is)
 asked_of text t traitors (Some g) lines read is = (t, read, is)
 
--- what is said of the table of the trees is said of the chronicle's
-pub explains : (c : Chronicle) (h : ToldSeen) (t : MessageTable) (general : Option ℕ) (traitors lines : List ℕ) → IsScenario c.scenario → WasTold c.scenario c.letters h
-    → table_told (table_text (heard h.trees) c.scenario.generals c.scenario.bound c.scenario.commander c.scenario.rule) ≡ Ok t → traitors ≡ traitors_of c.scenario → lines ≡ explained_of t traitors general → Explains c general lines
-explains c h t general traitors lines inside told read who is =
-    let same : (w : List ℕ) (p : ℕ) → is_place_of c.scenario.generals c.scenario.bound c.scenario.commander w p ≡ true → heard h.trees w p ≡ messages c.letters w p = heard_is c.scenario c.letters h inside told in
-    asked_of (table_of c) t (traitors_of c.scenario) general lines
-    (ap table_told (sym (tables_same (heard h.trees) (messages c.letters) c.scenario.generals c.scenario.bound c.scenario.commander c.scenario.rule inside.commander same)) ∙ read)
-    (is ∙ ap (λ ts. explained_of t ts general) who)
-
 -- a scenario's numbers are within the limits of a table
 pub within_from : (s : Scenario) (n m k : ℕ) → IsScenario s → n ≡ s.generals → m ≡ s.bound → k ≡ s.commander → AreNumbersWithin n m k
 within_from s n m k inside en em ek =
@@ -97,13 +88,12 @@ filled_from s letters h trees n m k inside told et en em ek =
     let same : F ≡ map (tree_of s.generals s.bound s.commander (messages letters)) (lieutenants s.generals s.commander) = (λ i. map (tree_of (en i) (em i) (ek i) (messages letters)) (lieutenants (en i) (ek i))) in
     (messages letters, et ∙ (trees_filled s letters h inside told ∙ sym same))
 
--- what is said, if anything, by what is known of the parts of the table
-pub explains_or_error : (c : Chronicle) (h : ToldSeen) (s : Scenario) (letters : List (List Letter)) (trees : List LieutenantTree) (n m k : ℕ) (by : Rule) (t : MessageTable) (general : Option ℕ) (traitors named : List ℕ)
-    → IsScenario s → s ≡ c.scenario → letters ≡ c.letters → trees ≡ h.trees → n ≡ s.generals → m ≡ s.bound → k ≡ s.commander → by ≡ s.rule → WasTold s letters h
-    → table_told (table_text (heard trees) n m k by) ≡ Ok t → named ≡ traitors → traitors ≡ traitors_of s
-    → (r : Result (String Global) AllocError) → IfOk r (λ lines. string_bytes lines ≡ explained_of t named general) → IfOk r (λ lines. Explains c general (string_bytes lines))
-explains_or_error c h s letters trees n m k by t general traitors named inside es el et en em ek eb told read who is (Err e) said = tt
-explains_or_error c h s letters trees n m k by t general traitors named inside es el et en em ek eb told read who is (Ok lines) said =
+-- the table of the trees is that which the chronicle's text is read as
+pub told_from : (c : Chronicle) (h : ToldSeen) (s : Scenario) (trees : List LieutenantTree) (n m k : ℕ) (by : Rule) (t : MessageTable)
+    → IsScenario s → s ≡ c.scenario → trees ≡ h.trees → n ≡ s.generals → m ≡ s.bound → k ≡ s.commander → by ≡ s.rule → WasTold c.scenario c.letters h
+    → table_told (table_text (heard trees) n m k by) ≡ Ok t → table_told (table_of c) ≡ Ok t
+told_from c h s trees n m k by t inside es et en em ek eb told read =
+    let its : IsScenario c.scenario = subst IsScenario es inside in
     let gn : n ≡ c.scenario.generals = en ∙ ap (λ (x : Scenario). x.generals) es in
     let gm : m ≡ c.scenario.bound = em ∙ ap (λ (x : Scenario). x.bound) es in
     let gk : k ≡ c.scenario.commander = ek ∙ ap (λ (x : Scenario). x.commander) es in
@@ -111,8 +101,14 @@ explains_or_error c h s letters trees n m k by t general traitors named inside e
     let same : table_text (heard trees) n m k by ≡ table_text (heard h.trees) c.scenario.generals c.scenario.bound c.scenario.commander c.scenario.rule =
     (λ i. table_text (heard (et i)) (gn i) (gm i) (gk i) (gb i))
     in
-    explains c h t general traitors (string_bytes lines) (subst IsScenario es inside)
-    (subst (λ (x : Scenario). WasTold x c.letters h) es (subst (λ (ls : List (List Letter)). WasTold s ls h) el told))
-    (ap table_told (sym same) ∙ read)
-    (is ∙ ap traitors_of es)
-    (said ∙ ap (λ (ts : List ℕ). explained_of t ts general) who)
+    let is : (w : List ℕ) (p : ℕ) → is_place_of c.scenario.generals c.scenario.bound c.scenario.commander w p ≡ true → heard h.trees w p ≡ messages c.letters w p = heard_is c.scenario c.letters h its told in
+    ap table_told (sym (tables_same (heard h.trees) (messages c.letters) c.scenario.generals c.scenario.bound c.scenario.commander c.scenario.rule its.commander is)) ∙ (ap table_told (sym same) ∙ read)
+
+-- what is said of the table that the chronicle's text is read as
+pub explains_or_error : (c : Chronicle) (s : Scenario) (t : MessageTable) (general : Option ℕ) (traitors named : List ℕ) → s ≡ c.scenario
+    → table_told (table_of c) ≡ Ok t → named ≡ traitors → traitors ≡ traitors_of s
+    → (r : Result (String Global) AllocError) → IfOk r (λ lines. string_bytes lines ≡ explained_of t named general) → IfOk r (λ lines. Explains c general (string_bytes lines))
+explains_or_error c s t general traitors named es read who is (Err e) said = tt
+explains_or_error c s t general traitors named es read who is (Ok lines) said =
+    asked_of (table_of c) t (traitors_of c.scenario) general (string_bytes lines) read
+    (said ∙ ap (λ (ts : List ℕ). explained_of t ts general) (who ∙ (is ∙ ap traitors_of es)))

@@ -2,7 +2,7 @@
 ghost use Rattle.std.specs.Prelude.{◌≡◌, IfOk, string_bytes};
 ghost use Rattle.retold.specs.Retold.{Explains, IsWhole, explained_of, traitors_of};
 
-use crate::retelling::hear;
+use crate::retelling::{hearing, told_table};
 use book::{explain, explain_one};
 use round::Scenario;
 use std::alloc::{AllocError, Global};
@@ -23,17 +23,9 @@ pub fn explained(
     requires { IsWhole chronicle.now }
     ensures { IfOk result (λ lines. Explains chronicle.now general (string_bytes lines)) }
 {
-    let scenario = chronicle.scenario();
-    scenario.recall();
-    let told = hear(alloc, scenario, chronicle.letters())?;
-    let traitors = traitors(alloc, scenario)?;
-    let table = TreeTable::of(
-        told.trees(),
-        scenario.generals(),
-        scenario.bound(),
-        scenario.commander(),
-        scenario.rule(),
-    );
+    let told = hearing(alloc, chronicle)?;
+    let table = told_table(&told, chronicle);
+    let traitors = traitors(alloc, chronicle.scenario())?;
     asked(alloc, &table, traitors.as_slice(), general)
 }
 

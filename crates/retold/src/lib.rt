@@ -7,4 +7,4 @@ mod retelling;
 
 pub use explaining::{explained, traitors};
 pub use laws::runs_are_whole;
-pub use retelling::table;
+pub use retelling::{hearing, table, told_table};

@@ -1,11 +1,12 @@
 //! The message table that a campaign's letters tell.
-ghost use Rattle.std.specs.Prelude.{suc, ◌≡◌, IfOk, length, string_bytes};
-ghost use Rattle.retold.specs.Retold.{IsRetold, IsWhole};
+ghost use Rattle.std.specs.Prelude.{suc, ◌≡◌, IfOk, Ok, length, string_bytes};
+ghost use Rattle.book.specs.Grammar.{table_told};
+ghost use Rattle.retold.specs.Retold.{IsRetold, IsWhole, table_of};
 ghost use Rattle.round.specs.Told.{AreRoundsOf, WasTold};
 
 use round::{Round, Scenario, Told};
 use std::alloc::{AllocError, Global};
-use tables::table_of;
+use tables::{TreeTable, table_of};
 use world::Chronicle;
 
 /// The message table of a campaign: for each label, the shorter ones first, and each receiver a line where he was told
@@ -31,12 +32,38 @@ pub fn table(alloc: Global, chronicle: &Chronicle) -> Result<String, AllocError>
     )
 }
 
+/// What the letters of a campaign have told its lieutenants.
+///
+/// # Errors
+///
+/// `AllocError` where memory is refused.
+pub fn hearing(alloc: Global, chronicle: &Chronicle) -> Result<Told, AllocError>
+    requires { IsWhole chronicle.now }
+    ensures { IfOk result (WasTold chronicle.now.scenario chronicle.now.letters) }
+{
+    hear(alloc, chronicle.scenario(), chronicle.letters())
+}
+
+/// The message table of a campaign, as what its lieutenants were told tells it: that which its text is read as.
+pub fn told_table<'a>(told: &'a Told, chronicle: &Chronicle) -> TreeTable<'a>
+    requires whole { IsWhole chronicle.now }
+    requires told { WasTold chronicle.now.scenario chronicle.now.letters told.now }
+    ensures { table_told (table_of chronicle.now) ≡ Ok result }
+{
+    let scenario = chronicle.scenario();
+    scenario.recall();
+    let commander = scenario.commander();
+    TreeTable::of(
+        told.trees(),
+        scenario.generals(),
+        scenario.bound(),
+        commander,
+        scenario.rule(),
+    )
+}
+
 /// What the letters of all rounds have told the lieutenants.
-pub(crate) fn hear(
-    alloc: Global,
-    scenario: &Scenario,
-    letters: &[Round],
-) -> Result<Told, AllocError>
+fn hear(alloc: Global, scenario: &Scenario, letters: &[Round]) -> Result<Told, AllocError>
     requires rounds { length letters.now ≡ suc scenario.now.bound }
     requires letters { AreRoundsOf scenario.now letters.now }
     ensures { IfOk result (WasTold scenario.now letters.now) }

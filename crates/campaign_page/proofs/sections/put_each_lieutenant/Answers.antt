@@ -5,6 +5,6 @@ use Rattle.campaign_page.specs.Account.{lieutenant_part}
 use Rattle.campaign_page.proofs.sections.put_each_lieutenant.Goals as goal
 
 pub loop-general-preserved : goal.loop-general-preserved
-loop-general-preserved c =
-    let piece = lieutenant_part c.args.table.now c.args.traitors.now in
+loop-general-preserved g c =
+    let piece = lieutenant_part (g.H.Heard.seen c.args.table.now) c.args.traitors.now in
     c.in_ok-put_lieutenant_of.ensures ∙ (ap (λ xs. xs ++ piece c.loop-general.general) c.loop-general.invariant ∙ range_text piece c.loop-general.general (string_bytes c.args.out.now))

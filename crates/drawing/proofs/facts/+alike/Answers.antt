@@ -9,11 +9,11 @@ use Rattle.drawing.proofs.facts.+alike.Goals as goal
 use Rattle.drawing.proofs.facts.+alike.Goals.{is_alike-then-other-general+then-not-has+then-is_so, is_alike-then-other-general+then-not-has+else-is_so, is_alike-else-other-general, is_alike-else-other-general-via-then-other-general+else-not-has, is_alike-else-other-general-via-else-other-general}
 
 pub is_alike-returns-then-relays-eq0 : goal.is_alike-returns-then-relays-eq0
-is_alike-returns-then-relays-eq0 t c = alike_last c.args.table.now c.args.traitors.now c.args.relays c.args.label.now c.args.general c.if-relays-eq0.true
+is_alike-returns-then-relays-eq0 g t c = alike_last (g.H.Heard.seen c.args.table.now) c.args.traitors.now c.args.relays c.args.label.now c.args.general c.if-relays-eq0.true
 
 pub is_alike-loop-other-preserved : goal.is_alike-loop-other-preserved
-is_alike-loop-other-preserved t c =
-    let test : ℕ → Bool = λ j. is_alike_by c.args.table.now c.args.traitors.now (c.args.relays - 1) c.args.label.now j c.args.general in
+is_alike-loop-other-preserved g t c =
+    let test : ℕ → Bool = λ j. is_alike_by (g.H.Heard.seen c.args.table.now) c.args.traitors.now (c.args.relays - 1) c.args.label.now j c.args.general in
     let other = c.loop-other.other in
     elim c.if-other-general.branch [
       | is_alike-then-other-general+then-not-has+then-is_so w ↦
@@ -32,10 +32,10 @@ is_alike-loop-other-preserved t c =
     ]
 
 pub is_alike-returns : goal.is_alike-returns
-is_alike-returns t c =
+is_alike-returns g t c =
     let value = c.generals-other-end.ensures.value in
-    let all : c.loop-other.other ≡ c.args.table.now.generals = omega arith in
+    let all : c.loop-other.other ≡ (g.H.Heard.seen c.args.table.now).generals = omega arith in
     let ne = c.if-relays-eq0.false in
     c.loop-other.invariant
-    ∙ (ap (λ (n : ℕ). list_all (λ j. is_alike_by c.args.table.now c.args.traitors.now (c.args.relays - 1) c.args.label.now j c.args.general) (others n (c.args.general ∷ c.args.label.now))) all
-    ∙ sym (alike_more c.args.table.now c.args.traitors.now c.args.relays (c.args.relays - 1) c.args.label.now c.args.general (omega arith)))
+    ∙ (ap (λ (n : ℕ). list_all (λ j. is_alike_by (g.H.Heard.seen c.args.table.now) c.args.traitors.now (c.args.relays - 1) c.args.label.now j c.args.general) (others n (c.args.general ∷ c.args.label.now))) all
+    ∙ sym (alike_more (g.H.Heard.seen c.args.table.now) c.args.traitors.now c.args.relays (c.args.relays - 1) c.args.label.now c.args.general (omega arith)))

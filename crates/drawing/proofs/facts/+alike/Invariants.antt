@@ -5,11 +5,11 @@ use Rattle.drawing.specs.Facts.{is_alike_by}
 use Rattle.drawing.proofs.facts.+alike.Given as goal
 
 abbrev pub decreases-is_alike : goal.decreases-is_alike
-decreases-is_alike l = 2 * l.relays
+decreases-is_alike g l = 2 * l.relays
 
 abbrev pub decreases-is_alike_by : goal.decreases-is_alike_by
-decreases-is_alike_by l = 2 * l.relays + 1
+decreases-is_alike_by g l = 2 * l.relays + 1
 
 -- whether all so far tell the same
 abbrev pub invariant-is_alike-loop-other : goal.invariant-is_alike-loop-other
-invariant-is_alike-loop-other l = l.is_so ≡ list_all (λ j. is_alike_by l.table l.traitors (l.relays - 1) l.label j l.general) (others l.other (l.general ∷ l.label))
+invariant-is_alike-loop-other g l = l.is_so ≡ list_all (λ j. is_alike_by (g.H.Heard.seen l.table) l.traitors (l.relays - 1) l.label j l.general) (others l.other (l.general ∷ l.label))

@@ -4,11 +4,11 @@ use Rattle.book.specs.Explained.{element}
 use Rattle.drawing.proofs.facts.+lists.Given as goal
 
 abbrev pub decreases-held : goal.decreases-held
-decreases-held l = 2 * l.relays
+decreases-held g l = 2 * l.relays
 
 abbrev pub decreases-orders : goal.decreases-orders
-decreases-orders l = 2 * l.relays + 1
+decreases-orders g l = 2 * l.relays + 1
 
 -- the orders of the generals so far
 abbrev pub invariant-orders-loop-other : goal.invariant-orders-loop-other
-invariant-orders-loop-other l = l.orders.items ≡ map (element l.table l.relays l.label l.general) (others l.other l.label)
+invariant-orders-loop-other g l = l.orders.items ≡ map (element (g.H.Heard.seen l.table) l.relays l.label l.general) (others l.other l.label)

@@ -4,6 +4,6 @@ use Rattle.drawing.proofs.PlaceLemmas.{place_above}
 use Rattle.drawing.proofs.facts.tells.Goals as goal
 
 pub told-requires-2 : goal.told-requires-2
-told-requires-2 c =
-    let place : is_place c.args.table.now (c.args.label.now ++ c.args.teller ∷ []) c.args.general ≡ true = ap (λ w. is_place c.args.table.now w c.args.general) (sym c.requires.next) ∙ c.requires.place in
-    place_above c.args.table.now c.args.label.now c.args.teller c.args.general (let v = c.len-size.ensures.value in let s = c.len-size.ensures.some in omega arith) place
+told-requires-2 g c =
+    let place : is_place (g.H.Heard.seen c.args.table.now) (c.args.label.now ++ c.args.teller ∷ []) c.args.general ≡ true = ap (λ w. is_place (g.H.Heard.seen c.args.table.now) w c.args.general) (sym c.requires.next) ∙ c.requires.place in
+    place_above (g.H.Heard.seen c.args.table.now) c.args.label.now c.args.teller c.args.general (let v = c.len-size.ensures.value in let s = c.len-size.ensures.some in omega arith) place

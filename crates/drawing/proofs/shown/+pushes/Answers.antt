@@ -10,18 +10,18 @@ use Rattle.drawing.proofs.shown.+pushes.Goals as goal
 use Rattle.drawing.proofs.shown.+pushes.Goals.{push_below-then-other-general+then-not-has+in_ok-push_with, push_below-else-other-general, push_below-else-other-general-via-then-other-general+else-not-has, push_below-else-other-general-via-else-other-general}
 
 pub push_below-returns-then-relays-eq0 : goal.push_below-returns-then-relays-eq0
-push_below-returns-then-relays-eq0 t c =
-    sym (ap (λ xs. c.args.nodes.now.items ++ xs) (below_last c.args.table.now c.args.traitors.now c.args.view c.args.relays c.args.label.now c.args.general c.if-relays-eq0.true) ∙ append-nil c.args.nodes.now.items)
+push_below-returns-then-relays-eq0 g t c =
+    sym (ap (λ xs. c.args.nodes.now.items ++ xs) (below_last (g.H.Heard.seen c.args.table.now) c.args.traitors.now c.args.view c.args.relays c.args.label.now c.args.general c.if-relays-eq0.true) ∙ append-nil c.args.nodes.now.items)
 
 pub push_below-loop-other-preserved : goal.push_below-loop-other-preserved
-push_below-loop-other-preserved t c =
-    let his : ℕ → List Node = λ j. nodes_by c.args.table.now c.args.traitors.now c.args.view (c.args.relays - 1) c.args.label.now j c.args.general in
+push_below-loop-other-preserved g t c =
+    let his : ℕ → List Node = λ j. nodes_by (g.H.Heard.seen c.args.table.now) c.args.traitors.now c.args.view (c.args.relays - 1) c.args.label.now j c.args.general in
     let other = c.loop-other.other in
     elim c.if-other-general.branch [
       | push_below-then-other-general+then-not-has+in_ok-push_with w ↦
           let off = off_first c.args.general other c.args.label.now w.if-other-general.true (sym w.has.ensures ∙ w.if-not-has.true) in
-          let here = with_same c.args.table.now c.args.traitors.now c.args.view (c.args.relays - 1) c.args.label.now other c.args.general w.with.result w.with-next.result w.mark-mark.result w.node-child.result
-          w.with.ensures w.with-next.ensures w.mark-mark.ensures w.node-child.ensures in
+          let here = with_same (g.H.Heard.seen c.args.table.now) c.args.traitors.now c.args.view (c.args.relays - 1) c.args.label.now other c.args.general w.with.result w.with-next.result w.mark_at-mark.result w.node_at-child.result
+          w.with.ensures w.with-next.ensures w.mark_at-mark.ensures w.node_at-child.ensures in
           ap (λ v. v.items) w.nodes-is ∙ (w.in_ok-push_with.ensures ∙ (ap (λ xs. c.loop-other.nodes.items ++ xs) here ∙ (ap (λ xs. xs ++ his other) c.loop-other.invariant ∙ gathered_yes his (c.args.general ∷ c.args.label.now) other c.args.nodes.now.items off)))
       | push_below-else-other-general w ↦
           elim w.else-other-general.branch [
@@ -33,10 +33,10 @@ push_below-loop-other-preserved t c =
     ]
 
 pub push_below-returns : goal.push_below-returns
-push_below-returns t c =
+push_below-returns g t c =
     let value = c.generals-other-end.ensures.value in
-    let all : c.loop-other.other ≡ c.args.table.now.generals = omega arith in
+    let all : c.loop-other.other ≡ (g.H.Heard.seen c.args.table.now).generals = omega arith in
     let ne = c.if-relays-eq0.false in
     c.loop-other.invariant
-    ∙ (ap (λ (n : ℕ). c.args.nodes.now.items ++ flat_map (λ j. nodes_by c.args.table.now c.args.traitors.now c.args.view (c.args.relays - 1) c.args.label.now j c.args.general) (others n (c.args.general ∷ c.args.label.now))) all
-    ∙ ap (λ xs. c.args.nodes.now.items ++ xs) (sym (below_more c.args.table.now c.args.traitors.now c.args.view c.args.relays (c.args.relays - 1) c.args.label.now c.args.general (omega arith))))
+    ∙ (ap (λ (n : ℕ). c.args.nodes.now.items ++ flat_map (λ j. nodes_by (g.H.Heard.seen c.args.table.now) c.args.traitors.now c.args.view (c.args.relays - 1) c.args.label.now j c.args.general) (others n (c.args.general ∷ c.args.label.now))) all
+    ∙ ap (λ xs. c.args.nodes.now.items ++ xs) (sym (below_more (g.H.Heard.seen c.args.table.now) c.args.traitors.now c.args.view c.args.relays (c.args.relays - 1) c.args.label.now c.args.general (omega arith))))

@@ -118,40 +118,40 @@ returns-in-Ok-Audit-clause-fault g c =
 pub returns-in-Ok-Draw-clause-answer : goal.returns-in-Ok-Draw-clause-answer
 returns-in-Ok-Draw-clause-answer g c =
     let both : Files = files g.R.Source.bytes c.args.first c.args.second in
-    let is : c.in-Ok-Draw.field-0 ≡ Draw c.in-Ok-Draw.scenario = c.in-Ok-Draw.field-0-is in
-    let comes : ComesTo c.args.task.now c.in_ok-bytes.bytes.items (Draw c.in-Ok-Draw.scenario) = rw (c.as_slice.ensures.value, is) at c.in-Ok-Draw.ensures.answered in
+    let is : c.in-Ok-Draw.field-0 ≡ Draw c.in-Ok-Draw.campaign = c.in-Ok-Draw.field-0-is in
+    let comes : ComesTo c.args.task.now c.in_ok-bytes.bytes.items (Draw c.in-Ok-Draw.campaign) = rw (c.as_slice.ensures.value, is) at c.in-Ok-Draw.ensures.answered in
     IfOk-weaker c.draw_by.result _ _
-    (λ text by. answered_drawn c.args.task.now both c.in_ok-bytes.bytes.items text.items c.in-Ok-Draw.scenario c.in_ok-bytes.ensures.whole comes by)
+    (λ text by. answered_drawn c.args.task.now both c.in_ok-bytes.bytes.items text.items c.in-Ok-Draw.campaign c.in_ok-bytes.ensures.whole comes by)
     c.draw_by.ensures.drawn
 
 pub returns-in-Ok-Draw-clause-fault : goal.returns-in-Ok-Draw-clause-fault
 returns-in-Ok-Draw-clause-fault g c =
     let both : Files = files g.R.Source.bytes c.args.first c.args.second in
-    let is : c.in-Ok-Draw.field-0 ≡ Draw c.in-Ok-Draw.scenario = c.in-Ok-Draw.field-0-is in
-    let comes : ComesTo c.args.task.now c.in_ok-bytes.bytes.items (Draw c.in-Ok-Draw.scenario) = rw (c.as_slice.ensures.value, is) at c.in-Ok-Draw.ensures.answered in
+    let is : c.in-Ok-Draw.field-0 ≡ Draw c.in-Ok-Draw.campaign = c.in-Ok-Draw.field-0-is in
+    let comes : ComesTo c.args.task.now c.in_ok-bytes.bytes.items (Draw c.in-Ok-Draw.campaign) = rw (c.as_slice.ensures.value, is) at c.in-Ok-Draw.ensures.answered in
     IfErr-weaker c.draw_by.result _ _
     (λ fault why.
-    prevented_later c.args.task.now both _ _ c.in_ok-bytes.bytes.items c.unwrap_or-file.result.now (Draw c.in-Ok-Draw.scenario) c.is_explained-reported.result fault c.in_ok-bytes.ensures.whole comes
+    prevented_later c.args.task.now both _ _ c.in_ok-bytes.bytes.items c.unwrap_or-file.result.now (Draw c.in-Ok-Draw.campaign) c.is_explained-reported.result fault c.in_ok-bytes.ensures.whole comes
     (second_named c.args.task.now c.second.result c.unwrap_or-file.result _ c.second.ensures c.unwrap_or-file.ensures refl) c.is_explained-reported.ensures why)
     c.draw_by.ensures.fault
 
 pub returns-in-Ok-DrawRecorded-clause-answer : goal.returns-in-Ok-DrawRecorded-clause-answer
 returns-in-Ok-DrawRecorded-clause-answer g c =
     let both : Files = files g.R.Source.bytes c.args.first c.args.second in
-    let is : c.in-Ok-DrawRecorded.field-0 ≡ DrawRecorded c.in-Ok-DrawRecorded.scenario = c.in-Ok-DrawRecorded.field-0-is in
-    let comes : ComesTo c.args.task.now c.in_ok-bytes.bytes.items (DrawRecorded c.in-Ok-DrawRecorded.scenario) = rw (c.as_slice.ensures.value, is) at c.in-Ok-DrawRecorded.ensures.answered in
+    let is : c.in-Ok-DrawRecorded.field-0 ≡ DrawRecorded c.in-Ok-DrawRecorded.campaign = c.in-Ok-DrawRecorded.field-0-is in
+    let comes : ComesTo c.args.task.now c.in_ok-bytes.bytes.items (DrawRecorded c.in-Ok-DrawRecorded.campaign) = rw (c.as_slice.ensures.value, is) at c.in-Ok-DrawRecorded.ensures.answered in
     IfOk-weaker c.draw_record.result _ _
-    (λ text by. answered_recorded c.args.task.now both c.in_ok-bytes.bytes.items text.items c.in-Ok-DrawRecorded.scenario c.in_ok-bytes.ensures.whole comes by)
+    (λ text by. answered_recorded c.args.task.now both c.in_ok-bytes.bytes.items text.items c.in-Ok-DrawRecorded.campaign c.in_ok-bytes.ensures.whole comes by)
     c.draw_record.ensures.drawn
 
 pub returns-in-Ok-DrawRecorded-clause-fault : goal.returns-in-Ok-DrawRecorded-clause-fault
 returns-in-Ok-DrawRecorded-clause-fault g c =
     let both : Files = files g.R.Source.bytes c.args.first c.args.second in
-    let is : c.in-Ok-DrawRecorded.field-0 ≡ DrawRecorded c.in-Ok-DrawRecorded.scenario = c.in-Ok-DrawRecorded.field-0-is in
-    let comes : ComesTo c.args.task.now c.in_ok-bytes.bytes.items (DrawRecorded c.in-Ok-DrawRecorded.scenario) = rw (c.as_slice.ensures.value, is) at c.in-Ok-DrawRecorded.ensures.answered in
+    let is : c.in-Ok-DrawRecorded.field-0 ≡ DrawRecorded c.in-Ok-DrawRecorded.campaign = c.in-Ok-DrawRecorded.field-0-is in
+    let comes : ComesTo c.args.task.now c.in_ok-bytes.bytes.items (DrawRecorded c.in-Ok-DrawRecorded.campaign) = rw (c.as_slice.ensures.value, is) at c.in-Ok-DrawRecorded.ensures.answered in
     IfErr-weaker c.draw_record.result _ _
     (λ fault why.
-    prevented_later c.args.task.now both _ _ c.in_ok-bytes.bytes.items c.unwrap_or-file.result.now (DrawRecorded c.in-Ok-DrawRecorded.scenario) c.is_explained-reported.result fault c.in_ok-bytes.ensures.whole comes
+    prevented_later c.args.task.now both _ _ c.in_ok-bytes.bytes.items c.unwrap_or-file.result.now (DrawRecorded c.in-Ok-DrawRecorded.campaign) c.is_explained-reported.result fault c.in_ok-bytes.ensures.whole comes
     (second_named c.args.task.now c.second.result c.unwrap_or-file.result _ c.second.ensures c.unwrap_or-file.ensures refl) c.is_explained-reported.ensures why)
     c.draw_record.ensures.fault
 

@@ -1,0 +1,37 @@
+-- The tree of what lieutenant p was told, as nested lists: a label whose labels below are shown is a fold with their list.
+use Rattle.std.specs.Prelude.{ℕ, zero, suc, if◌then◌else◌, List, [], ◌∷◌, ◌++◌}
+use Rattle.std.specs.List.{flat_map}
+use Rattle.label.specs.Labels.{others}
+use Rattle.book.specs.Table.{MessageTable}
+use Rattle.drawing.specs.Facts.{mark_at, node_at}
+use Rattle.drawing.specs.Shown.{deeper, is_open, root_mark}
+use Rattle.drawing.specs.Words.{said}
+use Rattle.drawing.specs.declared.node.Node.{Node}
+use Rattle.drawing.specs.declared.node.View.{View}
+use Rattle.page.specs.Page.{fold, item, list, paragraph, text_item}
+
+-- a label, with the items below it
+abbrev pub label_item : Node → List ℕ → List ℕ
+label_item node below = if is_open node.extent then item (fold (said node) (list below)) else text_item (said node)
+
+-- what is said of w and j, who tells p of w
+abbrev pub node_by : MessageTable → List ℕ → View → ℕ → List ℕ → ℕ → ℕ → Node
+node_by t traitors view k w p j = node_at t traitors view (mark_at t traitors w j p) k (w ++ j ∷ []) p
+
+-- the items of the labels that go on from w with k relays left, by their next general
+unfoldable pub items_below : MessageTable → List ℕ → View → ℕ → List ℕ → ℕ → List ℕ
+items_below t traitors view zero w p = []
+items_below t traitors view (suc k) w p =
+    flat_map (λ j. label_item (node_by t traitors view k w p j) (items_below t traitors (deeper view) k (w ++ j ∷ []) p)) (others t.generals (p ∷ w))
+
+-- that of j
+abbrev pub item_by : MessageTable → List ℕ → View → ℕ → List ℕ → ℕ → ℕ → List ℕ
+item_by t traitors view k w p j = label_item (node_by t traitors view k w p j) (items_below t traitors (deeper view) k (w ++ j ∷ []) p)
+
+-- the commander's word, and the list below it, if it is shown
+abbrev pub root_told : Node → List ℕ → List ℕ
+root_told node below = paragraph (said node) ++ (if is_open node.extent then list below else [])
+
+unfoldable pub tree_told : MessageTable → List ℕ → View → ℕ → List ℕ
+tree_told t traitors view p =
+    root_told (node_at t traitors view (root_mark traitors t.commander) t.bound (t.commander ∷ []) p) (items_below t traitors (deeper view) t.bound (t.commander ∷ []) p)

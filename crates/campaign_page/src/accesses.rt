@@ -1,0 +1,112 @@
+//! The accesses to the board, as a table.
+ghost use Rattle.std.specs.Prelude.{◌≡◌, ◌++◌, decimal, flat_map, string_bytes, IfOk, OnOk};
+ghost use Rattle.semantics.specs.Replies.{words_in};
+ghost use Rattle.diagram.specs.Words.{answered_words, asked_words};
+ghost use Rattle.page.specs.Page.{cell, head, row};
+ghost use Rattle.campaign_page.specs.Account.{access_heads, access_row, accesses_heading, accesses_part};
+
+use board::Access;
+use diagram::words::{put_answered, put_asked};
+use page::{
+    put_cell, put_head, put_heading, put_row_end, put_row_start, put_table_end, put_table_start,
+};
+use semantics::{Reply, Request};
+use std::alloc::{AllocError, Global};
+use world::Chronicle;
+
+/// Adds the accesses to the board, if there are any.
+pub(crate) fn put_accesses(
+    alloc: Global,
+    out: &mut String,
+    chronicle: &Chronicle,
+) -> Result<(), AllocError>
+    ensures { OnOk result (string_bytes out.new ≡ string_bytes out.old ++ accesses_part chronicle.now.accesses) }
+{
+    put_listed(alloc, out, chronicle.accesses())
+}
+
+/// Adds these accesses, if there are any.
+///
+/// # Errors
+///
+/// No memory for the text.
+pub fn put_listed(alloc: Global, out: &mut String, accesses: &[Access]) -> Result<(), AllocError>
+    ensures { OnOk result (string_bytes out.new ≡ string_bytes out.old ++ accesses_part accesses.now) }
+{
+    if accesses.is_empty() {
+        return Ok(());
+    }
+    put_heading(out, accesses_heading())?;
+    put_table_start(out)?;
+    put_heads(out)?;
+    put_rows(alloc, out, accesses)?;
+    put_table_end(out)
+}
+
+/// Adds the heads of the columns.
+fn put_heads(out: &mut String) -> Result<(), AllocError>
+    ensures { OnOk result (string_bytes out.new ≡ string_bytes out.old ++ access_heads) }
+{
+    put_row_start(out)?;
+    put_head(out, "Round")?;
+    put_head(out, "General")?;
+    put_head(out, "What he does")?;
+    put_head(out, "What the board answers")?;
+    put_row_end(out)
+}
+
+/// Adds a row for each access.
+fn put_rows(alloc: Global, out: &mut String, accesses: &[Access]) -> Result<(), AllocError>
+    ensures { OnOk result (string_bytes out.new ≡ string_bytes out.old ++ flat_map access_row accesses.now) }
+{
+    for access in accesses {
+        put_access(alloc, out, access)?;
+    }
+    Ok(())
+}
+
+/// Adds the row of an access.
+fn put_access(alloc: Global, out: &mut String, access: &Access) -> Result<(), AllocError>
+    ensures { OnOk result (string_bytes out.new ≡ string_bytes out.old ++ access_row access.now) }
+{
+    put_row_start(out)?;
+    put_number(alloc, out, access.round)?;
+    put_number(alloc, out, access.general)?;
+    put_request(alloc, out, &access.request)?;
+    put_reply(alloc, out, access.reply())?;
+    put_row_end(out)
+}
+
+/// Adds a number's cell.
+fn put_number(alloc: Global, out: &mut String, number: u32) -> Result<(), AllocError>
+    ensures { OnOk result (string_bytes out.new ≡ string_bytes out.old ++ cell (decimal number)) }
+{
+    let text = format!(in alloc; "{number}")?;
+    put_cell(out, text.as_str())
+}
+
+/// Adds the cell of a request.
+fn put_request(alloc: Global, out: &mut String, request: &Request) -> Result<(), AllocError>
+    ensures { OnOk result (string_bytes out.new ≡ string_bytes out.old ++ cell (asked_words request.now)) }
+{
+    let mut text = String::new(alloc);
+    put_asked(&mut text, request)?;
+    put_cell(out, text.as_str())
+}
+
+/// Adds the cell of a reply.
+fn put_reply(alloc: Global, out: &mut String, reply: &Reply) -> Result<(), AllocError>
+    ensures { OnOk result (string_bytes out.new ≡ string_bytes out.old ++ cell (answered_words (words_in reply.now))) }
+{
+    let mut text = String::new(alloc);
+    put_answered(&mut text, reply)?;
+    put_cell(out, text.as_str())
+}
+
+/// The heading of the accesses.
+#[tactic(auto, unfolding(crate::specs::Account::accesses_heading))]
+fn accesses_heading() -> &'static str
+    ensures { result.now ≡ accesses_heading }
+{
+    "Accesses to the board"
+}

@@ -1,0 +1,157 @@
+//! A lieutenant's tree as nested lists.
+ghost use Rattle.std.specs.Prelude.{◌≡◌, ◌≢◌, ◌<◌, ◌+◌, ◌++◌, length, true, string_bytes, IfOk, OnOk};
+ghost use Rattle.book.specs.Grammar.{is_place};
+ghost use Rattle.drawing.specs.Shown.{deeper};
+ghost use Rattle.drawing.specs.Words.{said};
+ghost use Rattle.campaign_page.specs.Trees.{items_below, label_item, root_told, tree_told};
+
+use book::Heard;
+use drawing::{Node, View, deeper, is_open, mark_at, node_at, put_said, root_mark};
+use label::Label;
+use page::{
+    put_fold_end, put_fold_start, put_item_end, put_item_start, put_list_end, put_list_start,
+    put_paragraph, put_text_item,
+};
+use std::alloc::{AllocError, Global};
+
+/// Adds what a lieutenant was told, as far as it is shown, where these generals are named as traitors.
+#[tactic(auto, unfolding(crate::specs::Trees::tree_told))]
+pub(crate) fn put_tree<H: Heard>(
+    alloc: Global,
+    out: &mut String,
+    table: &H,
+    traitors: &[u8],
+    view: View,
+    general: u8,
+) -> Result<(), AllocError>
+    requires general { general < (H.seen table.now).generals }
+    requires lieutenant { general ≢ (H.seen table.now).commander }
+    ensures { OnOk result (string_bytes out.new ≡ string_bytes out.old ++ tree_told (H.seen table.now) traitors.now view general) }
+{
+    let commander = table.commander();
+    let relays = table.bound();
+    let root = node_at(
+        table,
+        traitors,
+        view,
+        general,
+        Label::of(commander),
+        root_mark(traitors, commander),
+        relays,
+    );
+    let words = words(alloc, &root)?;
+    put_paragraph(out, words.as_str())?;
+    if !is_open(root.extent) {
+        return Ok(());
+    }
+    let label = Label::of(commander);
+    put_list_start(out)?;
+    put_items(
+        alloc,
+        out,
+        table,
+        traitors,
+        deeper(view),
+        general,
+        &label,
+        relays,
+    )?;
+    put_list_end(out)
+}
+
+/// What is said of a label.
+fn words(alloc: Global, node: &Node) -> Result<String, AllocError>
+    ensures { IfOk result (λ words. string_bytes words ≡ said node.now) }
+{
+    let mut words = String::new(alloc);
+    put_said(&mut words, node)?;
+    Ok(words)
+}
+
+/// Adds the item of a label, with those of the labels that go on from it, if they are shown, with so many relays left.
+#[cycle(items)]
+fn put_item<H: Heard>(
+    alloc: Global,
+    out: &mut String,
+    table: &H,
+    traitors: &[u8],
+    view: View,
+    general: u8,
+    node: &Node,
+    label: &Label,
+    relays: u8,
+) -> Result<(), AllocError>
+    requires place { is_place (H.seen table.now) label.now general ≡ true }
+    requires relays { length label.now + relays ≡ (H.seen table.now).bound + 1 }
+    ensures { OnOk result (string_bytes out.new ≡ string_bytes out.old ++ label_item node.now (items_below (H.seen table.now) traitors.now (deeper view) relays label.now general)) }
+{
+    let words = words(alloc, node)?;
+    if !is_open(node.extent) {
+        return put_text_item(out, words.as_str());
+    }
+    put_item_start(out)?;
+    put_fold_start(out, words.as_str())?;
+    put_list_start(out)?;
+    put_items(
+        alloc,
+        out,
+        table,
+        traitors,
+        deeper(view),
+        general,
+        label,
+        relays,
+    )?;
+    put_list_end(out)?;
+    put_fold_end(out)?;
+    put_item_end(out)?;
+    Ok(())
+}
+
+/// Adds the items of the labels that go on from this one, with so many relays left.
+#[cycle(items)]
+fn put_items<H: Heard>(
+    alloc: Global,
+    out: &mut String,
+    table: &H,
+    traitors: &[u8],
+    view: View,
+    general: u8,
+    label: &Label,
+    relays: u8,
+) -> Result<(), AllocError>
+    requires place { is_place (H.seen table.now) label.now general ≡ true }
+    requires relays { length label.now + relays ≡ (H.seen table.now).bound + 1 }
+    ensures { OnOk result (string_bytes out.new ≡ string_bytes out.old ++ items_below (H.seen table.now) traitors.now view relays label.now general) }
+{
+    if relays == 0 {
+        return Ok(());
+    }
+    for other in 0..table.generals() {
+        if other != general && !label.has(other) {
+            let next = label.with(other);
+            let mark = mark_at(table, traitors, general, label, other, &next);
+            let node = node_at(
+                table,
+                traitors,
+                view,
+                general,
+                label.with(other),
+                mark,
+                relays - 1,
+            );
+            put_item(
+                alloc,
+                out,
+                table,
+                traitors,
+                view,
+                general,
+                &node,
+                &next,
+                relays - 1,
+            )?;
+        }
+    }
+    Ok(())
+}

@@ -1,0 +1,79 @@
+//! Texts of others, of which a reader sees each character.
+ghost use Rattle.std.specs.Prelude.{◌≡◌, ◌<◌, ◌++◌, string_bytes, OnOk};
+ghost use Rattle.std.specs.Str.{encode_utf8_all};
+ghost use Rattle.markup.specs.Escaped.{escaped};
+ghost use Rattle.page.specs.Page.{shown};
+ghost use Rattle.page.specs.Visible.{digit, is_hidden, made_visible, numbered};
+
+use markup::put_character;
+use std::alloc::AllocError;
+
+/// Adds a text, escaped, with the number of each character in its place that is not seen or turns the order of others.
+///
+/// # Errors
+///
+/// No memory for the text.
+pub(crate) fn put_shown(out: &mut String, text: &str) -> Result<(), AllocError>
+    ensures { OnOk result (string_bytes out.new ≡ string_bytes out.old ++ shown text.now) }
+{
+    for character in text.chars() {
+        put_visible(out, character)?;
+    }
+    Ok(())
+}
+
+/// Adds a character, escaped, or its number.
+fn put_visible(out: &mut String, character: char) -> Result<(), AllocError>
+    ensures { OnOk result (string_bytes out.new ≡ string_bytes out.old ++ encode_utf8_all (escaped (made_visible character))) }
+{
+    if is_hidden(character) {
+        put_number(out, u32::from(character))
+    } else {
+        put_character(out, character)
+    }
+}
+
+/// Adds the number of a character.
+#[tactic(auto, using(crate::proofs::NumberLemmas::number_written))]
+fn put_number(out: &mut String, number: u32) -> Result<(), AllocError>
+    ensures { OnOk result (string_bytes out.new ≡ string_bytes out.old ++ encode_utf8_all (escaped (numbered number))) }
+{
+    out.push_str("[U+")?;
+    put_character(out, digit(number / 4096 % 16))?;
+    put_character(out, digit(number / 256 % 16))?;
+    put_character(out, digit(number / 16 % 16))?;
+    put_character(out, digit(number % 16))?;
+    out.push_str("]")
+}
+
+/// A digit to the base of 16.
+fn digit(value: u32) -> char
+    requires { value < 16 }
+    ensures { result ≡ digit value }
+{
+    if value < 10 {
+        char::from(48 + value as u8)
+    } else {
+        char::from(55 + value as u8)
+    }
+}
+
+/// Whether a character is not seen, or turns the order of others.
+fn is_hidden(character: char) -> bool
+    ensures { result ≡ is_hidden character }
+{
+    matches!(
+        character,
+        '\u{0}'..='\u{8}'
+            | '\u{B}'..='\u{C}'
+            | '\u{E}'..='\u{1F}'
+            | '\u{7F}'..='\u{9F}'
+            | '\u{61C}'
+            | '\u{200B}'
+            | '\u{200E}'..='\u{200F}'
+            | '\u{202A}'..='\u{202E}'
+            | '\u{2060}'
+            | '\u{2066}'..='\u{2069}'
+            | '\u{FEFF}'
+    )
+}
