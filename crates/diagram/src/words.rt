@@ -83,7 +83,7 @@ pub fn kind(stroke: &Stroke) -> &'static str
 }
 
 /// The class of an order that differs, or does not, from what an honest relay tells.
-fn kind_of(differs: bool, told: Option<u32>) -> &'static str
+pub(crate) fn kind_of(differs: bool, told: Option<u32>) -> &'static str
     ensures { result.now ≡ kind_of differs told }
 {
     match (differs, told) {
@@ -100,7 +100,7 @@ pub fn outline(stroke: &Stroke) -> &'static str
     outline_of(stroke.differs, stroke.told)
 }
 
-fn outline_of(differs: bool, told: Option<u32>) -> &'static str
+pub(crate) fn outline_of(differs: bool, told: Option<u32>) -> &'static str
     ensures { result.now ≡ outline_of differs told }
 {
     match (differs, told) {
