@@ -13,6 +13,7 @@ ghost use Rattle.std.specs.Prelude.{◌≡◌, Ok, IfOk, IfErr, IfSome, Some, fa
 ghost use Rattle.std.specs.IoError.{error_kind};
 ghost use Rattle.command_line.specs.Told.{file_of, second_of};
 ghost use Rattle.neighbours.specs.Seen.{reads_scenario};
+ghost use Rattle.neighbours.specs.Story.{with_story};
 ghost use Rattle.byzlab.specs.Files.{IsInputIf, IsSecondIf, IsTextOf};
 ghost use Rattle.byzlab.specs.Telling.{IsStatus, IsUnasked, failure_of};
 
@@ -21,7 +22,7 @@ use desk::{serve, turned_down};
 use folder::FolderOf;
 use input::{Input, Opened};
 use lab::{Failure, is_explained};
-use neighbours::{Untaken, reads_scenario, with_files};
+use neighbours::{Untaken, reads_scenario, with_files, with_story};
 use own_lines::refused;
 use progress::Progress;
 use std::env;
@@ -232,22 +233,23 @@ fn completed(rt: &HostRuntime, request: &Request, first: Input) -> io::Result<Op
     }
 }
 
-/// The bytes of a scenario in which the files stand that it names; none where it names some, and is refused, and an explanation
-/// is asked for, after what says so at its own lines and those of the files.
+/// The bytes of a scenario in which the files stand that it names, for a page behind its story; none where it names some, and
+/// is refused, and an explanation is asked for, after what says so at its own lines and those of the files.
 fn made(
     rt: &HostRuntime,
     request: &Request,
     own: &[u8],
     bytes: Vec<u8>,
 ) -> io::Result<Option<Input>>
-    ensures text { IfOk result (λ input. IfSome input (IsTextOf bytes.items)) }
+    ensures text { IfOk result (λ input. IfSome input (IsTextOf (with_story request.now.task own.now bytes.items))) }
     ensures memory { IfErr result (λ error. error_kind error ≡ ErrorKind.OutOfMemory) }
 {
     if let Some(lines) = refused(rt.alloc(), &request.task, own, bytes.as_slice())? {
         turn_down(rt, request, lines.as_str())?;
         return Ok(None);
     }
-    Ok(Some(Opened::Text(Cursor::new(bytes))))
+    let text = with_story(rt.alloc(), &request.task, own, bytes)?;
+    Ok(Some(Opened::Text(Cursor::new(text))))
 }
 
 /// Says that the task is not done, by this line.

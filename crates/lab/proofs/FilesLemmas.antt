@@ -17,7 +17,7 @@ use Rattle.trace.specs.Schedules.{schedule_told}
 use Rattle.lab.specs.Answers.{ComesTo, GoesOn, IsTriedBy, Prints}
 use Rattle.lab.specs.Hints.{explained_in, if_asked}
 use Rattle.lab.specs.Whys.{is_explained}
-use Rattle.lab.specs.Campaigns.{IsAudited, IsMustered, IsPlayed, played}
+use Rattle.lab.specs.Campaigns.{IsAudited, IsMustered, IsPlayed}
 use Rattle.lab.specs.Diagrams.{IsRecordDrawn}
 use Rattle.lab.specs.Faults.{Prevents, Stops}
 use Rattle.lab.specs.Pages.{IsCampaignPaged, IsRecordTold}

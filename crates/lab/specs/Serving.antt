@@ -17,7 +17,7 @@ use Rattle.lab.specs.declared.refusal.Refusal.TheVariants.{NotText, Memory}
 use Rattle.lab.specs.declared.first_answer.FirstAnswer.{FirstAnswer}
 use Rattle.lab.specs.declared.first_answer.FirstAnswer.TheVariants as answer
 use Rattle.lab.specs.Answers.{GoesOn, IsPlace, IsTriedAt, IsTriedBy, Prints}
-use Rattle.lab.specs.Campaigns.{IsAudited, IsPlayed, IsSchedule, played}
+use Rattle.lab.specs.Campaigns.{IsAudited, IsPlayed, IsSchedule}
 use Rattle.lab.specs.Diagrams.{IsCampaignDrawn, IsRecordDrawn}
 use Rattle.lab.specs.Pages.{IsCampaignPaged, IsRecordTold}
 use Rattle.lab.specs.Retracing.{IsScheduleFor}
