@@ -4,6 +4,7 @@
 
 mod folder;
 mod input;
+mod locale;
 mod progress;
 mod target;
 mod telling;
@@ -22,6 +23,7 @@ use desk::{serve, turned_down};
 use folder::FolderOf;
 use input::{Input, Opened};
 use lab::{Failure, is_explained};
+use locale::{in_locale, is_utf8};
 use neighbours::{Untaken, reads_scenario, with_files, with_story};
 use own_lines::refused;
 use progress::Progress;
@@ -61,11 +63,12 @@ fn called<T: Threads + Wait + Sync>(rt: &HostRuntime, threads: &T) -> io::Result
         texts.push(word.as_str())?;
     }
     let requests = each(alloc, texts.as_slice())?;
+    let is_utf8 = is_utf8(rt)?;
     let progress = Progress::of(rt, requests.len());
     let mut worst = 0;
     for (index, words) in requests.iter().enumerate() {
         let request = match command_line::request(alloc, words.as_slice()) {
-            Ok(request) => request,
+            Ok(request) => in_locale(request, is_utf8),
             Err(error) => return unasked(rt, error),
         };
         let _ = progress.clear();

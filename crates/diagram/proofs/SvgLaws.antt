@@ -443,16 +443,16 @@ meaning_content y kind outline words k o w =
 pub legend_of_content : (told differs missing wide : List ℕ) → IsText told → IsText differs → IsText missing → IsText wide → IsContent (legend_of told differs missing wide)
 unfolding marks_words
 legend_of_content told differs missing wide a b c d =
-    let one : List ℕ = meaning_at 132 (kind_of false None) (outline_of false None) told in
-    let two : List ℕ = meaning_at 152 (kind_of true (Some 0)) (outline_of true (Some 0)) differs in
-    let three : List ℕ = meaning_at 172 (kind_of true None) (outline_of true None) missing in
+    let one : List ℕ = meaning_at 132 (codes "told key") (outline_of false None) told in
+    let two : List ℕ = meaning_at 152 (codes "lie key") (outline_of true (Some 0)) differs in
+    let three : List ℕ = meaning_at 172 (codes "none key") (outline_of true None) missing in
     let four : List ℕ = text_at (codes "small") 120 196 wide in
     joined (one ++ two ++ three ++ four) (text_at (codes "small") 120 214 marks_words)
     (joined (one ++ two ++ three) four
     (joined (one ++ two) three
-    (joined one two (meaning_content 132 (kind_of false None) (outline_of false None) told (kind_text false None) (outline_text false None) a)
-    (meaning_content 152 (kind_of true (Some 0)) (outline_of true (Some 0)) differs (kind_text true (Some 0)) (outline_text true (Some 0)) b))
-    (meaning_content 172 (kind_of true None) (outline_of true None) missing (kind_text true None) (outline_text true None) c))
+    (joined one two (meaning_content 132 (codes "told key") (outline_of false None) told (bare_text (codes "told key") refl) (outline_text false None) a)
+    (meaning_content 152 (codes "lie key") (outline_of true (Some 0)) differs (bare_text (codes "lie key") refl) (outline_text true (Some 0)) b))
+    (meaning_content 172 (codes "none key") (outline_of true None) missing (bare_text (codes "none key") refl) (outline_text true None) c))
     (text_content (codes "small") 120 196 wide small d))
     (text_content (codes "small") 120 214 marks_words small (bare_text marks_words refl))
 

@@ -1,7 +1,7 @@
 -- What the marks of a picture mean, below its foot.
 use Rattle.std.specs.Prelude.{ℕ, true, false, List, ◌++◌, codes, Option, None, Some}
 use Rattle.diagram.specs.Shapes.{group_at, mark, stroke_at, text_at}
-use Rattle.diagram.specs.Words.{kind_of, outline_of}
+use Rattle.diagram.specs.Words.{outline_of}
 
 -- a stroke and its mark, and what they mean
 abbrev pub meaning_at : ℕ → List ℕ → List ℕ → List ℕ → List ℕ
@@ -15,9 +15,9 @@ marks_words = codes "Square: a traitor. Circle at a name: a loyal general. Point
 -- of what is told as it should be, of something else, and of nothing in its place; then what the width of a line tells
 abbrev pub legend_of : List ℕ → List ℕ → List ℕ → List ℕ → List ℕ
 legend_of told differs missing wide =
-    meaning_at 132 (kind_of false None) (outline_of false None) told
-    ++ meaning_at 152 (kind_of true (Some 0)) (outline_of true (Some 0)) differs
-    ++ meaning_at 172 (kind_of true None) (outline_of true None) missing
+    meaning_at 132 (codes "told key") (outline_of false None) told
+    ++ meaning_at 152 (codes "lie key") (outline_of true (Some 0)) differs
+    ++ meaning_at 172 (codes "none key") (outline_of true None) missing
     ++ text_at (codes "small") 120 196 wide
     ++ text_at (codes "small") 120 214 marks_words
 

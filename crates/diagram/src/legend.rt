@@ -7,7 +7,7 @@ use crate::shapes::{
     put_group_end, put_group_start, put_mark, put_stroke_end, put_stroke_start, put_title_end,
     put_title_start, put_words,
 };
-use crate::words::{kind_of, outline_of};
+use crate::words::outline_of;
 use std::alloc::AllocError;
 
 /// Adds what the marks mean: of what is told as it should be, of something else, and of nothing in its place; and what the
@@ -25,9 +25,9 @@ pub fn put_legend_of(
 ) -> Result<(), AllocError>
     ensures { OnOk result (string_bytes out.new ≡ string_bytes out.old ++ legend_of told.now differs.now missing.now wide.now) }
 {
-    put_meaning(out, 132, kind_of(false, None), outline_of(false, None), told)?;
-    put_meaning(out, 152, kind_of(true, Some(0)), outline_of(true, Some(0)), differs)?;
-    put_meaning(out, 172, kind_of(true, None), outline_of(true, None), missing)?;
+    put_meaning(out, 132, "told key", outline_of(false, None), told)?;
+    put_meaning(out, 152, "lie key", outline_of(true, Some(0)), differs)?;
+    put_meaning(out, 172, "none key", outline_of(true, None), missing)?;
     put_words(out, "small", 120, 196, wide)?;
     put_words(out, "small", 120, 214, marks_words())
 }

@@ -83,7 +83,7 @@ pub fn kind(stroke: &Stroke) -> &'static str
 }
 
 /// The class of an order that differs, or does not, from what an honest relay tells.
-pub(crate) fn kind_of(differs: bool, told: Option<u32>) -> &'static str
+fn kind_of(differs: bool, told: Option<u32>) -> &'static str
     ensures { result.now ≡ kind_of differs told }
 {
     match (differs, told) {
