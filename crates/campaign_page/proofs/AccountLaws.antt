@@ -30,7 +30,7 @@ use Rattle.trace.specs.Text.{chronicle_text}
 use Rattle.world.specs.Chronicle.{Chronicle}
 use Rattle.world.specs.declared.schedule.Repeat.{Repeat}
 use Rattle.world.specs.declared.verdict.Verdict.{Verdict}
-use Rattle.campaign_page.specs.Account.{access_heads, access_row, accesses_heading, accesses_part, alike_told, bound_told, chronicle_heading, chronicle_of, chronicle_part, course_told, general_name, helper_words, lieutenant_part, lieutenant_told, lieutenant_words, lieutenants_heading, lieutenants_part, obeyed_told, page_text, parts, picture_heading, picture_name, picture_part, picture_told, program_if, program_part, programs_heading, programs_part, recorded_words, scenario_heading, scenario_part, schedule_heading, schedule_part, title, unscheduled_words, verdict_heading, verdict_part, verdict_told, view, why_part}
+use Rattle.campaign_page.specs.Account.{access_heads, access_row, accesses_heading, accesses_part, alike_told, bound_told, chronicle_heading, chronicle_shown, chronicle_part, course_told, general_name, helper_words, lieutenant_part, lieutenant_told, lieutenant_words, lieutenants_heading, lieutenants_part, obeyed_told, page_text, parts, picture_heading, picture_name, picture_part, picture_told, program_if, program_part, programs_heading, programs_part, recorded_words, scenario_heading, scenario_part, schedule_heading, schedule_part, title, unscheduled_words, verdict_heading, verdict_part, verdict_told, view, why_part}
 use Rattle.campaign_page.specs.Trees.{item_by, items_below, label_item, node_by, root_told, tree_told}
 use Rattle.campaign_page.specs.Laws.{CampaignPagesAreElements}
 
@@ -139,7 +139,7 @@ accesses_content (a ∷ accesses) =
     let rows : List ℕ = access_heads ++ flat_map access_row (a ∷ accesses) in
     below accesses_heading (table rows) (proved_parts_are_content.table rows (joined access_heads (flat_map access_row (a ∷ accesses)) heads_content (rows_content (a ∷ accesses))))
 
-pub chronicle_content : (words : List ℕ) → IsContent (chronicle_of words)
+pub chronicle_content : (words : List ℕ) → IsContent (chronicle_shown words)
 chronicle_content words = below chronicle_heading (lines (flat_map encode_utf8 words)) (proved_parts_are_content.lines (flat_map encode_utf8 words))
 
 pub verdict_content : (v : Verdict) (bound : List ℕ) → IsContent (verdict_told v bound)

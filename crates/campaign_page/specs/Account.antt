@@ -138,11 +138,11 @@ accesses_part [] = []
 accesses_part (a ∷ accesses) = heading accesses_heading ++ table (access_heads ++ flat_map access_row (a ∷ accesses))
 
 -- the chronicle, each of its bytes as a character
-abbrev pub chronicle_of : List ℕ → List ℕ
-chronicle_of text = heading chronicle_heading ++ lines (flat_map encode_utf8 text)
+abbrev pub chronicle_shown : List ℕ → List ℕ
+chronicle_shown text = heading chronicle_heading ++ lines (flat_map encode_utf8 text)
 
 abbrev pub chronicle_part : Chronicle → List ℕ
-chronicle_part c = chronicle_of (chronicle_text c)
+chronicle_part c = chronicle_shown (chronicle_text c)
 
 -- the verdict, and which promise holds (TOPLAS 1982, IC1 and IC2)
 unfoldable pub alike_told : Bool → List ℕ

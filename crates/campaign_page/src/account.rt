@@ -1,6 +1,6 @@
 //! A campaign as a page.
 ghost use Rattle.std.specs.Prelude.{◌≡◌, ◌++◌, encode_utf8, flat_map, option_map, string_bytes, IfOk, OnOk};
-ghost use Rattle.campaign_page.specs.Account.{picture_name, chronicle_heading, picture_heading, scenario_heading, chronicle_of, chronicle_part, page_text, parts, picture_part, picture_told, scenario_part, title, title_words};
+ghost use Rattle.campaign_page.specs.Account.{picture_name, chronicle_heading, picture_heading, scenario_heading, chronicle_shown, chronicle_part, page_text, parts, picture_part, picture_told, scenario_part, title, title_words};
 ghost use Rattle.trace.specs.Text.{chronicle_text};
 
 use crate::accesses::put_accesses;
@@ -131,7 +131,7 @@ fn put_chronicle(alloc: Global, out: &mut String, chronicle: &Chronicle) -> Resu
 
 /// Adds a chronicle of this text.
 pub fn put_chronicle_text(alloc: Global, out: &mut String, text: &[u8]) -> Result<(), AllocError>
-    ensures { OnOk result (string_bytes out.new ≡ string_bytes out.old ++ chronicle_of text.now) }
+    ensures { OnOk result (string_bytes out.new ≡ string_bytes out.old ++ chronicle_shown text.now) }
 {
     let text = text_of(alloc, text)?;
     put_heading(out, chronicle_heading())?;

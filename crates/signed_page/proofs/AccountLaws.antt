@@ -12,7 +12,7 @@ use Rattle.signed_diagram.proofs.PictureLaws.{proved_signed_diagrams_are_element
 use Rattle.trace.specs.SignedText.{signed_text}
 use Rattle.world.specs.Chronicle.{Chronicle}
 use Rattle.world.specs.declared.schedule.Repeat.{Repeat}
-use Rattle.campaign_page.specs.Account.{accesses_part, chronicle_of, picture_told, programs_part, scenario_part, schedule_part, verdict_told}
+use Rattle.campaign_page.specs.Account.{accesses_part, chronicle_shown, picture_told, programs_part, scenario_part, schedule_part, verdict_told}
 use Rattle.campaign_page.proofs.AccountLaws.{accesses_content, all, below, chronicle_content, programs_content, scenario_content, schedule_content, svg_content, verdict_content}
 use Rattle.signed_page.specs.Account.{bound_told, lieutenant_part, lieutenant_told, lieutenant_words, lieutenants_heading, lieutenants_part, parts, signed_page_text, signed_title}
 use Rattle.signed_page.specs.Laws.{SignedPagesAreElements}
@@ -33,7 +33,7 @@ parts_content : (words : List ℕ) (schedule : Option (List (List Repeat))) (c :
 unfolding parts
 parts_content words schedule c =
     joined _ (verdict_told c.verdict (bound_told c.verdict.bound))
-    (joined _ (chronicle_of (signed_text c))
+    (joined _ (chronicle_shown (signed_text c))
     (joined _ (accesses_part c.accesses)
     (joined _ (lieutenants_part c)
     (joined _ (picture_told (signed_svg c))

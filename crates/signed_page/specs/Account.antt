@@ -9,7 +9,7 @@ use Rattle.signed_diagram.specs.Svg.{signed_svg}
 use Rattle.trace.specs.SignedText.{signed_text}
 use Rattle.world.specs.Chronicle.{Chronicle}
 use Rattle.world.specs.declared.schedule.Repeat.{Repeat}
-use Rattle.campaign_page.specs.Account.{accesses_part, chronicle_of, picture_told, programs_part, scenario_part, schedule_part, title, verdict_told}
+use Rattle.campaign_page.specs.Account.{accesses_part, chronicle_shown, picture_told, programs_part, scenario_part, schedule_part, title, verdict_told}
 
 -- which orders a lieutenant accepts, by which chains, and what he decides of them
 unfoldable pub lieutenants_heading : List ℕ
@@ -39,7 +39,7 @@ bound_told false = codes "The bound does not hold, by too many traitors: no prom
 unfoldable pub parts : List ℕ → Option (List (List Repeat)) → Chronicle → List ℕ
 parts text schedule c =
     scenario_part text ++ schedule_part schedule ++ programs_part c.scenario ++ picture_told (signed_svg c) ++ lieutenants_part c ++ accesses_part c.accesses
-    ++ chronicle_of (signed_text c) ++ verdict_told c.verdict (bound_told c.verdict.bound)
+    ++ chronicle_shown (signed_text c) ++ verdict_told c.verdict (bound_told c.verdict.bound)
 
 abbrev pub signed_title : Scenario → List ℕ
 signed_title s = title s ++ codes "; signed messages"

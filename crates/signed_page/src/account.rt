@@ -1,6 +1,6 @@
 //! A campaign of signed messages as a page.
 ghost use Rattle.std.specs.Prelude.{◌≡◌, ◌++◌, codes, option_map, string_bytes, IfOk, OnOk};
-ghost use Rattle.campaign_page.specs.Account.{chronicle_of, picture_told};
+ghost use Rattle.campaign_page.specs.Account.{chronicle_shown, picture_told};
 ghost use Rattle.signed_diagram.specs.Svg.{signed_svg};
 ghost use Rattle.signed_page.specs.Account.{parts, signed_page_text, signed_title};
 ghost use Rattle.trace.specs.SignedText.{signed_text};
@@ -87,7 +87,7 @@ fn put_chronicle(
     out: &mut String,
     chronicle: &SignedChronicle,
 ) -> Result<(), AllocError>
-    ensures { OnOk result (string_bytes out.new ≡ string_bytes out.old ++ chronicle_of (signed_text chronicle.now)) }
+    ensures { OnOk result (string_bytes out.new ≡ string_bytes out.old ++ chronicle_shown (signed_text chronicle.now)) }
 {
     let text = chronicle_text(alloc, chronicle)?;
     put_chronicle_text(alloc, out, text.as_slice())

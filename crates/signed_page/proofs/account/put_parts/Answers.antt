@@ -1,7 +1,7 @@
 use Rattle.std.proofs.Common.{◌++◌}
 use Rattle.std.specs.Prelude.{option_map}
 use Rattle.std.specs.String.{string_bytes}
-use Rattle.campaign_page.specs.Account.{accesses_part, chronicle_of, picture_told, programs_part, scenario_part, schedule_part, verdict_told}
+use Rattle.campaign_page.specs.Account.{accesses_part, chronicle_shown, picture_told, programs_part, scenario_part, schedule_part, verdict_told}
 use Rattle.campaign_page.proofs.ChainLemmas.{chained}
 use Rattle.signed_diagram.specs.Svg.{signed_svg}
 use Rattle.signed_page.specs.Account.{bound_told, lieutenants_part, parts}
@@ -19,7 +19,7 @@ returns c =
     let three = picture_told (signed_svg told) in
     let four = lieutenants_part told in
     let five = accesses_part told.accesses in
-    let six = chronicle_of (signed_text told) in
+    let six = chronicle_shown (signed_text told) in
     let seven = verdict_told told.verdict (bound_told told.verdict.bound) in
     chained start (one ++ time ++ two ++ three ++ four ++ five ++ six) seven _ _
     (chained start (one ++ time ++ two ++ three ++ four ++ five) six _ _
