@@ -17,7 +17,7 @@ _byzlab() {
     *:prove:-*) offered="-h --help" ;;
     2:help:*) offered=$commands ;;
     *:help:*) offered= ;;
-    *:play:-*) offered="--table --explain --json --verdicts --schedule --of -h --help" ;;
+    *:play:-*) offered="--table --explain --json --verdicts --schedule --seed --schedule-out --of -h --help" ;;
     *:check:-*) offered="--asm --elf --explain --trace --json --verdicts --context --entry -h --help" ;;
     *:asm:-*) offered="--raw --explain --partial -o -h --help" ;;
     *:dis:-*) offered="--elf --units --explain --partial --entry -h --help" ;;
@@ -26,8 +26,8 @@ _byzlab() {
     *:tree:-*) offered="--ascii --dot --svg --fold --of --traitors --depth -h --help" ;;
     *:draw:-*) offered="--schedule --chronicle -h --help" ;;
     *:page:-*) offered="--schedule --chronicle -o -h --help" ;;
-    *:schedule:-*) offered="-h --help" ;;
-    *:explore:-*) offered="--most -h --help" ;;
+    *:schedule:-*) offered="--accesses -h --help" ;;
+    *:explore:-*) offered="--most --keep -h --help" ;;
     *:muster:-*) offered="--explain --json --of -h --help" ;;
     *:audit:-*) offered="--explain --json --verdicts --of -h --help" ;;
     *) offered= ;;

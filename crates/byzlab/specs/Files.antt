@@ -1,6 +1,8 @@
 -- Which file stands for a name; what an open file has is not known (own).
 use Rattle.std.specs.Prelude.{ℕ, ◌≡◌, ◌≢◌, List, [], Option, None, Some, codes}
 use Rattle.std.specs.Io.Cursor.{cursor_inner, cursor_position, cursor_remaining}
+use Rattle.chance.specs.Seeded.{seeded}
+use Rattle.explore.specs.Text.{schedule_text}
 use Rattle.byzlab.specs.declared.input.Opened.{Opened}
 use Rattle.byzlab.specs.declared.input.Opened.TheVariants as input
 use Rattle.byzlab.specs.declared.target.Named.{Named}
@@ -26,12 +28,18 @@ abbrev pub IsTextOf : {F S : Type 0} → List ℕ → Opened F S → Type 0
 IsTextOf bytes (input.Text text) = ((cursor_inner text).items ≡ bytes) × (cursor_position text ≡ 0)
 IsTextOf bytes _ = ⊥
 
--- the second file, of this name; none where there is no name
-abbrev pub IsSecondIf : {F S : Type 0} → Option (List ℕ) → Option (Opened F S) → Type 0
-IsSecondIf None None = Unit {0}
-IsSecondIf None (Some file) = ⊥
-IsSecondIf (Some name) None = ⊥
-IsSecondIf (Some name) (Some file) = IsInputOf name (Some file)
+-- the random schedule of this seed; none where there is no seed
+abbrev pub IsSeededIf : {F S : Type 0} → Option ℕ → Option (Opened F S) → Type 0
+IsSeededIf None None = Unit {0}
+IsSeededIf None (Some file) = ⊥
+IsSeededIf (Some seed) None = ⊥
+IsSeededIf (Some seed) (Some file) = IsTextOf (schedule_text (seeded seed)) file
+
+-- the second file, of this name or with the schedule of this seed; none where there is neither
+abbrev pub IsSecondIf : {F S : Type 0} → Option (List ℕ) → Option ℕ → Option (Opened F S) → Type 0
+IsSecondIf None seed file = IsSeededIf seed file
+IsSecondIf (Some name) seed None = ⊥
+IsSecondIf (Some name) seed (Some file) = IsInputOf name (Some file)
 
 -- what is left to read: of a file and of standard input what they have, where that is known, of a text the rest of it
 abbrev pub remaining_of : {F S : Type 0} → (F → Option (List ℕ)) → (S → Option (List ℕ)) → Opened F S → Option (List ℕ)

@@ -4,6 +4,7 @@
 
 mod folder;
 mod input;
+mod keeping;
 mod locale;
 mod progress;
 mod target;
@@ -12,24 +13,26 @@ mod watched;
 
 ghost use Rattle.std.specs.Prelude.{◌≡◌, Ok, IfOk, IfErr, IfSome, Some, false, max, option_map};
 ghost use Rattle.std.specs.IoError.{error_kind};
-ghost use Rattle.command_line.specs.Told.{file_of, second_of};
+ghost use Rattle.command_line.specs.Told.{file_of, second_of, seed_of};
 ghost use Rattle.neighbours.specs.Seen.{reads_scenario};
 ghost use Rattle.neighbours.specs.Story.{with_story};
-ghost use Rattle.byzlab.specs.Files.{IsInputIf, IsSecondIf, IsTextOf};
-ghost use Rattle.byzlab.specs.Telling.{IsStatus, IsUnasked, failure_of};
+ghost use Rattle.byzlab.specs.Files.{IsInputIf, IsSecondIf, IsSeededIf, IsTextOf};
+ghost use Rattle.byzlab.specs.Telling.{IsExploredEnding, IsStatus, IsUnasked, failure_of};
 
-use command_line::{Request, TaskError, each};
+use chance::seeded;
+use command_line::{Request, Task, TaskError, each};
 use desk::{serve, turned_down};
 use folder::FolderOf;
 use input::{Input, Opened};
-use lab::{Failure, is_explained};
+use keeping::{Unkept, keep, write_whole};
+use lab::{Failure, FileName, Refusal, is_explained, with_schedules};
 use locale::{in_locale, is_utf8};
 use neighbours::{Untaken, reads_scenario, with_files, with_story};
 use own_lines::refused;
 use progress::Progress;
 use std::env;
 use std::fmt::Display;
-use std::io::{self, Cursor, ErrorKind, Read};
+use std::io::{self, Cursor, ErrorKind, Read, Write};
 use std::process::ExitCode;
 use std::sync::Wait;
 use std::thread::Threads;
@@ -138,26 +141,140 @@ fn answered<T: Threads + Wait + Sync>(
     let Some(first) = completed(rt, request, first)? else {
         return Ok(Ending::with(1));
     };
-    Ok(served(rt, threads, request, first, second))
+    let first = match explored(rt, request, first)? {
+        Explored::Done(ending) => return Ok(ending),
+        Explored::Left(first) => first,
+    };
+    let ending = served(rt, threads, request, first, second);
+    schedule_written(rt, request, ending)
+}
+
+/// What becomes of an exploration whose outcomes are to be kept.
+#[derive(Drop)]
+enum Explored {
+    /// It is done.
+    Done(Ending),
+    /// The task is another one, or its file, which is this one, is refused.
+    Left(Input),
+}
+
+/// Explores the campaign where its outcomes are to be kept: they are written, and then what it comes to is printed.
+fn explored(rt: &HostRuntime, request: &Request, first: Input) -> io::Result<Explored>
+    ensures status { IfOk result IsExploredEnding }
+    ensures memory { IfErr result (λ error. error_kind error ≡ ErrorKind.OutOfMemory) }
+{
+    let Task::Explore {
+        scenario,
+        most,
+        folder: Some(folder),
+    } = &request.task else {
+        return Ok(Explored::Left(first));
+    };
+    let Some(bytes) = read(rt, request, scenario.as_str(), first)? else {
+        return Ok(Explored::Done(Ending::with(1)));
+    };
+    match with_schedules(rt.alloc(), bytes.as_slice(), *most) {
+        Ok((text, schedules)) => {
+            let kept = keep(rt, folder.as_str(), bytes.as_slice(), schedules.as_slice());
+            Ok(Explored::Done(kept_and_printed(rt, request, kept, text.as_str())?))
+        }
+        Err(Refusal::Memory) => Err(io::Error::from(ErrorKind::OutOfMemory)),
+        Err(_) => Ok(Explored::Left(Opened::Text(Cursor::new(bytes)))),
+    }
+}
+
+/// Prints this text where its files are kept, and else says that they are not.
+fn kept_and_printed(
+    rt: &HostRuntime,
+    request: &Request,
+    kept: Result<(), Unkept>,
+    text: &str,
+) -> io::Result<Ending>
+    ensures status { IfOk result (λ ending. IsStatus ending.status) }
+    ensures memory { IfErr result (λ error. error_kind error ≡ ErrorKind.OutOfMemory) }
+{
+    if let Err(unkept) = kept {
+        tell_unkept(rt, request, unkept)?;
+        return Ok(Ending::with(1));
+    }
+    let mut out = rt.stdout();
+    if out.write_all(text.as_bytes()).is_err() || out.flush().is_err() {
+        turn_down(rt, request, Failure::Write)?;
+        return Ok(Ending {
+            status: 1,
+            is_unwritten: true,
+        });
+    }
+    Ok(Ending::with(0))
+}
+
+/// Says that a file was not written.
+fn tell_unkept(rt: &HostRuntime, request: &Request, unkept: Unkept) -> io::Result<()>
+    ensures memory { IfErr result (λ error. error_kind error ≡ ErrorKind.OutOfMemory) }
+{
+    match unkept {
+        Unkept::Unwritten(name, kind) => {
+            let name = FileName(name.as_str());
+            tell_untaken(rt, request, format_args!("fault write {name}"), Some(kind))
+        }
+        Unkept::Memory => Err(io::Error::from(ErrorKind::OutOfMemory)),
+    }
+}
+
+/// Writes the schedule of the seed behind a campaign that was played by it, where it is to be written.
+fn schedule_written(rt: &HostRuntime, request: &Request, ending: Ending) -> io::Result<Ending>
+    ensures status { IsStatus ending.status → IfOk result (λ ending. IsStatus ending.status) }
+    ensures memory { IfErr result (λ error. error_kind error ≡ ErrorKind.OutOfMemory) }
+{
+    let (Some(seed), Some(name)) = (request.task.seed(), request.task.schedule_target()) else {
+        return Ok(ending);
+    };
+    if ending.status != 0 {
+        return Ok(ending);
+    }
+    let Ok(text) = seeded(rt.alloc(), seed) else {
+        return Err(io::Error::from(ErrorKind::OutOfMemory));
+    };
+    match write_whole(rt, name, text.as_bytes()) {
+        Ok(()) => Ok(ending),
+        Err(unkept) => {
+            tell_unkept(rt, request, unkept)?;
+            Ok(Ending::with(1))
+        }
+    }
 }
 
 /// The task's files; none where one of them does not open, after what says so.
 fn files(rt: &HostRuntime, request: &Request) -> io::Result<Option<(Input, Option<Input>)>>
     ensures first { IfOk result (λ files. IfSome files (λ f. IsInputIf (file_of request.now.task) (Some f.0))) }
-    ensures second { IfOk result (λ files. IfSome files (λ f. IsSecondIf (second_of request.now.task) f.1)) }
+    ensures second { IfOk result (λ files. IfSome files (λ f. IsSecondIf (second_of request.now.task) (seed_of request.now.task) f.1)) }
     ensures memory { IfErr result (λ error. error_kind error ≡ ErrorKind.OutOfMemory) }
 {
     let Some(first) = opened(rt, request, request.task.file())? else {
         return Ok(None);
     };
     let second = match request.task.second() {
-        None => None,
+        None => random(rt, &request.task)?,
         name => match opened(rt, request, name)? {
             Some(file) => Some(file),
             None => return Ok(None),
         },
     };
     Ok(Some((first, second)))
+}
+
+/// The random schedule of the task's seed, as a second file, where it has one.
+fn random(rt: &HostRuntime, task: &Task) -> io::Result<Option<Input>>
+    ensures seeded { IfOk result (IsSeededIf (seed_of task.now)) }
+    ensures memory { IfErr result (λ error. error_kind error ≡ ErrorKind.OutOfMemory) }
+{
+    let Some(seed) = task.seed() else {
+        return Ok(None);
+    };
+    match seeded(rt.alloc(), seed) {
+        Ok(text) => Ok(Some(Opened::Text(Cursor::new(text.into_bytes())))),
+        Err(_) => Err(io::Error::from(ErrorKind::OutOfMemory)),
+    }
 }
 
 /// Does what is asked for on these files, and tells behind a fault of its output why, where it explains what it refuses.

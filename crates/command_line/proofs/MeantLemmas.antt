@@ -4,9 +4,9 @@ use Rattle.std.proofs.lemmas.Bool.{and_from, and_left, and_right, or_right}
 use Rattle.std.specs.Option.{option_map_or}
 use Rattle.text.specs.Options.{◌>>=◌}
 use Rattle.clap.specs.Walk.{Text}
-use Rattle.command_line.specs.Asked.{has_filling, excludes, has_notation, has_tree, if_of, is_meant, reads, wants}
-use Rattle.command_line.specs.Generals.{count_in, depth_in, general_in, generals_in, order_in}
-use Rattle.command_line.specs.Told.{AreExplained, IsCourse, IsDrawing, IsFilling, IsMisused, IsNotation, NamesCount, NamesGeneral, Says, Told, are_two, campaigns, coursed, has, is_of, levels_in, named, of_one, of_traitors, programs, word_of}
+use Rattle.command_line.specs.Asked.{has_filling, excludes, has_notation, has_tree, has_turns, if_of, is_meant, reads, wants}
+use Rattle.command_line.specs.Generals.{count_in, depth_in, general_in, generals_in, order_in, seed_in}
+use Rattle.command_line.specs.Told.{AreExplained, AreTurns, IsCourse, IsDrawing, IsFilling, IsMisused, IsNotation, NamesCount, NamesGeneral, NamesSeed, Says, Told, are_two, campaigns, coursed, has, is_of, levels_in, named, of_one, of_traitors, programs, word_of}
 use Rattle.command_line.specs.declared.tasks.Course.{Course}
 use Rattle.command_line.specs.declared.tasks.Course.TheVariants.{Scheduled, Recorded}
 use Rattle.command_line.specs.declared.tasks.Drawing.{Drawing}
@@ -18,8 +18,10 @@ use Rattle.command_line.specs.declared.tasks.Notation.{Notation}
 use Rattle.command_line.specs.declared.tasks.Notation.TheVariants.{Bytecode, Assembly, Object}
 use Rattle.command_line.specs.declared.tasks.Task.{Task}
 use Rattle.command_line.specs.declared.tasks.Task.TheVariants.{Check, Assemble, AssemblePartly, Disassemble, DisassemblePartly, Book, ExplainDecisions, Form, Play, Muster, Audit, Explore, Tree, Draw, Page, Retrace}
+use Rattle.command_line.specs.declared.tasks.Turns.{Turns}
+use Rattle.command_line.specs.declared.tasks.Turns.TheVariants.{OfFile, OfSeed}
 use Rattle.command_line.specs.declared.errors.Misuse.{Misuse}
-use Rattle.command_line.specs.declared.errors.Misuse.TheVariants.{Traitors, Of, Lie, Loyal, Most, Depth, NobodyNamed, TwoDrawings, TwoNotations, UnitsOfParts, TwoCourses, EntryAlone, OfAlone, LieAlone}
+use Rattle.command_line.specs.declared.errors.Misuse.TheVariants.{Traitors, Of, Lie, Loyal, Most, Depth, NobodyNamed, TwoDrawings, TwoNotations, UnitsOfParts, TwoCourses, EntryAlone, OfAlone, LieAlone, Seed, TwoSchedules, OutAlone}
 
 -- ---- the rules hold
 
@@ -92,6 +94,22 @@ module _ (told : Told) where
   course_holds (Scheduled file) is = rw is.1 refl
   course_holds (Recorded file) is = rw (is.0, is.1) refl
 
+  seed_holds : (seed : Option ℕ) → NamesSeed told seed → reads seed_in (codes "seed") told ≡ true
+  seed_holds None is = rw is refl
+  seed_holds (Some seed) is = read_where seed_in (word_of (codes "seed") told) seed is
+
+  seed_there : (word : Option Text) (seed : ℕ) → (word >>= seed_in) ≡ Some seed → is_some word ≡ true
+  seed_there None seed is = absurd cc
+  seed_there (Some word) seed is = refl
+
+  turns_hold : (turns : Turns) → AreTurns told turns → has_turns told ≡ true
+  turns_hold (OfFile file) is = rw (is.1, is.2) refl
+  turns_hold (OfSeed seed target) is =
+      and_from (reads seed_in (codes "seed") told && excludes (codes "seed") (codes "schedule") told) (wants (codes "schedule-out") (codes "seed") told)
+      (and_from (reads seed_in (codes "seed") told) (excludes (codes "seed") (codes "schedule") told) (seed_holds (Some seed) is.1)
+      (rw (seed_there (word_of (codes "seed") told) seed is.1, is.0) refl))
+      (or_right (not (has (codes "schedule-out") told)) (has (codes "seed") told) (seed_there (word_of (codes "seed") told) seed is.1))
+
 pub says_meant : (told : Told) (task : Task) → Says told task → is_meant told ≡ true
 says_meant told (Check file notation context explained traced) says = rw says.0 (rw (notation_holds told notation says.2) refl)
 says_meant told (Assemble file spelling target explained) says = rw says.0 refl
@@ -102,10 +120,11 @@ says_meant told (Book file) says = rw says.0 (rw says.3 refl)
 says_meant told (ExplainDecisions file traitors) says =
     rw says.0 (rw (traitors_hold told (has (codes "explain") told) (word_of (codes "traitors") told) traitors.items says.2) refl)
 says_meant told (Form n m c filling) says = rw says.0 (rw (filling_holds told filling says.4) refl)
-says_meant told (Play scenario schedule account explained) says = rw says.0 (rw (lieutenant_holds told explained says.4, explanation_holds told explained says.4) refl)
+says_meant told (Play scenario turns account explained) says =
+    rw says.0 (rw (lieutenant_holds told explained says.4, explanation_holds told explained says.4, turns_hold told turns says.2) refl)
 says_meant told (Muster scenario explained) says = rw says.0 (rw (lieutenant_holds told explained says.2, explanation_holds told explained says.2) refl)
 says_meant told (Audit scenario chronicle explained) says = rw says.0 (rw (lieutenant_holds told explained says.3, explanation_holds told explained says.3) refl)
-says_meant told (Explore scenario most) says = rw says.0 (rw (count_holds told (codes "most") most says.2) refl)
+says_meant told (Explore scenario most folder) says = rw says.0 (rw (count_holds told (codes "most") most says.2) refl)
 says_meant told (Tree file general traitors drawing depth folded) says =
     rw says.0 (rw (
       traitors_hold told true (word_of (codes "traitors") told) traitors.items says.3,
@@ -114,7 +133,7 @@ says_meant told (Tree file general traitors drawing depth folded) says =
     ) refl)
 says_meant told (Draw scenario course) says = rw says.0 (rw (course_holds told course says.2) refl)
 says_meant told (Page scenario course target) says = rw says.0 (rw (course_holds told course says.2) refl)
-says_meant told (Retrace scenario chronicle) says = rw says.0 refl
+says_meant told (Retrace scenario accesses) says = rw says.0 refl
 
 -- ---- a rule is broken
 
@@ -146,16 +165,19 @@ module _ (a b c d e f g : Bool) where
   seventh_broken : g ≡ false → a && b && c && d && e && f && g ≡ false
   seventh_broken is = and_right (a && b && c && d && e && f) g is
 
--- the same of two more behind them
-module _ (first h i : Bool) where
-  either_broken : first ≡ false → first && h && i ≡ false
-  either_broken is = and_left (first && h) i (and_left first h is)
+-- the same of three more behind them
+module _ (first h i j : Bool) where
+  either_broken : first ≡ false → first && h && i && j ≡ false
+  either_broken is = and_left (first && h && i) j (and_left (first && h) i (and_left first h is))
 
-  eighth_broken : h ≡ false → first && h && i ≡ false
-  eighth_broken is = and_left (first && h) i (and_right first h is)
+  eighth_broken : h ≡ false → first && h && i && j ≡ false
+  eighth_broken is = and_left (first && h && i) j (and_left (first && h) i (and_right first h is))
 
-  ninth_broken : i ≡ false → first && h && i ≡ false
-  ninth_broken is = and_right (first && h) i is
+  ninth_broken : i ≡ false → first && h && i && j ≡ false
+  ninth_broken is = and_left (first && h && i) j (and_right (first && h) i is)
+
+  tenth_broken : j ≡ false → first && h && i && j ≡ false
+  tenth_broken is = and_right (first && h && i) j is
 
 module _ (told : Told) where
   abbrev of_program : Bool
@@ -185,35 +207,56 @@ module _ (told : Told) where
   abbrev of_course : Bool
   of_course = if_of coursed told (excludes (codes "chronicle") (codes "schedule") told)
 
+  abbrev of_turns : Bool
+  of_turns = if_of (codes "play" ∷ []) told (has_turns told)
+
   abbrev of_first : Bool
   of_first = of_program && of_naming && of_table && of_lieutenant && of_explanation && of_exploration && of_tree
 
   listing_broken : is_of (codes "dis" ∷ []) told ≡ true → excludes (codes "partial") (codes "units") told ≡ false → is_meant told ≡ false
-  listing_broken of fails = eighth_broken of_first of_listing of_course (broken (codes "dis" ∷ []) told (excludes (codes "partial") (codes "units") told) of fails)
+  listing_broken of fails = eighth_broken of_first of_listing of_course of_turns (broken (codes "dis" ∷ []) told (excludes (codes "partial") (codes "units") told) of fails)
 
   course_broken : is_of coursed told ≡ true → excludes (codes "chronicle") (codes "schedule") told ≡ false → is_meant told ≡ false
-  course_broken of fails = ninth_broken of_first of_listing of_course (broken coursed told (excludes (codes "chronicle") (codes "schedule") told) of fails)
+  course_broken of fails = ninth_broken of_first of_listing of_course of_turns (broken coursed told (excludes (codes "chronicle") (codes "schedule") told) of fails)
+
+  turns_broken : is_of (codes "play" ∷ []) told ≡ true → has_turns told ≡ false → is_meant told ≡ false
+  turns_broken of fails = tenth_broken of_first of_listing of_course of_turns (broken (codes "play" ∷ []) told (has_turns told) of fails)
+
+  no_seed : reads seed_in (codes "seed") told ≡ false → has_turns told ≡ false
+  no_seed fails =
+      and_left (reads seed_in (codes "seed") told && excludes (codes "seed") (codes "schedule") told) (wants (codes "schedule-out") (codes "seed") told)
+      (and_left (reads seed_in (codes "seed") told) (excludes (codes "seed") (codes "schedule") told) fails)
+
+  two_schedules : has (codes "seed") told ≡ true → has (codes "schedule") told ≡ true → has_turns told ≡ false
+  two_schedules seed schedule =
+      and_left (reads seed_in (codes "seed") told && excludes (codes "seed") (codes "schedule") told) (wants (codes "schedule-out") (codes "seed") told)
+      (and_right (reads seed_in (codes "seed") told) (excludes (codes "seed") (codes "schedule") told) (rw (seed, schedule) refl))
+
+  out_alone : has (codes "schedule-out") told ≡ true → has (codes "seed") told ≡ false → has_turns told ≡ false
+  out_alone out seed =
+      and_right (reads seed_in (codes "seed") told && excludes (codes "seed") (codes "schedule") told) (wants (codes "schedule-out") (codes "seed") told)
+      (rw (out, seed) refl)
 
   program_broken : is_of programs told ≡ true → has_notation told ≡ false → is_meant told ≡ false
-  program_broken of fails = either_broken of_first of_listing of_course (first_broken of_program of_naming of_table of_lieutenant of_explanation of_exploration of_tree (broken programs told (has_notation told) of fails))
+  program_broken of fails = either_broken of_first of_listing of_course of_turns (first_broken of_program of_naming of_table of_lieutenant of_explanation of_exploration of_tree (broken programs told (has_notation told) of fails))
 
   naming_broken : is_of of_traitors told ≡ true → reads generals_in (codes "traitors") told ≡ false → is_meant told ≡ false
-  naming_broken of fails = either_broken of_first of_listing of_course (second_broken of_program of_naming of_table of_lieutenant of_explanation of_exploration of_tree (broken of_traitors told (reads generals_in (codes "traitors") told) of fails))
+  naming_broken of fails = either_broken of_first of_listing of_course of_turns (second_broken of_program of_naming of_table of_lieutenant of_explanation of_exploration of_tree (broken of_traitors told (reads generals_in (codes "traitors") told) of fails))
 
   table_broken : is_of (codes "table" ∷ []) told ≡ true → has_filling told ≡ false → is_meant told ≡ false
-  table_broken of fails = either_broken of_first of_listing of_course (third_broken of_program of_naming of_table of_lieutenant of_explanation of_exploration of_tree (broken (codes "table" ∷ []) told (has_filling told) of fails))
+  table_broken of fails = either_broken of_first of_listing of_course of_turns (third_broken of_program of_naming of_table of_lieutenant of_explanation of_exploration of_tree (broken (codes "table" ∷ []) told (has_filling told) of fails))
 
   lieutenant_broken : is_of of_one told ≡ true → reads general_in (codes "of") told ≡ false → is_meant told ≡ false
-  lieutenant_broken of fails = either_broken of_first of_listing of_course (fourth_broken of_program of_naming of_table of_lieutenant of_explanation of_exploration of_tree (broken of_one told (reads general_in (codes "of") told) of fails))
+  lieutenant_broken of fails = either_broken of_first of_listing of_course of_turns (fourth_broken of_program of_naming of_table of_lieutenant of_explanation of_exploration of_tree (broken of_one told (reads general_in (codes "of") told) of fails))
 
   explanation_broken : is_of campaigns told ≡ true → wants (codes "of") (codes "explain") told ≡ false → is_meant told ≡ false
-  explanation_broken of fails = either_broken of_first of_listing of_course (fifth_broken of_program of_naming of_table of_lieutenant of_explanation of_exploration of_tree (broken campaigns told (wants (codes "of") (codes "explain") told) of fails))
+  explanation_broken of fails = either_broken of_first of_listing of_course of_turns (fifth_broken of_program of_naming of_table of_lieutenant of_explanation of_exploration of_tree (broken campaigns told (wants (codes "of") (codes "explain") told) of fails))
 
   exploration_broken : is_of (codes "explore" ∷ []) told ≡ true → reads count_in (codes "most") told ≡ false → is_meant told ≡ false
-  exploration_broken of fails = either_broken of_first of_listing of_course (sixth_broken of_program of_naming of_table of_lieutenant of_explanation of_exploration of_tree (broken (codes "explore" ∷ []) told (reads count_in (codes "most") told) of fails))
+  exploration_broken of fails = either_broken of_first of_listing of_course of_turns (sixth_broken of_program of_naming of_table of_lieutenant of_explanation of_exploration of_tree (broken (codes "explore" ∷ []) told (reads count_in (codes "most") told) of fails))
 
   tree_broken : is_of (codes "tree" ∷ []) told ≡ true → has_tree told ≡ false → is_meant told ≡ false
-  tree_broken of fails = either_broken of_first of_listing of_course (seventh_broken of_program of_naming of_table of_lieutenant of_explanation of_exploration of_tree (broken (codes "tree" ∷ []) told (has_tree told) of fails))
+  tree_broken of fails = either_broken of_first of_listing of_course of_turns (seventh_broken of_program of_naming of_table of_lieutenant of_explanation of_exploration of_tree (broken (codes "tree" ∷ []) told (has_tree told) of fails))
 
   not_wanted : (name other : Text) → has name told ≡ true → has other told ≡ false → wants name other told ≡ false
   not_wanted name other there lacks = rw (there, lacks) refl
@@ -253,3 +296,6 @@ misused_not_meant told EntryAlone is = program_broken told is.0 (and_right (not 
 misused_not_meant told OfAlone is = explanation_broken told is.0 (not_wanted told (codes "of") (codes "explain") is.1 is.2)
 misused_not_meant told LieAlone is = table_broken told is.0
     (and_right (reads order_in (codes "loyal") told && reads general_in (codes "lie") told) (wants (codes "lie") (codes "loyal") told) (not_wanted told (codes "lie") (codes "loyal") is.1 is.2))
+misused_not_meant told (Seed word) is = turns_broken told is.0 (no_seed told (not_read seed_in told (codes "seed") (string_bytes word) is.1 is.2))
+misused_not_meant told TwoSchedules is = turns_broken told is.0 (two_schedules told is.1 is.2)
+misused_not_meant told OutAlone is = turns_broken told is.0 (out_alone told is.1 is.2)

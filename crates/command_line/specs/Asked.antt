@@ -3,7 +3,7 @@ use Rattle.std.specs.Prelude.{◌&&◌, ◌||◌, not, Bool, true, List, [], ◌
 use Rattle.std.specs.Prelude.{codes, if◌then◌else◌, is_some, map, option_and_then, option_map}
 use Rattle.std.specs.Borrow.{Bor}
 use Rattle.std.specs.Option.{option_map_or}
-use Rattle.command_line.specs.Generals.{count_in, depth_in, general_in, generals_in, order_in}
+use Rattle.command_line.specs.Generals.{count_in, depth_in, general_in, generals_in, order_in, seed_in}
 use Rattle.command_line.specs.Told.{Told, are_two, campaigns, coursed, has, is_of, of_one, of_traitors, programs, word_of}
 use Rattle.command_line.specs.Usage.{Text, Usage, taken_in, value_at}
 use Rattle.command_line.specs.Usages.{usage_named}
@@ -48,6 +48,11 @@ has_tree told = has (codes "of") told && reads depth_in (codes "depth") told
 abbrev pub excludes : Text → Text → Told → Bool
 excludes name other told = not (has name told && has other told)
 
+-- a campaign is played by one schedule, and only a random one is written
+abbrev pub has_turns : Told → Bool
+has_turns told = reads seed_in (codes "seed") told && excludes (codes "seed") (codes "schedule") told
+    && wants (codes "schedule-out") (codes "seed") told
+
 -- a rule for these subcommands alone
 abbrev pub if_of : List Text → Told → Bool → Bool
 if_of names told holds = not (is_of names told) || holds
@@ -62,6 +67,7 @@ is_meant told = if_of programs told (has_notation told)
     && if_of (codes "tree" ∷ []) told (has_tree told)
     && if_of (codes "dis" ∷ []) told (excludes (codes "partial") (codes "units") told)
     && if_of coursed told (excludes (codes "chronicle") (codes "schedule") told)
+    && if_of (codes "play" ∷ []) told (has_turns told)
 
 -- what the words ask for: what they spell, where that is no misuse
 abbrev pub asked : List Text → Option Told

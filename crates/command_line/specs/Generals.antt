@@ -21,6 +21,10 @@ order_in word = below (2 ^ 32) word
 unfoldable pub count_in : List ℕ → Option ℕ
 count_in word = decimal_of word >>= λ n. if nat_lt 0 n && nat_lt n (2 ^ 64) then Some n else None
 
+-- the seed of a random schedule, 0 to 18446744073709551615
+unfoldable pub seed_in : List ℕ → Option ℕ
+seed_in word = below (2 ^ 64) word
+
 -- a number of levels of a tree, 0 to 4
 unfoldable pub depth_in : List ℕ → Option ℕ
 depth_in word = below 5 word

@@ -4,7 +4,7 @@ use Rattle.std.specs.Fmt.{debug_str}
 use Rattle.command_line.specs.declared.errors.TaskError.{TaskError}
 use Rattle.command_line.specs.declared.errors.TaskError.TheVariants as error
 use Rattle.command_line.specs.declared.errors.Misuse.{Misuse}
-use Rattle.command_line.specs.declared.errors.Misuse.TheVariants.{Traitors, Of, Lie, Loyal, Most, Depth, NobodyNamed, TwoDrawings, TwoNotations, UnitsOfParts, TwoCourses, EntryAlone, OfAlone, LieAlone}
+use Rattle.command_line.specs.declared.errors.Misuse.TheVariants.{Traitors, Of, Lie, Loyal, Most, Depth, NobodyNamed, TwoDrawings, TwoNotations, UnitsOfParts, TwoCourses, EntryAlone, OfAlone, LieAlone, Seed, TwoSchedules, OutAlone}
 
 -- the word is none that the option takes, and this is what it takes
 abbrev pub invalid : List ℕ → List ℕ → List ℕ → Option (List ℕ)
@@ -17,6 +17,7 @@ misuse_text (Lie word) = invalid (string_bytes word) (codes "--lie <G>") (codes 
 misuse_text (Loyal word) = invalid (string_bytes word) (codes "--loyal <V>") (codes "an order, 0 to 4294967295")
 misuse_text (Most word) = invalid (string_bytes word) (codes "--most <N>") (codes "a whole number, 1 to 18446744073709551615")
 misuse_text (Depth word) = invalid (string_bytes word) (codes "--depth <D>") (codes "a number of levels, 0 to 4")
+misuse_text (Seed word) = invalid (string_bytes word) (codes "--seed <S>") (codes "a whole number, 0 to 18446744073709551615")
 misuse_text NobodyNamed = Some (codes "the argument '--of <G>' is required")
 misuse_text TwoDrawings = Some (codes "the arguments '--ascii', '--dot' and '--svg' cannot be used with each other")
 misuse_text TwoNotations = Some (codes "the argument '--elf' cannot be used with '--asm'")
@@ -25,6 +26,8 @@ misuse_text TwoCourses = Some (codes "the argument '--schedule <FILE>' cannot be
 misuse_text EntryAlone = Some (codes "the argument '--entry <NAME>' cannot be used without '--elf'")
 misuse_text OfAlone = Some (codes "the argument '--of <G>' cannot be used without '--explain'")
 misuse_text LieAlone = Some (codes "the argument '--lie <G>' cannot be used without '--loyal <V>'")
+misuse_text TwoSchedules = Some (codes "the argument '--seed <S>' cannot be used with '--schedule <FILE>'")
+misuse_text OutAlone = Some (codes "the argument '--schedule-out <FILE>' cannot be used without '--seed <S>'")
 
 abbrev pub error_text : TaskError → Option (List ℕ)
 error_text (error.Words refusal) = None

@@ -5,8 +5,10 @@ use Rattle.std.specs.Str.{bytes_eq}
 use Rattle.std.specs.String.{string_bytes}
 use Rattle.text.specs.Options.{◌>>=◌}
 use Rattle.clap.specs.declared.error.Error.{Error}
-use Rattle.command_line.specs.Generals.{count_in, depth_in, general_in, generals_in, order_in}
+use Rattle.command_line.specs.Generals.{count_in, depth_in, general_in, generals_in, order_in, seed_in}
 use Rattle.command_line.specs.Usage.{Text}
+use Rattle.command_line.specs.declared.tasks.Accesses.{Accesses}
+use Rattle.command_line.specs.declared.tasks.Accesses.TheVariants.{OfChronicle, Listed}
 use Rattle.command_line.specs.declared.tasks.Account.{Account}
 use Rattle.command_line.specs.declared.tasks.Account.TheVariants.{Chronicle, Table}
 use Rattle.command_line.specs.declared.tasks.Course.{Course}
@@ -23,8 +25,10 @@ use Rattle.command_line.specs.declared.tasks.Spelling.{Spelling}
 use Rattle.command_line.specs.declared.tasks.Spelling.TheVariants.{Hex, Raw}
 use Rattle.command_line.specs.declared.tasks.Task.{Task}
 use Rattle.command_line.specs.declared.tasks.Task.TheVariants.{Check, Assemble, AssemblePartly, Disassemble, DisassemblePartly, Book, ExplainDecisions, Form, Play, Muster, Audit, Explore, Tree, Draw, Page, Retrace}
+use Rattle.command_line.specs.declared.tasks.Turns.{Turns}
+use Rattle.command_line.specs.declared.tasks.Turns.TheVariants.{OfFile, OfSeed}
 use Rattle.command_line.specs.declared.errors.Misuse.{Misuse}
-use Rattle.command_line.specs.declared.errors.Misuse.TheVariants.{Traitors, Of, Lie, Loyal, Most, Depth, NobodyNamed, TwoDrawings, TwoNotations, UnitsOfParts, TwoCourses, EntryAlone, OfAlone, LieAlone}
+use Rattle.command_line.specs.declared.errors.Misuse.TheVariants.{Traitors, Of, Lie, Loyal, Most, Depth, NobodyNamed, TwoDrawings, TwoNotations, UnitsOfParts, TwoCourses, EntryAlone, OfAlone, LieAlone, Seed, TwoSchedules, OutAlone}
 use Rattle.command_line.specs.declared.errors.TaskError.{TaskError}
 use Rattle.command_line.specs.declared.errors.TaskError.TheVariants as error
 
@@ -103,6 +107,22 @@ abbrev pub NamesCount : Text → Told → Option ℕ → Type 0
 NamesCount name told None = word_of name told ≡ None
 NamesCount name told (Some n) = (word_of name told >>= count_in) ≡ Some n
 
+-- the option names this seed, and is not there where there is none
+abbrev pub NamesSeed : Told → Option ℕ → Type 0
+NamesSeed told None = word_of (codes "seed") told ≡ None
+NamesSeed told (Some seed) = (word_of (codes "seed") told >>= seed_in) ≡ Some seed
+
+abbrev pub AreTurns : Told → Turns → Type 0
+AreTurns told (OfFile file) = (word_of (codes "schedule") told ≡ option_map string_bytes file) × (word_of (codes "seed") told ≡ None)
+    × (word_of (codes "schedule-out") told ≡ None)
+AreTurns told (OfSeed seed target) = (word_of (codes "schedule") told ≡ None) × NamesSeed told (Some seed)
+    × (word_of (codes "schedule-out") told ≡ option_map string_bytes target)
+
+-- the word at the second place names a chronicle, or lists the accesses
+abbrev pub AreAccesses : Told → Accesses → Type 0
+AreAccesses told (OfChronicle file) = (word_of (codes "CHRONICLE") told ≡ Some (string_bytes file)) × (has (codes "accesses") told ≡ false)
+AreAccesses told (Listed text) = (word_of (codes "CHRONICLE") told ≡ Some (string_bytes text)) × (has (codes "accesses") told ≡ true)
+
 abbrev pub IsDrawing : Told → Drawing → Type 0
 IsDrawing told Boxes = (has (codes "ascii") told ≡ false) × (has (codes "dot") told ≡ false) × (has (codes "svg") told ≡ false)
 IsDrawing told Ascii = (has (codes "ascii") told ≡ true) × (has (codes "dot") told ≡ false) × (has (codes "svg") told ≡ false)
@@ -148,17 +168,17 @@ Says told (ExplainDecisions file traitors) = (told.name ≡ codes "book")
 Says told (Form n m c filling) = (told.name ≡ codes "table")
     × (word_of (codes "GENERALS") told ≡ Some (string_bytes n)) × (word_of (codes "BOUND") told ≡ Some (string_bytes m))
     × (word_of (codes "COMMANDER") told ≡ Some (string_bytes c)) × IsFilling told filling
-Says told (Play scenario schedule account explained) = (told.name ≡ codes "play")
-    × (word_of (codes "SCENARIO") told ≡ Some (string_bytes scenario))
-    × (word_of (codes "schedule") told ≡ option_map string_bytes schedule)
+Says told (Play scenario turns account explained) = (told.name ≡ codes "play")
+    × (word_of (codes "SCENARIO") told ≡ Some (string_bytes scenario)) × AreTurns told turns
     × (has (codes "table") told ≡ is_table account) × AreExplained told explained
 Says told (Muster scenario explained) = (told.name ≡ codes "muster")
     × (word_of (codes "SCENARIO") told ≡ Some (string_bytes scenario)) × AreExplained told explained
 Says told (Audit scenario chronicle explained) = (told.name ≡ codes "audit")
     × (word_of (codes "SCENARIO") told ≡ Some (string_bytes scenario))
     × (word_of (codes "CHRONICLE") told ≡ Some (string_bytes chronicle)) × AreExplained told explained
-Says told (Explore scenario most) = (told.name ≡ codes "explore")
+Says told (Explore scenario most folder) = (told.name ≡ codes "explore")
     × (word_of (codes "SCENARIO") told ≡ Some (string_bytes scenario)) × NamesCount (codes "most") told most
+    × (word_of (codes "keep") told ≡ option_map string_bytes folder)
 Says told (Tree file general traitors drawing depth folded) = (told.name ≡ codes "tree")
     × (word_of (codes "FILE") told ≡ Some (string_bytes file)) × NamesGeneral (codes "of") told (Some general)
     × (named true (word_of (codes "traitors") told) ≡ Some traitors.items) × IsDrawing told drawing
@@ -168,9 +188,8 @@ Says told (Draw scenario course) = (told.name ≡ codes "draw")
 Says told (Page scenario course target) = (told.name ≡ codes "page")
     × (word_of (codes "SCENARIO") told ≡ Some (string_bytes scenario)) × IsCourse told course
     × (word_of (codes "target") told ≡ option_map string_bytes target)
-Says told (Retrace scenario chronicle) = (told.name ≡ codes "schedule")
-    × (word_of (codes "SCENARIO") told ≡ Some (string_bytes scenario))
-    × (word_of (codes "CHRONICLE") told ≡ Some (string_bytes chronicle))
+Says told (Retrace scenario accesses) = (told.name ≡ codes "schedule")
+    × (word_of (codes "SCENARIO") told ≡ Some (string_bytes scenario)) × AreAccesses told accesses
 
 -- the words ask for this: the task, and whether its answer is to be JSON, or one line
 abbrev pub Asks : Told → Request → Type 0
@@ -187,26 +206,34 @@ file_of (DisassemblePartly file notation explained) = Some (string_bytes file)
 file_of (Book file) = Some (string_bytes file)
 file_of (ExplainDecisions file traitors) = Some (string_bytes file)
 file_of (Form n m c filling) = None
-file_of (Play scenario schedule account explained) = Some (string_bytes scenario)
+file_of (Play scenario turns account explained) = Some (string_bytes scenario)
 file_of (Muster scenario explained) = Some (string_bytes scenario)
 file_of (Audit scenario chronicle explained) = Some (string_bytes scenario)
-file_of (Explore scenario most) = Some (string_bytes scenario)
+file_of (Explore scenario most folder) = Some (string_bytes scenario)
 file_of (Tree file general traitors drawing depth folded) = Some (string_bytes file)
 file_of (Draw scenario course) = Some (string_bytes scenario)
 file_of (Page scenario course target) = Some (string_bytes scenario)
-file_of (Retrace scenario chronicle) = Some (string_bytes scenario)
+file_of (Retrace scenario accesses) = Some (string_bytes scenario)
 
 abbrev pub course_file : Course → Option Text
 course_file (Scheduled schedule) = option_map string_bytes schedule
 course_file (Recorded chronicle) = Some (string_bytes chronicle)
 
+abbrev pub turns_file : Turns → Option Text
+turns_file (OfFile file) = option_map string_bytes file
+turns_file (OfSeed seed target) = None
+
+abbrev pub accesses_file : Accesses → Option Text
+accesses_file (OfChronicle file) = Some (string_bytes file)
+accesses_file (Listed text) = None
+
 abbrev pub second_of : Task → Option Text
 second_of (Check file notation context explained traced) = option_map string_bytes context
-second_of (Play scenario schedule account explained) = option_map string_bytes schedule
+second_of (Play scenario turns account explained) = turns_file turns
 second_of (Audit scenario chronicle explained) = Some (string_bytes chronicle)
 second_of (Draw scenario course) = course_file course
 second_of (Page scenario course target) = course_file course
-second_of (Retrace scenario chronicle) = Some (string_bytes chronicle)
+second_of (Retrace scenario accesses) = accesses_file accesses
 second_of _ = None
 
 abbrev pub target_of : Task → Option Text
@@ -214,6 +241,36 @@ target_of (Assemble file spelling target explained) = option_map string_bytes ta
 target_of (AssemblePartly file spelling target explained) = option_map string_bytes target
 target_of (Page scenario course target) = option_map string_bytes target
 target_of _ = None
+
+-- ---- what stands in place of a second file: the schedule of a seed, or a text; and what is written besides
+
+abbrev pub turns_seed : Turns → Option ℕ
+turns_seed (OfFile file) = None
+turns_seed (OfSeed seed target) = Some seed
+
+abbrev pub seed_of : Task → Option ℕ
+seed_of (Play scenario turns account explained) = turns_seed turns
+seed_of _ = None
+
+abbrev pub accesses_text : Accesses → Option Text
+accesses_text (OfChronicle file) = None
+accesses_text (Listed text) = Some (string_bytes text)
+
+abbrev pub listed_of : Task → Option Text
+listed_of (Retrace scenario accesses) = accesses_text accesses
+listed_of _ = None
+
+abbrev pub seed_target : Turns → Option Text
+seed_target (OfFile file) = None
+seed_target (OfSeed seed target) = option_map string_bytes target
+
+abbrev pub schedule_target_of : Task → Option Text
+schedule_target_of (Play scenario turns account explained) = seed_target turns
+schedule_target_of _ = None
+
+abbrev pub folder_of : Task → Option Text
+folder_of (Explore scenario most folder) = option_map string_bytes folder
+folder_of _ = None
 
 -- ---- refusals
 
@@ -237,6 +294,8 @@ IsMisused told (Most word) = (is_of (codes "explore" ∷ []) told ≡ true)
     × (word_of (codes "most") told ≡ Some (string_bytes word)) × (count_in (string_bytes word) ≡ None)
 IsMisused told (Depth word) = (is_of (codes "tree" ∷ []) told ≡ true)
     × (word_of (codes "depth") told ≡ Some (string_bytes word)) × (depth_in (string_bytes word) ≡ None)
+IsMisused told (Seed word) = (is_of (codes "play" ∷ []) told ≡ true)
+    × (word_of (codes "seed") told ≡ Some (string_bytes word)) × (seed_in (string_bytes word) ≡ None)
 IsMisused told NobodyNamed = (is_of (codes "tree" ∷ []) told ≡ true) × (has (codes "of") told ≡ false)
 IsMisused told TwoDrawings = (is_of (codes "tree" ∷ []) told ≡ true)
     × (are_two (has (codes "ascii") told) (has (codes "dot") told) (has (codes "svg") told) ≡ true)
@@ -247,6 +306,10 @@ IsMisused told TwoCourses = (is_of coursed told ≡ true)
 IsMisused told EntryAlone = (is_of programs told ≡ true) × (has (codes "entry") told ≡ true) × (has (codes "elf") told ≡ false)
 IsMisused told OfAlone = (is_of campaigns told ≡ true) × (has (codes "of") told ≡ true) × (has (codes "explain") told ≡ false)
 IsMisused told LieAlone = (is_of (codes "table" ∷ []) told ≡ true) × (has (codes "lie") told ≡ true) × (has (codes "loyal") told ≡ false)
+IsMisused told TwoSchedules = (is_of (codes "play" ∷ []) told ≡ true)
+    × (has (codes "seed") told ≡ true) × (has (codes "schedule") told ≡ true)
+IsMisused told OutAlone = (is_of (codes "play" ∷ []) told ≡ true)
+    × (has (codes "schedule-out") told ≡ true) × (has (codes "seed") told ≡ false)
 
 -- an error of words that `clap` takes: they are misused so, or memory is wanting
 abbrev pub IsErrorOf : Told → TaskError → Type 0

@@ -49,7 +49,8 @@ abbrev pub play : Usage
 play = record {
   name = codes "play";
   places = codes "SCENARIO" ∷ [];
-  flags = switch (codes "table") ∷ switch (codes "explain") ∷ switch (codes "json") ∷ switch (codes "verdicts") ∷ option (codes "schedule") ∷ option (codes "of") ∷ [];
+  flags = switch (codes "table") ∷ switch (codes "explain") ∷ switch (codes "json") ∷ switch (codes "verdicts") ∷ option (codes "schedule")
+      ∷ option (codes "seed") ∷ option (codes "schedule-out") ∷ option (codes "of") ∷ [];
 }
 
 abbrev pub audit : Usage
@@ -60,7 +61,7 @@ audit = record {
 }
 
 abbrev pub explore : Usage
-explore = record { name = codes "explore"; places = codes "SCENARIO" ∷ []; flags = option (codes "most") ∷ [] }
+explore = record { name = codes "explore"; places = codes "SCENARIO" ∷ []; flags = option (codes "most") ∷ option (codes "keep") ∷ [] }
 
 abbrev pub tree : Usage
 tree = record {
@@ -81,7 +82,7 @@ page = record {
 }
 
 abbrev pub schedule : Usage
-schedule = record { name = codes "schedule"; places = codes "SCENARIO" ∷ codes "CHRONICLE" ∷ []; flags = [] }
+schedule = record { name = codes "schedule"; places = codes "SCENARIO" ∷ codes "CHRONICLE" ∷ []; flags = switch (codes "accesses") ∷ [] }
 
 abbrev pub usages : List Usage
 usages = check ∷ asm ∷ dis ∷ book ∷ table ∷ muster ∷ play ∷ audit ∷ explore ∷ tree ∷ draw ∷ page ∷ schedule ∷ []

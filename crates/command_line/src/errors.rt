@@ -28,6 +28,8 @@ pub enum Misuse {
     Most(String),
     /// The word behind `--depth` is no number of levels.
     Depth(String),
+    /// The word behind `--seed` is no seed.
+    Seed(String),
     /// A file is said to be assembly text and an ELF object.
     TwoNotations,
     /// Units are to stand before parts of which not all are instructions.
@@ -44,6 +46,10 @@ pub enum Misuse {
     OfAlone,
     /// `--lie` stands without `--loyal`.
     LieAlone,
+    /// A campaign is to be played by two schedules.
+    TwoSchedules,
+    /// `--schedule-out` stands without `--seed`.
+    OutAlone,
 }
 
 impl fmt::Display for TaskError {
@@ -93,6 +99,10 @@ impl fmt::Display for Misuse {
                 f,
                 "invalid value {word:?} for '--depth <D>': a number of levels, 0 to 4"
             ),
+            Misuse::Seed(word) => write!(
+                f,
+                "invalid value {word:?} for '--seed <S>': a whole number, 0 to 18446744073709551615"
+            ),
             Misuse::NobodyNamed => f.write_str("the argument '--of <G>' is required"),
             Misuse::TwoDrawings => f.write_str(
                 "the arguments '--ascii', '--dot' and '--svg' cannot be used with each other",
@@ -115,6 +125,12 @@ impl fmt::Display for Misuse {
             Misuse::LieAlone => {
                 f.write_str("the argument '--lie <G>' cannot be used without '--loyal <V>'")
             }
+            Misuse::TwoSchedules => {
+                f.write_str("the argument '--seed <S>' cannot be used with '--schedule <FILE>'")
+            }
+            Misuse::OutAlone => f.write_str(
+                "the argument '--schedule-out <FILE>' cannot be used without '--seed <S>'",
+            ),
         }
     }
 }

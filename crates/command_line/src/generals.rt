@@ -1,5 +1,5 @@
 ghost use Rattle.std.specs.Prelude.{◌≡◌, ◌≢◌, Ok, Err, IfOk, IfErr, MatchOption, Some, None};
-ghost use Rattle.command_line.specs.Generals.{count_in, depth_in, general_in, generals_in, order_in};
+ghost use Rattle.command_line.specs.Generals.{count_in, depth_in, general_in, generals_in, order_in, seed_in};
 ghost use Rattle.command_line.specs.declared.generals.GeneralsError.TheVariants.{NoGeneral, Memory};
 
 use std::alloc::{AllocError, Global};
@@ -85,6 +85,19 @@ pub(crate) fn count(word: &[u8]) -> Option<u64>
 {
     let number = decimal(word)?;
     if 0 < number && number < 18_446_744_073_709_551_616 {
+        Some(number as u64)
+    } else {
+        None
+    }
+}
+
+/// The seed of a random schedule.
+#[tactic(auto, unfolding(crate::specs::Generals::seed_in))]
+pub(crate) fn seed(word: &[u8]) -> Option<u64>
+    ensures { result ≡ seed_in word.now }
+{
+    let number = decimal(word)?;
+    if number < 18_446_744_073_709_551_616 {
         Some(number as u64)
     } else {
         None

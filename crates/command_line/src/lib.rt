@@ -15,5 +15,6 @@ pub use errors::{Misuse, TaskError};
 pub use reading::request;
 pub use several::each;
 pub use tasks::{
-    Account, Course, Drawing, Filling, Lieutenants, Notation, Request, Spelling, Task,
+    Accesses, Account, Course, Drawing, Filling, Lieutenants, Notation, Request, Spelling, Task,
+    Turns,
 };

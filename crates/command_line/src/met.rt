@@ -1,14 +1,15 @@
-ghost use Rattle.std.specs.Prelude.{◌≡◌, if◌then◌else◌, IfOk, IfErr, IsSome, None, Some, [], ◌∷◌, codes, option_map, string_bytes, true};
+ghost use Rattle.std.specs.Prelude.{◌≡◌, if◌then◌else◌, IfOk, IfErr, IsSome, None, Some, [], ◌∷◌, codes, is_some, option_map, string_bytes, true};
 ghost use Rattle.clap.specs.Words.{subcommand_rows_of};
 ghost use Rattle.command_line.specs.Lab.{is_given, task_met};
 ghost use Rattle.command_line.specs.Told.{IsDrawing, levels_in, named};
 ghost use Rattle.command_line.specs.Met.{has_places, told_by};
-ghost use Rattle.command_line.specs.Told.{AreExplained, Asks, IsCourse, IsErrorOf, IsFilling, IsNotation, NamesCount, NamesGeneral, Says, campaigns, coursed, has, is_of, is_raw, is_table, programs, word_of};
+ghost use Rattle.command_line.specs.Told.{AreExplained, AreTurns, Asks, IsCourse, IsErrorOf, IsFilling, IsNotation, NamesCount, NamesGeneral, NamesSeed, Says, campaigns, coursed, has, is_of, is_raw, is_table, programs, word_of};
 
 use crate::errors::{Misuse, TaskError};
-use crate::generals::{GeneralsError, count, depth, general, generals, order};
+use crate::generals::{GeneralsError, count, depth, general, generals, order, seed};
 use crate::tasks::{
-    Account, Course, Drawing, Filling, Lieutenants, Notation, Request, Spelling, Task,
+    Accesses, Account, Course, Drawing, Filling, Lieutenants, Notation, Request, Spelling, Task,
+    Turns,
 };
 use clap::ArgMatches;
 use clap::parser::ValueSource;
@@ -244,10 +245,46 @@ impl<'m, 'a> Met<'m, 'a> {
     {
         Ok(Task::Play {
             scenario: self.required(alloc, "SCENARIO")?,
-            schedule: self.optional(alloc, "schedule")?,
+            turns: self.turns(alloc)?,
             account: self.account(),
             explained: self.lieutenants(alloc)?,
         })
+    }
+
+    /// By which schedule a campaign is played.
+    fn turns(self, alloc: Global) -> Result<Turns, TaskError>
+        requires { is_of (codes "play" ∷ []) (told_by self) ≡ true }
+        ensures turns { IfOk result (AreTurns (told_by self.entry)) }
+        ensures refused { IfErr result (IsErrorOf (told_by self.entry)) }
+    {
+        let file = self.optional(alloc, "schedule")?;
+        let target = self.optional(alloc, "schedule-out")?;
+        let Some(seed) = self.seed(alloc)? else {
+            if target.is_some() {
+                return Err(TaskError::Misuse(Misuse::OutAlone));
+            }
+            return Ok(Turns::OfFile(file));
+        };
+        if file.is_some() {
+            return Err(TaskError::Misuse(Misuse::TwoSchedules));
+        }
+        Ok(Turns::OfSeed { seed, target })
+    }
+
+    /// Of which seed the schedule is, where it is a random one.
+    fn seed(self, alloc: Global) -> Result<Option<u64>, TaskError>
+        requires { is_of (codes "play" ∷ []) (told_by self) ≡ true }
+        ensures named { IfOk result (NamesSeed (told_by self.entry)) }
+        ensures there { IfOk result (λ seed. has (codes "seed") (told_by self.entry) ≡ is_some seed) }
+        ensures refused { IfErr result (IsErrorOf (told_by self.entry)) }
+    {
+        let Some(word) = self.value("seed") else {
+            return Ok(None);
+        };
+        match seed(word.as_bytes()) {
+            Some(seed) => Ok(Some(seed)),
+            None => Err(TaskError::Misuse(Misuse::Seed(String::from_str(alloc, word)?))),
+        }
     }
 
     /// The task of `muster`.
@@ -288,6 +325,7 @@ impl<'m, 'a> Met<'m, 'a> {
         Ok(Task::Explore {
             scenario: self.required(alloc, "SCENARIO")?,
             most: self.most(alloc)?,
+            folder: self.optional(alloc, "keep")?,
         })
     }
 
@@ -441,10 +479,14 @@ impl<'m, 'a> Met<'m, 'a> {
         ensures refused { IfErr result (IsErrorOf (told_by self.entry)) }
     {
         let scenario = self.required(alloc, "SCENARIO")?;
-        let chronicle = self.required(alloc, "CHRONICLE")?;
+        let accesses = self.required(alloc, "CHRONICLE")?;
         Ok(Task::Retrace {
             scenario,
-            chronicle,
+            accesses: if self.has("accesses") {
+                Accesses::Listed(accesses)
+            } else {
+                Accesses::OfChronicle(accesses)
+            },
         })
     }
 

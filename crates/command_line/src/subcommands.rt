@@ -34,6 +34,11 @@ const CHRONICLE: Place<'static> = Place {
     help: "What `play` or `muster` has printed of this campaign",
 };
 
+const ACCESSES: Place<'static> = Place {
+    name: "CHRONICLE",
+    help: "What `play` or `muster` has printed of this campaign; with --accesses the accesses themselves, as '5 4 / 4 5'",
+};
+
 const SCHEDULED: Flag<'static> = Flag::Option {
     name: "schedule",
     value: "FILE",
@@ -249,6 +254,16 @@ pub(crate) const PLAY: Subcommand<'static> = Subcommand {
         },
         SCHEDULED,
         Flag::Option {
+            name: "seed",
+            value: "S",
+            help: "Plays the random schedule of this seed",
+        },
+        Flag::Option {
+            name: "schedule-out",
+            value: "FILE",
+            help: "Writes the schedule of the seed to this file",
+        },
+        Flag::Option {
             name: "of",
             value: "G",
             help: OF,
@@ -285,11 +300,18 @@ const EXPLORE: Subcommand<'static> = Subcommand {
     name: "explore",
     about: "Plays a campaign in each order of its accesses and prints what it comes to",
     places: &[SCENARIO],
-    flags: &[Flag::Option {
-        name: "most",
-        value: "N",
-        help: "Stops after this many orders; without it all are played, however many",
-    }],
+    flags: &[
+        Flag::Option {
+            name: "most",
+            value: "N",
+            help: "Stops after this many orders; without it all are played, however many",
+        },
+        Flag::Option {
+            name: "keep",
+            value: "DIR",
+            help: "Writes the scenario and a schedule of each outcome to this folder",
+        },
+    ],
 };
 
 const TREE: Subcommand<'static> = Subcommand {
@@ -357,9 +379,12 @@ const PAGE: Subcommand<'static> = Subcommand {
 
 const SCHEDULE: Subcommand<'static> = Subcommand {
     name: "schedule",
-    about: "Prints the schedule by which a campaign has a chronicle",
-    places: &[SCENARIO, CHRONICLE],
-    flags: &[],
+    about: "Prints the schedule by which a campaign has a chronicle, or these accesses",
+    places: &[SCENARIO, ACCESSES],
+    flags: &[Flag::Switch {
+        name: "accesses",
+        help: "CHRONICLE is no file: the generals as they come to the board, rounds parted by a slash",
+    }],
 };
 
 /// All subcommands, as help lists them.

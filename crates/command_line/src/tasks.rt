@@ -61,10 +61,10 @@ pub enum Task {
         commander: String,
         filling: Option<Filling>,
     },
-    /// Play a campaign, by the schedule of a second file where one is named.
+    /// Play a campaign by this schedule.
     Play {
         scenario: String,
-        schedule: Option<String>,
+        turns: Turns,
         account: Account,
         explained: Option<Lieutenants>,
     },
@@ -79,10 +79,12 @@ pub enum Task {
         chronicle: String,
         explained: Option<Lieutenants>,
     },
-    /// Play a campaign in each order of its accesses, or in this many, 1 or more, where there are more.
+    /// Play a campaign in each order of its accesses, or in this many, 1 or more, where there are more, and keep what comes out
+    /// in a folder where one is named.
     Explore {
         scenario: String,
         most: Option<u64>,
+        folder: Option<String>,
     },
     /// Draw what this general was told by a message table or in a campaign, so many levels below the commander's, 0 to 4, with the lies of
     /// these marked, and without what is below a label where all tell the same, if it is to be folded.
@@ -105,10 +107,10 @@ pub enum Task {
         course: Course,
         target: Option<String>,
     },
-    /// Print the schedule by which a campaign has a chronicle.
+    /// Print the schedule by which a campaign has these accesses.
     Retrace {
         scenario: String,
-        chronicle: String,
+        accesses: Accesses,
     },
 }
 
@@ -162,6 +164,24 @@ pub enum Course {
     Recorded(String),
 }
 
+/// By which schedule a campaign is played.
+#[derive(Debug, Drop)]
+pub enum Turns {
+    /// By that of this file or, where none is named, by the empty one.
+    OfFile(Option<String>),
+    /// By the random one of this seed, which is written to another file where one is named.
+    OfSeed { seed: u64, target: Option<String> },
+}
+
+/// Which generals come to the board, and in which order.
+#[derive(Debug, Drop)]
+pub enum Accesses {
+    /// Those of the chronicle of this file.
+    OfChronicle(String),
+    /// Those of this text.
+    Listed(String),
+}
+
 /// How a campaign that is played is told.
 #[derive(Clone, Copy, Debug, PartialEq, Eq)]
 pub enum Account {
@@ -195,9 +215,69 @@ impl Course {
     }
 }
 
+impl Turns {
+    ghost use Rattle.std.specs.Prelude.{◌≡◌, option_map};
+    ghost use Rattle.command_line.specs.Told.{seed_target, turns_file, turns_seed};
+
+    /// The name of the file that the schedule stands in, where there is one.
+    fn file(&self) -> Option<&str>
+        ensures { option_map (λ file. file.now) result ≡ turns_file self.now }
+    {
+        match self {
+            Turns::OfFile(file) => file.as_deref(),
+            Turns::OfSeed { .. } => None,
+        }
+    }
+
+    /// The seed of the schedule, where it is a random one.
+    fn seed(&self) -> Option<u64>
+        ensures { result ≡ turns_seed self.now }
+    {
+        match self {
+            Turns::OfFile(_) => None,
+            Turns::OfSeed { seed, .. } => Some(*seed),
+        }
+    }
+
+    /// The name of the file that the random schedule is written to, where one is named.
+    fn target(&self) -> Option<&str>
+        ensures { option_map (λ file. file.now) result ≡ seed_target self.now }
+    {
+        match self {
+            Turns::OfFile(_) => None,
+            Turns::OfSeed { target, .. } => target.as_deref(),
+        }
+    }
+}
+
+impl Accesses {
+    ghost use Rattle.std.specs.Prelude.{◌≡◌, option_map};
+    ghost use Rattle.command_line.specs.Told.{accesses_file, accesses_text};
+
+    /// The name of the file that tells the accesses, where there is one.
+    fn file(&self) -> Option<&str>
+        ensures { option_map (λ file. file.now) result ≡ accesses_file self.now }
+    {
+        match self {
+            Accesses::OfChronicle(chronicle) => Some(chronicle.as_str()),
+            Accesses::Listed(_) => None,
+        }
+    }
+
+    /// The text that lists the accesses, where they stand in no file.
+    fn text(&self) -> Option<&str>
+        ensures { option_map (λ text. text.now) result ≡ accesses_text self.now }
+    {
+        match self {
+            Accesses::OfChronicle(_) => None,
+            Accesses::Listed(text) => Some(text.as_str()),
+        }
+    }
+}
+
 impl Task {
     ghost use Rattle.std.specs.Prelude.{◌≡◌, option_map};
-    ghost use Rattle.command_line.specs.Told.{file_of, second_of, target_of};
+    ghost use Rattle.command_line.specs.Told.{file_of, folder_of, listed_of, schedule_target_of, second_of, seed_of, target_of};
 
     /// The name of the only file, or of the first; none where the task reads no file.
     pub fn file(&self) -> Option<&str>
@@ -229,10 +309,9 @@ impl Task {
     {
         match self {
             Task::Check { context, .. } => context.as_deref(),
-            Task::Play { schedule, .. } => schedule.as_deref(),
-            Task::Audit { chronicle, .. } | Task::Retrace { chronicle, .. } => {
-                Some(chronicle.as_str())
-            }
+            Task::Play { turns, .. } => turns.file(),
+            Task::Audit { chronicle, .. } => Some(chronicle.as_str()),
+            Task::Retrace { accesses, .. } => accesses.file(),
             Task::Draw { course, .. } | Task::Page { course, .. } => course.file(),
             _ => None,
         }
@@ -246,6 +325,46 @@ impl Task {
             Task::Assemble { target, .. } => target.as_deref(),
             Task::AssemblePartly { target, .. } => target.as_deref(),
             Task::Page { target, .. } => target.as_deref(),
+            _ => None,
+        }
+    }
+
+    /// The seed of the schedule that a campaign is played by, where it is a random one.
+    pub fn seed(&self) -> Option<u64>
+        ensures { result ≡ seed_of self.now }
+    {
+        match self {
+            Task::Play { turns, .. } => turns.seed(),
+            _ => None,
+        }
+    }
+
+    /// The name of the file that the schedule of the seed is written to, where one is named.
+    pub fn schedule_target(&self) -> Option<&str>
+        ensures { option_map (λ file. file.now) result ≡ schedule_target_of self.now }
+    {
+        match self {
+            Task::Play { turns, .. } => turns.target(),
+            _ => None,
+        }
+    }
+
+    /// The text that lists the accesses that a schedule is to give, where they stand in no file.
+    pub fn listed(&self) -> Option<&str>
+        ensures { option_map (λ text. text.now) result ≡ listed_of self.now }
+    {
+        match self {
+            Task::Retrace { accesses, .. } => accesses.text(),
+            _ => None,
+        }
+    }
+
+    /// The name of the folder that what comes out is kept in, where one is named.
+    pub fn folder(&self) -> Option<&str>
+        ensures { option_map (λ folder. folder.now) result ≡ folder_of self.now }
+    {
+        match self {
+            Task::Explore { folder, .. } => folder.as_deref(),
             _ => None,
         }
     }

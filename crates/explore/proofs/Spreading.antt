@@ -1,18 +1,20 @@
 -- A layer gives way to the next, state by state and access by access.
-use Rattle.std.proofs.Common.{◌≡◌, ℕ, suc, ◌+◌, ◌*◌, ◌-◌, ◌^◌, ◌<◌, ◌≤◌, List, [], ◌∷◌, ◌++◌, length, take, get_or, Bool, true, false, refl, sym, ap, subst, ◌∙◌, arith, All, Some, length-append}
+use Rattle.std.proofs.Common.{◌≡◌, ℕ, suc, ◌+◌, ◌*◌, ◌-◌, ◌^◌, ◌<◌, ◌≤◌, List, [], ◌∷◌, ◌++◌, length, get_or, reverse, Bool, true, false, refl, sym, ap, subst, ◌∙◌, arith, All, None, Some, append-nil, append_assoc, length-append, zero}
 use Rattle.std.specs.Prelude.{slice_get, sum_by, ◌||◌}
 use Rattle.std.proofs.Math.Nat.{mul-add, mul-zero, one-mul}
-use Rattle.std.proofs.lemmas.List.{take_more, take_all, get_or_append_left, get_or_push}
-use Rattle.std.proofs.lemmas.List.Sums.{sum_by_push, sum_by_more, sum_by-cons}
+use Rattle.std.proofs.lemmas.List.{get_or_append_left, get_or_push, reverse-append, reverse-reverse}
+use Rattle.std.proofs.lemmas.List.Sums.{sum_by_push, sum_by-cons}
 use Rattle.std.proofs.lemmas.List.Elements.{All-weaker, All-nil, All-push}
 use Rattle.round.specs.Scenario.{Scenario, IsScenario}
 use Rattle.world.specs.Kind.{World, opening}
+use Rattle.world.specs.Playing.{program_length}
 use Rattle.world.specs.World.{oral_kind}
 use Rattle.explore.specs.Orders.{will_ask, past, behind}
 use Rattle.explore.specs.Listing.{askers, most_in_round}
 use Rattle.explore.specs.Layers.{State, kept, AsKept, IsStateOf, AreStatesOf, IsFreshOf, AreFreshOf, IsEntered, IsPastOf, IsAsked, IsCommon, weighed, weighed_both, stepped, over_round, over_rounds, or_sum, IsExpanded, IsStep, IsRoundOn, AreLayers}
 use Rattle.explore.proofs.Branching.{last_step, next_step, round_common, rounds_common}
 use Rattle.explore.proofs.Reaching.{past_state, closed_state, scenario_is, few_parts, askers_below, asks_more, asks_no_more, all_askers, or_some}
+use Rattle.explore.proofs.Stepping.{idle_asks}
 use Rattle.explore.proofs.Weighing.{as_more, entered_weighs, entered_states, entered_fresh}
 
 -- all of one scenario
@@ -81,6 +83,23 @@ spread_more s t n old mid new asked false h (none, same) =
 spread_more s t n old mid new true true h (next, is, entered) = spread_some s t next n old mid new true h is entered
 spread_more s t n old mid new false true h (next, is, entered) = spread_some s t next n old mid new false h is entered
 
+-- the rest of the generals do not act
+pub spread_rest : (s : Scenario) (t : State) (k n : ℕ) (old new : List State) (asked : Bool) → IsSpread s t n old new asked
+    → ((g : ℕ) → n ≤ g → g < n + k → will_ask (slice_get t.world.parts g) ≡ false) → IsSpread s t (n + k) old new asked
+spread_rest s t zero n old new asked h idle = (let e : n ≡ n + 0 = omega arith in subst (λ (m : ℕ). IsSpread s t m old new asked) e h)
+spread_rest s t (suc k) n old new asked h idle =
+    let e : n + 1 + k ≡ n + suc k = omega arith in
+    let one = spread_none s t n old new asked h (idle n (omega arith) (omega arith)) in
+    let rest = spread_rest s t k (n + 1) old new asked one (λ g a b. idle g (omega arith) (omega arith)) in
+    subst (λ (m : ℕ). IsSpread s t m old new asked) e rest
+
+pub spread_all : (s : Scenario) (t : State) (last n : ℕ) (old new : List State) (asked : Bool) → IsSpread s t (last + 1) old new asked → last < n
+    → ((g : ℕ) → last < g → g < n → program_length (slice_get t.world.parts g) ≡ None) → IsSpread s t n old new asked
+spread_all s t last n old new asked h less idle =
+    let e : last + 1 + (n - (last + 1)) ≡ n = omega arith in
+    subst (λ (m : ℕ). IsSpread s t m old new asked) e
+    (spread_rest s t (n - (last + 1)) (last + 1) old new asked h (λ g a b. idle_asks (slice_get t.world.parts g) (idle g (omega arith) (omega arith))))
+
 module _ (s : Scenario) (t : State) (next done new : List State) where
   -- somebody had an access left
   pub expanded_on : IsSpread s t s.generals next new true → IsExpanded s t next done new done
@@ -130,14 +149,6 @@ pub expanded_else : (s : Scenario) (t : State) (n : ℕ) (next done new : List S
 expanded_else s t n next done new asked shut done_new all so h is entered good =
     expanded_out s t next done new shut done_new (subst (λ (m : ℕ). IsSpread s t m next new false) all (subst (λ (b : Bool). IsSpread s t n next new b) so h)) is entered good
 
--- so many states of the layer have given way
-pub step_begins : (s : Scenario) (layer done next : List State) → next ≡ [] → IsStep s (take 0 layer) next done done
-step_begins s layer done next none = record {
-  states = λ k all. subst (λ (l : List State). AreStatesOf s k l) (sym none) (All-nil (IsStateOf s k));
-  fresh = λ k all fresh. fresh;
-  weight = λ k f h good all fresh common common'. (let e : weighed f next ≡ 0 = ap (weighed f) none in let g : weighed_both f h next done ≡ weighed h done + 0 = omega arith in ap kept g);
-}
-
 split_end : (P : State → Type 0) (xs : List State) (t : State) → All P (xs ++ t ∷ []) → All P xs × P t
 split_end P xs t all =
     let long = length-append xs (t ∷ []) in (
@@ -145,29 +156,73 @@ split_end P xs t all =
       subst P (get_or_push xs t t (length xs) refl) (all (length xs) t (omega arith)),
     )
 
-all_more : (P : State → Type 0) (layer : List State) (n : ℕ) (t : State) → n < length layer → t ≡ get_or layer n t → All P (take (n + 1) layer) → All P (take n layer) × P t
-all_more P layer n t lt at all =
-    let e : take (n + 1) layer ≡ take n layer ++ t ∷ [] = take_more layer n t lt ∙ ap (λ (u : State). take n layer ++ u ∷ []) (sym at) in
-    split_end P (take n layer) t (subst (λ (l : List State). All P l) e all)
-
-pub step_goes_on : (s : Scenario) (layer next mid done done_mid done_new : List State) (n : ℕ) (t : State) → n < length layer → t ≡ get_or layer n t → IsStep s (take n layer) mid done done_mid → IsExpanded s t mid done_mid next done_new →
-    IsStep s (take (n + 1) layer) next done done_new
-step_goes_on s layer next mid done done_mid done_new n t lt at h x = record {
-  states = λ k all. (let both = all_more (IsStateOf s k) layer n t lt at all in x.states k both.1 (h.states k both.0));
-  fresh = λ k all fresh. (let both = all_more (IsStateOf s k) layer n t lt at all in x.fresh k both.1 (h.fresh k both.0 fresh));
+pub step_more : (s : Scenario) (seen next mid done done_mid done_new : List State) (t : State) → IsStep s seen mid done done_mid → IsExpanded s t mid done_mid next done_new →
+    IsStep s (seen ++ t ∷ []) next done done_new
+step_more s seen next mid done done_mid done_new t h x = record {
+  states = λ k all. (let both = split_end (IsStateOf s k) seen t all in x.states k both.1 (h.states k both.0));
+  fresh = λ k all fresh. (let both = split_end (IsStateOf s k) seen t all in x.fresh k both.1 (h.fresh k both.0 fresh));
   weight = λ k f g good all fresh common common'.
-      let both = all_more (IsStateOf s k) layer n t lt at all in
+      let both = split_end (IsStateOf s k) seen t all in
       let a = h.weight k f g good both.0 fresh common common' in
       let b = x.weight k f g good both.1 (h.states k both.0) (h.fresh k both.0 fresh) common common' in
-      let c = as_more (2 ^ 64 - 1) (weighed_both f g mid done_mid) (weighed g done + weighed (stepped f g) (take n layer)) (t.ways * stepped f g t.world) a in
+      let c = as_more (2 ^ 64 - 1) (weighed_both f g mid done_mid) (weighed g done + weighed (stepped f g) seen) (t.ways * stepped f g t.world) a in
       let w : State → ℕ = λ u. u.ways * stepped f g u.world in
-      let d : weighed (stepped f g) (take (n + 1) layer) ≡ weighed (stepped f g) (take n layer) + t.ways * stepped f g t.world = sum_by_more w layer n t lt ∙ ap (λ (u : State). weighed (stepped f g) (take n layer) + w u) (sym at) in
-      let e : weighed g done + weighed (stepped f g) (take n layer) + t.ways * stepped f g t.world ≡ weighed g done + weighed (stepped f g) (take (n + 1) layer) = omega arith in
+      let d : weighed (stepped f g) (seen ++ t ∷ []) ≡ weighed (stepped f g) seen + t.ways * stepped f g t.world = sum_by_push w seen t in
+      let e : weighed g done + weighed (stepped f g) seen + t.ways * stepped f g t.world ≡ weighed g done + weighed (stepped f g) (seen ++ t ∷ []) = omega arith in
       b ∙ (c ∙ ap kept e);
 }
 
-pub step_ends : (s : Scenario) (layer next done done_new : List State) (n : ℕ) → length layer ≤ n → IsStep s (take n layer) next done done_new → IsStep s layer next done done_new
-step_ends s layer next done done_new n le h = subst (λ (l : List State). IsStep s l next done done_new) (take_all n layer le) h
+-- these of a layer have given way, and these, the last at the front, are left
+pub record IsSteppingOn (s : Scenario) (layer left next done done_new : List State) : Type 0 where
+  pub seen : List State
+  pub step : IsStep s seen next done done_new
+  pub all : seen ++ reverse left ≡ layer
+
+pub stepping_begins : (s : Scenario) (layer left next done : List State) → next ≡ [] → left ≡ reverse layer → IsSteppingOn s layer left next done done
+stepping_begins s layer left next done none is = record {
+  seen = [];
+  step = record {
+    states = λ k all. subst (λ (l : List State). AreStatesOf s k l) (sym none) (All-nil (IsStateOf s k));
+    fresh = λ k all fresh. fresh;
+    weight = λ k f h good all fresh common common'. (let e : weighed f next ≡ 0 = ap (weighed f) none in let g : weighed_both f h next done ≡ weighed h done + 0 = omega arith in ap kept g);
+  };
+  all = ap reverse is ∙ reverse-reverse layer;
+}
+
+-- one more leaves
+left_more : (layer seen left rest : List State) (t : State) → seen ++ reverse left ≡ layer → left ≡ rest ++ t ∷ [] → (seen ++ t ∷ []) ++ reverse rest ≡ layer
+left_more layer seen left rest t all popped =
+    append_assoc seen (t ∷ []) (reverse rest) ∙ (ap (λ (l : List State). seen ++ l) (sym (ap reverse popped ∙ reverse-append rest (t ∷ []))) ∙ all)
+
+pub stepping_goes_on : (s : Scenario) (layer left rest next mid done done_mid done_new : List State) (t : State) → IsSteppingOn s layer left mid done done_mid → left ≡ rest ++ t ∷ []
+    → IsExpanded s t mid done_mid next done_new → IsSteppingOn s layer rest next done done_new
+stepping_goes_on s layer left rest next mid done done_mid done_new t on popped x = record {
+  seen = on.seen ++ t ∷ [];
+  step = step_more s on.seen next mid done done_mid done_new t on.step x;
+  all = left_more layer on.seen left rest t on.all popped;
+}
+
+pub stepping_ends : (s : Scenario) (layer left next done done_new : List State) → IsSteppingOn s layer left next done done_new → left ≡ [] → IsStep s layer next done done_new
+stepping_ends s layer left next done done_new on none =
+    subst (λ (l : List State). IsStep s l next done done_new) (sym (append-nil on.seen) ∙ (ap (λ (l : List State). on.seen ++ reverse l) (sym none) ∙ on.all)) on.step
+
+-- one that is left is of the layer
+all_left : (P : State → Type 0) (xs ys : List State) (t : State) → All P (xs ++ t ∷ ys) → P t
+all_left P xs ys t all =
+    let long = length-append xs (t ∷ ys) in
+    let l : length (t ∷ ys) ≡ suc (length ys) = refl in
+    let at : get_or (xs ++ t ∷ ys) (length xs) t ≡ t = get_or_at xs ys t in
+    subst P at (all (length xs) t (omega arith))
+  where
+    get_or_at : (xs ys : List State) (t : State) → get_or (xs ++ t ∷ ys) (length xs) t ≡ t
+    get_or_at [] ys t = refl
+    get_or_at (x ∷ xs) ys t = get_or_at xs ys t
+
+pub left_is_state : (s : Scenario) (k : ℕ) (layer left rest next done done_new : List State) (t : State) → IsSteppingOn s layer left next done done_new → left ≡ rest ++ t ∷ []
+    → AreStatesOf s k layer → IsStateOf s k t
+left_is_state s k layer left rest next done done_new t on popped all =
+    let e : on.seen ++ (t ∷ reverse rest) ≡ layer = ap (λ (l : List State). on.seen ++ l) (sym (ap reverse popped ∙ reverse-append rest (t ∷ []))) ∙ on.all in
+    all_left (IsStateOf s k) on.seen (reverse rest) t (subst (λ (l : List State). AreStatesOf s k l) (sym e) all)
 
 -- so many accesses of a round are made
 pub record IsUnderWay (s : Scenario) (most made : ℕ) (first layer done : List State) : Type 0 where

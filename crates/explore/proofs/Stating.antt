@@ -34,13 +34,15 @@ past_made t next g steps w v same step is = (
   is ∙ ap (λ (x : World). record { world = x; ways = t.ways; rows = t.rows; names = t.names ++ g ∷ [] }) (step.2 ∙ ap (λ (x : World). past oral_kind x g) same),
 )
 
--- the round is over
-pub wound : (t : State) (w v : World) → w ≡ t.world → v ≡ run oral_kind w (wound_up w.scenario) → v ≡ behind oral_kind t.world []
-wound t w v same is = is ∙ ap (λ (x : World). behind oral_kind x []) same
+-- the same by its parts
+pub past_made_by : (t next : State) (g steps ways : ℕ) (rows : List (List ℕ)) (names : List ℕ) (w v : World) → ways ≡ t.ways → rows ≡ t.rows → names ≡ t.names → w ≡ t.world
+    → IsStepTo oral_kind w g v (Some steps) → next ≡ record { world = v; ways = ways; rows = rows; names = names ++ g ∷ [] } → IsPastOf t g (Some next)
+past_made_by t next g steps ways rows names w v a b c same step is =
+    past_made t next g steps w v same step (is ∙ (λ i. record { world = v; ways = a i; rows = b i; names = c i ++ g ∷ [] }))
 
-pub if_ok_world : {A E : Type 0} (r : Result A E) (f : World → A) (v u : World) → v ≡ u → IfOk r (λ x. x ≡ f v) → IfOk r (λ x. x ≡ f u)
-if_ok_world (Ok x) f v u e h = h ∙ ap f e
-if_ok_world (Err x) f v u e h = tt
+-- the round is over
+pub wound : (u w v : World) → w ≡ u → v ≡ run oral_kind w (wound_up w.scenario) → v ≡ behind oral_kind u []
+wound u w v same is = is ∙ ap (λ (x : World). behind oral_kind x []) same
 
 -- found at a place
 pub alike_at : (states : List State) (t was : State) (place : ℕ) → place < length states → was ≡ get_or states place was → (was.world.scenario ≡ t.world.scenario → AreAlike was.world t.world) → IsAlikeAt states t place

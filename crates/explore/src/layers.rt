@@ -1,18 +1,18 @@
 //! Orders layer by layer: each layer has one access more, and alike worlds of a layer are one state.
-ghost use Rattle.std.specs.Prelude.{◌≡◌, ◌<◌, ◌≤◌, ◌*◌, ◌++◌, ◌∷◌, ◌||◌, ℕ, [], suc, IfOk, OnOk};
+ghost use Rattle.std.specs.Prelude.{◌≡◌, ◌<◌, ◌≤◌, ◌*◌, ◌++◌, ◌∷◌, ◌||◌, ℕ, [], suc, IfOk, None, OnOk, slice_get};
 ghost use Rattle.explore.specs.Layers.{AreLayers, AreStatesOf, IsAsked, IsExpanded, IsPastOf, IsRoundOn, IsStep, reached};
 ghost use Rattle.explore.specs.Listing.{instructions, most_in_round};
 ghost use Rattle.explore.specs.Orders.{behind};
 ghost use Rattle.round.specs.Scenario.{program_of};
 ghost use Rattle.world.specs.Kind.{opening};
-ghost use Rattle.world.specs.Playing.{lists_in};
+ghost use Rattle.world.specs.Playing.{lists_in, program_length};
 ghost use Rattle.world.specs.World.{oral_kind};
 
 use crate::scheduling::{instructions, steps_to_access};
-use crate::state::{State, enter};
+use crate::state::{State, enter, with_access};
 use round::Scenario;
 use std::alloc::{AllocError, Global};
-use world::{Plays, World, named_round, play_names, wind_up};
+use world::{Part, Plays, World, named_round, play_names, wind_up};
 
 /// The world in which these made the accesses of the closed rounds, and these those of the open one.
 fn again(
@@ -32,7 +32,7 @@ fn again(
     Ok(world)
 }
 
-/// A state as a general has made his next access; none where he is to make none.
+/// A state as a general has made his next access, in a world that is played again; none where he is to make none.
 fn past(
     alloc: Global,
     scenario: &Scenario,
@@ -70,31 +70,40 @@ fn played_past(
     match steps_to_access(&mut world, general)? {
         Some(steps) => {
             let _ = steps;
-            let next = state.with_access(alloc, world, general)?;
+            let next = with_access(
+                alloc,
+                world,
+                state.ways,
+                state.rows.as_slice(),
+                state.names.as_slice(),
+                general,
+            )?;
             Ok(Some(next))
         }
         None => Ok(None),
     }
 }
 
-/// A state in which nobody has an access left, as the next round begins.
-fn closed(alloc: Global, scenario: &Scenario, state: &State) -> Result<State, AllocError>
-    requires { state.now.world ≡ reached (opening oral_kind scenario.now) state.now.rows state.now.names }
+/// The state behind these rounds in which nobody had an access left behind these accesses, as the next round begins.
+fn closed(
+    alloc: Global,
+    scenario: &Scenario,
+    ways: u64,
+    rows: Vec<Vec<u8>>,
+    names: Vec<u8>,
+) -> Result<State, AllocError>
     ensures { IfOk result (λ next. next ≡ record {
-      world = behind oral_kind state.now.world [];
-      ways = state.now.ways;
-      rows = state.now.rows ++ state.now.names ∷ [];
+      world = behind oral_kind (reached (opening oral_kind scenario.now) (lists_in rows.items) names.items) [];
+      ways = ways;
+      rows = lists_in rows.items ++ names.items ∷ [];
       names = [];
     }) }
 {
-    let mut world = again(
-        alloc,
-        scenario,
-        state.rows.as_slice(),
-        state.names.as_slice(),
-    )?;
+    let mut world = again(alloc, scenario, rows.as_slice(), names.as_slice())?;
     wind_up(&mut world)?;
-    state.with_round(alloc, world)
+    let mut rows = rows;
+    rows.push(names)?;
+    Ok(State::new(world, ways, rows, Vec::new(alloc)))
 }
 
 /// Enters a state as a general has made his next access, where he is to make one.
@@ -117,6 +126,45 @@ fn ask(
     }
 }
 
+/// [`ask`] of a state whose own world goes on, so that nothing is played again.
+fn ask_last(
+    alloc: Global,
+    world: World,
+    ways: u64,
+    rows: &[Vec<u8>],
+    names: &[u8],
+    general: u8,
+    next: &mut Vec<State>,
+) -> Result<bool, AllocError>
+    ensures { IfOk result (λ asked. IsAsked (record { world = world; ways = ways; rows = lists_in rows.now; names = names.now }) general next.old.items asked next.new.items) }
+{
+    let mut world = world;
+    match steps_to_access(&mut world, general)? {
+        Some(steps) => {
+            let _ = steps;
+            let more = with_access(alloc, world, ways, rows, names, general)?;
+            enter(next, more)?;
+            Ok(true)
+        }
+        None => Ok(false),
+    }
+}
+
+/// The last general who acts in the open round, the first of all where nobody does.
+fn last_acting(standing: &[Part], generals: u8) -> u8
+    requires { 0 < generals }
+    ensures inside { result < generals }
+    ensures last { (g : ℕ) → result < g → g < generals → program_length (slice_get standing.now g) ≡ None }
+{
+    let mut last = 0;
+    for general in 0..generals {
+        if instructions(standing, general).is_some() {
+            last = general;
+        }
+    }
+    last
+}
+
 /// Whether one of both is so.
 fn either(one: bool, other: bool) -> bool
     ensures { result ≡ (one || other) }
@@ -125,27 +173,44 @@ fn either(one: bool, other: bool) -> bool
 }
 
 /// Enters what can come next of a state: it as each of those who have accesses left has made one; where nobody has,
-/// it as the next round begins.
+/// it as the next round begins. The campaign is played again for each of them but the last, who goes on in the state's world.
 fn expand(
     alloc: Global,
     scenario: &Scenario,
-    state: &State,
+    state: State,
     next: &mut Vec<State>,
     done: &mut Vec<State>,
 ) -> Result<(), AllocError>
-    requires { state.now.world ≡ reached (opening oral_kind scenario.now) state.now.rows state.now.names }
-    ensures { OnOk result (IsExpanded scenario.now state.now next.old.items done.old.items next.new.items done.new.items) }
+    requires { state.world ≡ reached (opening oral_kind scenario.now) state.rows state.names }
+    ensures { OnOk result (IsExpanded scenario.now state next.old.items done.old.items next.new.items done.new.items) }
 {
     scenario.recall();
+    let last = last_acting(state.world.open_parts(), scenario.generals());
     let mut asked = false;
-    for general in 0..scenario.generals() {
-        let one = ask(alloc, scenario, state, general, next)?;
+    for general in 0..last {
+        let one = ask(alloc, scenario, &state, general, next)?;
         asked = either(asked, one);
     }
-    if asked {
+    let State {
+        world,
+        ways,
+        rows,
+        names,
+        ..
+    } = state;
+    let own = ask_last(
+        alloc,
+        world,
+        ways,
+        rows.as_slice(),
+        names.as_slice(),
+        last,
+        next,
+    )?;
+    if either(asked, own) {
         return Ok(());
     }
-    let shut = closed(alloc, scenario, state)?;
+    let shut = closed(alloc, scenario, ways, rows, names)?;
     enter(done, shut)?;
     Ok(())
 }
@@ -154,15 +219,16 @@ fn expand(
 fn step(
     alloc: Global,
     scenario: &Scenario,
-    layer: &[State],
+    layer: Vec<State>,
     done: &mut Vec<State>,
 ) -> Result<Vec<State>, AllocError>
-    requires { (k : ℕ) × AreStatesOf scenario.now k layer.now }
-    ensures { IfOk result (λ next. IsStep scenario.now layer.now next.items done.old.items done.new.items) }
+    requires { (k : ℕ) × AreStatesOf scenario.now k layer.items }
+    ensures { IfOk result (λ next. IsStep scenario.now layer.items next.items done.old.items done.new.items) }
 {
     let mut next = Vec::new(alloc);
-    for (place, state) in layer.iter().enumerate() {
-        let _ = place;
+    let mut left = layer;
+    left.as_mut_slice().reverse();
+    while let Some(state) = left.pop() {
         expand(alloc, scenario, state, &mut next, done)?;
     }
     Ok(next)
@@ -183,10 +249,10 @@ fn whole_round(
     let mut done = Vec::new(alloc);
     for made in 0..most {
         let _ = made;
-        let next = step(alloc, scenario, layer.as_slice(), &mut done)?;
+        let next = step(alloc, scenario, layer, &mut done)?;
         layer = next;
     }
-    step(alloc, scenario, layer.as_slice(), &mut done)?;
+    step(alloc, scenario, layer, &mut done)?;
     Ok(done)
 }
 

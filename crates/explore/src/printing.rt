@@ -1,8 +1,9 @@
 //! What is printed of an exploration.
-ghost use Rattle.std.specs.Prelude.{◌≡◌, ◌≢◌, ◌≤◌, ◌<◌, ◌+◌, ◌^◌, ◌++◌, All, IfOk, OnOk, codes, decimal, flat_map, string_bytes};
+ghost use Rattle.std.specs.Prelude.{◌≡◌, ◌≢◌, ◌≤◌, ◌<◌, ◌+◌, ◌^◌, ◌++◌, All, IfOk, OnOk, codes, decimal, flat_map, map, string_bytes};
 ghost use Rattle.explore.specs.declared.exploration.Reach.TheVariants.{Whole, Beyond, InPart};
 ghost use Rattle.explore.specs.Exploring.{Exploration as Explored, IsExploration, counted_in};
 ghost use Rattle.explore.specs.Outcomes.{oral_outcome};
+ghost use Rattle.explore.specs.Keeping.{IsKept, example_text};
 ghost use Rattle.explore.specs.Text.{entry_text, exploration_text, finding_text, further, head_text, line_text, outcome_text, round_text, rounds_text, schedule_text, yes_no, yes_no_none};
 ghost use Rattle.explore.specs.Walks.{AreWalks};
 ghost use Rattle.world.specs.Chronicle.{verdict_of};
@@ -247,6 +248,58 @@ fn exploration_text(
     put_head(&mut out, exploration.reach(), exploration.findings())?;
     put_findings(alloc, &mut out, scenario, exploration.findings())?;
     Ok(out)
+}
+
+/// The text of the schedule of a finding's example.
+fn example_text(
+    alloc: Global,
+    scenario: &Scenario,
+    finding: &Finding,
+) -> Result<String, AllocError>
+    requires { AreWalks oral_kind (opening oral_kind scenario.now) finding.now.example }
+    ensures { IfOk result (λ text. string_bytes text ≡ example_text oral_kind scenario.now finding.now) }
+{
+    match schedule_names(alloc, scenario.copy(alloc)?, finding.example())? {
+        Scheduled::By(schedule) => schedule_text(alloc, &schedule),
+        Scheduled::Never(_, _) => unreachable!(),
+    }
+}
+
+/// The texts of the schedules of the findings' examples.
+fn example_texts(
+    alloc: Global,
+    scenario: &Scenario,
+    findings: &[Finding],
+) -> Result<Vec<String>, AllocError>
+    requires { All (λ f. AreWalks oral_kind (opening oral_kind scenario.now) f.example) findings.now }
+    ensures { IfOk result (λ texts. map string_bytes texts.items ≡ map (example_text oral_kind scenario.now) findings.now) }
+{
+    let mut texts = Vec::new(alloc);
+    for finding in findings {
+        let text = example_text(alloc, scenario, finding)?;
+        texts.push(text)?;
+    }
+    Ok(texts)
+}
+
+/// What is printed of all orders, as by [`explored`], and for each outcome, in the same order, the text of a schedule by which
+/// the campaign comes to it.
+///
+/// # Errors
+///
+/// `AllocError` where memory is refused.
+pub fn explored_with_schedules(
+    alloc: Global,
+    scenario: &Scenario,
+    most: u64,
+) -> Result<(String, Vec<String>), AllocError>
+    ensures { IfOk result (λ kept. IsKept scenario.now most (string_bytes kept.0) (map string_bytes kept.1.items)) }
+{
+    scenario.recall();
+    let exploration = explore(alloc, scenario, most)?;
+    let text = exploration_text(alloc, scenario, &exploration)?;
+    let schedules = example_texts(alloc, scenario, exploration.findings())?;
+    Ok((text, schedules))
 }
 
 /// What is printed of all orders of an oral campaign, or of the `most` least ones where there are more: `u64::MAX` is no limit.

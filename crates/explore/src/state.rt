@@ -63,45 +63,33 @@ impl State {
         Ok(State::new(world, 1, Vec::new(alloc), Vec::new(alloc)))
     }
 
-    /// With this world, to which the general has made one access more.
-    ///
-    /// # Errors
-    ///
-    /// `AllocError` where memory is refused.
-    pub(crate) fn with_access(
-        &self,
-        alloc: Global,
-        world: World,
-        general: u8,
-    ) -> Result<State, AllocError>
-        ensures { IfOk result (λ state. state ≡ record { world = world; ways = self.now.ways; rows = self.now.rows; names = self.now.names ++ general ∷ [] }) }
-    {
-        let rows = copied(alloc, self.rows.as_slice())?;
-        let mut names = Vec::from_slice(alloc, self.names.as_slice())?;
-        names.push(general)?;
-        Ok(State::new(world, self.ways, rows, names))
-    }
-
-    /// With this world, in which the open round is closed.
-    ///
-    /// # Errors
-    ///
-    /// `AllocError` where memory is refused.
-    pub(crate) fn with_round(&self, alloc: Global, world: World) -> Result<State, AllocError>
-        ensures { IfOk result (λ state. state ≡ record { world = world; ways = self.now.ways; rows = self.now.rows ++ self.now.names ∷ []; names = [] }) }
-    {
-        let mut rows = copied(alloc, self.rows.as_slice())?;
-        let names = Vec::from_slice(alloc, self.names.as_slice())?;
-        rows.push(names)?;
-        Ok(State::new(world, self.ways, rows, Vec::new(alloc)))
-    }
-
     /// It comes about in so many ways more.
     fn add(&mut self, ways: u64)
         ensures { self.new ≡ record self.old { ways = kept (self.old.ways + ways) } }
     {
         self.ways = self.ways.saturating_add(ways);
     }
+}
+
+/// The state of this world, to which the general has made an access behind these rounds and accesses.
+///
+/// # Errors
+///
+/// `AllocError` where memory is refused.
+pub(crate) fn with_access(
+    alloc: Global,
+    world: World,
+    ways: u64,
+    rows: &[Vec<u8>],
+    names: &[u8],
+    general: u8,
+) -> Result<State, AllocError>
+    ensures { IfOk result (λ state. state ≡ record { world = world; ways = ways; rows = lists_in rows.now; names = names.now ++ general ∷ [] }) }
+{
+    let rows = copied(alloc, rows)?;
+    let mut names = Vec::from_slice(alloc, names)?;
+    names.push(general)?;
+    Ok(State::new(world, ways, rows, names))
 }
 
 /// A number mixed into a mark.

@@ -6,6 +6,7 @@ use Rattle.std.specs.Prelude.{Bool, true, false, Option, None, Some, Ok, String,
 use Rattle.insn.specs.declared.insn.Insn.{Insn}
 use Rattle.command_line.specs.Told.{file_of, second_of}
 use Rattle.command_line.specs.declared.tasks.Account.{Account}
+use Rattle.command_line.specs.declared.tasks.Accesses.TheVariants.{OfChronicle, Listed}
 use Rattle.command_line.specs.declared.tasks.Course.TheVariants.{Scheduled, Recorded}
 use Rattle.command_line.specs.declared.tasks.Lieutenants.{Lieutenants}
 use Rattle.command_line.specs.declared.tasks.Task.{Task}
@@ -68,13 +69,14 @@ answered_played (Play scenario listing account explained) files first text s tol
     (first, are, (listed.0, listed.1, (s, comes.0, (schedule, listed.2, subst (λ (e : Option Lieutenants). IsPlayed s schedule account e text) comes.2 same))))
 answered_played (Muster scenario explained) files first text s told why are comes by = absurd comes
 answered_played (Audit scenario chronicle explained) files first text s told why are comes by = absurd comes
-answered_played (Explore scenario most) files first text s told why are comes by = absurd comes
+answered_played (Explore scenario most folder) files first text s told why are comes by = absurd comes
 answered_played (Tree file general marked drawing depth folded) files first text s told why are comes by = absurd comes
 answered_played (Draw scenario (Scheduled listing)) files first text s told why are comes by = absurd comes
 answered_played (Draw scenario (Recorded listing)) files first text s told why are comes by = absurd comes
 answered_played (Page scenario (Scheduled listing) target) files first text s told why are comes by = absurd comes
 answered_played (Page scenario (Recorded listing) target) files first text s told why are comes by = absurd comes
-answered_played (Retrace scenario chronicle) files first text s told why are comes by = absurd comes
+answered_played (Retrace scenario (OfChronicle own)) files first text s told why are comes by = absurd comes
+answered_played (Retrace scenario (Listed own)) files first text s told why are comes by = absurd comes
 
 -- an answer of threads
 pub answered_mustered : (task : Task) (files : Files) (first text : List ℕ) (s : Scenario) (why : Option Lieutenants) → AreBytes files.first first
@@ -92,13 +94,14 @@ answered_mustered (Play scenario listing account explained) files first text s w
 answered_mustered (Muster scenario explained) files first text s why are comes mustered =
     let some = some_second files.second in (first, are, (some.0, some.1, (s, comes.0, subst (λ (e : Option Lieutenants). IsMustered s e text) comes.1 mustered)))
 answered_mustered (Audit scenario chronicle explained) files first text s why are comes mustered = absurd comes
-answered_mustered (Explore scenario most) files first text s why are comes mustered = absurd comes
+answered_mustered (Explore scenario most folder) files first text s why are comes mustered = absurd comes
 answered_mustered (Tree file general marked drawing depth folded) files first text s why are comes mustered = absurd comes
 answered_mustered (Draw scenario (Scheduled listing)) files first text s why are comes mustered = absurd comes
 answered_mustered (Draw scenario (Recorded listing)) files first text s why are comes mustered = absurd comes
 answered_mustered (Page scenario (Scheduled listing) target) files first text s why are comes mustered = absurd comes
 answered_mustered (Page scenario (Recorded listing) target) files first text s why are comes mustered = absurd comes
-answered_mustered (Retrace scenario chronicle) files first text s why are comes mustered = absurd comes
+answered_mustered (Retrace scenario (OfChronicle own)) files first text s why are comes mustered = absurd comes
+answered_mustered (Retrace scenario (Listed own)) files first text s why are comes mustered = absurd comes
 
 -- an answer on the second file
 pub answered_audited : (task : Task) (files : Files) (first text : List ℕ) (s : Campaign) (why : Option Lieutenants) → AreBytes files.first first
@@ -118,13 +121,14 @@ answered_audited (Audit scenario chronicle explained) files first text s why are
     let second = second_bytes files.second bytes known in
     let same = subst (λ (own : List ℕ). IsAudited s why own text) second.2 audited in
     (first, are, (second.0, second.1, (s, comes.0, subst (λ (e : Option Lieutenants). IsAudited s e (unwrap_or second.0 []) text) comes.1 same)))
-answered_audited (Explore scenario most) files first text s why are comes audit = absurd comes
+answered_audited (Explore scenario most folder) files first text s why are comes audit = absurd comes
 answered_audited (Tree file general marked drawing depth folded) files first text s why are comes audit = absurd comes
 answered_audited (Draw scenario (Scheduled listing)) files first text s why are comes audit = absurd comes
 answered_audited (Draw scenario (Recorded listing)) files first text s why are comes audit = absurd comes
 answered_audited (Page scenario (Scheduled listing) target) files first text s why are comes audit = absurd comes
 answered_audited (Page scenario (Recorded listing) target) files first text s why are comes audit = absurd comes
-answered_audited (Retrace scenario chronicle) files first text s why are comes audit = absurd comes
+answered_audited (Retrace scenario (OfChronicle own)) files first text s why are comes audit = absurd comes
+answered_audited (Retrace scenario (Listed own)) files first text s why are comes audit = absurd comes
 
 -- an answer in the second file's setting
 pub answered_tried : (task : Task) (files : Files) (first text : List ℕ) (program : List Insn) (steps : Bool) → AreBytes files.first first
@@ -148,13 +152,14 @@ answered_tried (Form n m c filling) files first text program steps are comes tri
 answered_tried (Play scenario listing account explained) files first text program steps are comes tried = absurd comes
 answered_tried (Muster scenario explained) files first text program steps are comes tried = absurd comes
 answered_tried (Audit scenario chronicle explained) files first text program steps are comes tried = absurd comes
-answered_tried (Explore scenario most) files first text program steps are comes tried = absurd comes
+answered_tried (Explore scenario most folder) files first text program steps are comes tried = absurd comes
 answered_tried (Tree file general marked drawing depth folded) files first text program steps are comes tried = absurd comes
 answered_tried (Draw scenario (Scheduled listing)) files first text program steps are comes tried = absurd comes
 answered_tried (Draw scenario (Recorded listing)) files first text program steps are comes tried = absurd comes
 answered_tried (Page scenario (Scheduled listing) target) files first text program steps are comes tried = absurd comes
 answered_tried (Page scenario (Recorded listing) target) files first text program steps are comes tried = absurd comes
-answered_tried (Retrace scenario chronicle) files first text program steps are comes tried = absurd comes
+answered_tried (Retrace scenario (OfChronicle own)) files first text program steps are comes tried = absurd comes
+answered_tried (Retrace scenario (Listed own)) files first text program steps are comes tried = absurd comes
 
 -- a picture by the second file's schedule
 pub answered_drawn : (task : Task) (files : Files) (first text : List ℕ) (s : Campaign) → AreBytes files.first first
@@ -171,14 +176,15 @@ answered_drawn (Form n m c filling) files first text s are comes by = absurd com
 answered_drawn (Play scenario listing account explained) files first text s are comes by = absurd comes
 answered_drawn (Muster scenario explained) files first text s are comes by = absurd comes
 answered_drawn (Audit scenario chronicle explained) files first text s are comes by = absurd comes
-answered_drawn (Explore scenario most) files first text s are comes by = absurd comes
+answered_drawn (Explore scenario most folder) files first text s are comes by = absurd comes
 answered_drawn (Tree file general marked drawing depth folded) files first text s are comes by = absurd comes
 answered_drawn (Draw scenario (Scheduled listing)) files first text s are comes (schedule, listed, drawn) =
     (first, are, (listed.0, listed.1, (s, comes, (schedule, listed.2, drawn))))
 answered_drawn (Draw scenario (Recorded listing)) files first text s are comes by = absurd comes
 answered_drawn (Page scenario (Scheduled listing) target) files first text s are comes by = absurd comes
 answered_drawn (Page scenario (Recorded listing) target) files first text s are comes by = absurd comes
-answered_drawn (Retrace scenario chronicle) files first text s are comes by = absurd comes
+answered_drawn (Retrace scenario (OfChronicle own)) files first text s are comes by = absurd comes
+answered_drawn (Retrace scenario (Listed own)) files first text s are comes by = absurd comes
 
 -- a picture of the second file's chronicle
 pub answered_recorded : (task : Task) (files : Files) (first text : List ℕ) (s : Campaign) → AreBytes files.first first
@@ -195,7 +201,7 @@ answered_recorded (Form n m c filling) files first text s are comes by = absurd 
 answered_recorded (Play scenario listing account explained) files first text s are comes by = absurd comes
 answered_recorded (Muster scenario explained) files first text s are comes by = absurd comes
 answered_recorded (Audit scenario chronicle explained) files first text s are comes by = absurd comes
-answered_recorded (Explore scenario most) files first text s are comes by = absurd comes
+answered_recorded (Explore scenario most folder) files first text s are comes by = absurd comes
 answered_recorded (Tree file general marked drawing depth folded) files first text s are comes by = absurd comes
 answered_recorded (Draw scenario (Scheduled listing)) files first text s are comes by = absurd comes
 answered_recorded (Draw scenario (Recorded listing)) files first text s are comes (bytes, known, drawn) =
@@ -203,7 +209,8 @@ answered_recorded (Draw scenario (Recorded listing)) files first text s are come
     (first, are, (second.0, second.1, (s, comes, subst (λ (own : List ℕ). IsRecordDrawn s own text) second.2 drawn)))
 answered_recorded (Page scenario (Scheduled listing) target) files first text s are comes by = absurd comes
 answered_recorded (Page scenario (Recorded listing) target) files first text s are comes by = absurd comes
-answered_recorded (Retrace scenario chronicle) files first text s are comes by = absurd comes
+answered_recorded (Retrace scenario (OfChronicle own)) files first text s are comes by = absurd comes
+answered_recorded (Retrace scenario (Listed own)) files first text s are comes by = absurd comes
 
 -- a page by the second file's schedule
 pub answered_paged : (task : Task) (files : Files) (first page : List ℕ) (s : Campaign) (text : String Global) → AreBytes files.first first
@@ -220,14 +227,15 @@ answered_paged (Form n m c filling) files first page s text are comes by = absur
 answered_paged (Play scenario listing account explained) files first page s text are comes by = absurd comes
 answered_paged (Muster scenario explained) files first page s text are comes by = absurd comes
 answered_paged (Audit scenario chronicle explained) files first page s text are comes by = absurd comes
-answered_paged (Explore scenario most) files first page s text are comes by = absurd comes
+answered_paged (Explore scenario most folder) files first page s text are comes by = absurd comes
 answered_paged (Tree file general marked drawing depth folded) files first page s text are comes by = absurd comes
 answered_paged (Draw scenario (Scheduled listing)) files first page s text are comes by = absurd comes
 answered_paged (Draw scenario (Recorded listing)) files first page s text are comes by = absurd comes
 answered_paged (Page scenario (Scheduled listing) target) files first page s text are comes (schedule, listed, paged) =
     (first, are, (listed.0, listed.1, (s, comes.0, (schedule, listed.2, subst (λ (own : List ℕ). IsCampaignPaged s own schedule page) comes.1 paged))))
 answered_paged (Page scenario (Recorded listing) target) files first page s text are comes by = absurd comes
-answered_paged (Retrace scenario chronicle) files first page s text are comes by = absurd comes
+answered_paged (Retrace scenario (OfChronicle own)) files first page s text are comes by = absurd comes
+answered_paged (Retrace scenario (Listed own)) files first page s text are comes by = absurd comes
 
 -- a page of the second file's chronicle
 pub answered_page_recorded : (task : Task) (files : Files) (first page : List ℕ) (s : Campaign) (text : String Global) → AreBytes files.first first
@@ -244,7 +252,7 @@ answered_page_recorded (Form n m c filling) files first page s text are comes by
 answered_page_recorded (Play scenario listing account explained) files first page s text are comes by = absurd comes
 answered_page_recorded (Muster scenario explained) files first page s text are comes by = absurd comes
 answered_page_recorded (Audit scenario chronicle explained) files first page s text are comes by = absurd comes
-answered_page_recorded (Explore scenario most) files first page s text are comes by = absurd comes
+answered_page_recorded (Explore scenario most folder) files first page s text are comes by = absurd comes
 answered_page_recorded (Tree file general marked drawing depth folded) files first page s text are comes by = absurd comes
 answered_page_recorded (Draw scenario (Scheduled listing)) files first page s text are comes by = absurd comes
 answered_page_recorded (Draw scenario (Recorded listing)) files first page s text are comes by = absurd comes
@@ -253,7 +261,8 @@ answered_page_recorded (Page scenario (Recorded listing) target) files first pag
     let second = second_bytes files.second bytes known in
     let own : IsRecordTold s first bytes page = subst (λ (words : List ℕ). IsRecordTold s words bytes page) comes.1 paged in
     (first, are, (second.0, second.1, (s, comes.0, subst (λ (all : List ℕ). IsRecordTold s first all page) second.2 own)))
-answered_page_recorded (Retrace scenario chronicle) files first page s text are comes by = absurd comes
+answered_page_recorded (Retrace scenario (OfChronicle own)) files first page s text are comes by = absurd comes
+answered_page_recorded (Retrace scenario (Listed own)) files first page s text are comes by = absurd comes
 
 -- the schedule of the second file's chronicle
 pub answered_retraced : (task : Task) (files : Files) (first text : List ℕ) (s : Scenario) → AreBytes files.first first
@@ -270,13 +279,14 @@ answered_retraced (Form n m c filling) files first text s are comes by = absurd 
 answered_retraced (Play scenario listing account explained) files first text s are comes by = absurd comes
 answered_retraced (Muster scenario explained) files first text s are comes by = absurd comes
 answered_retraced (Audit scenario chronicle explained) files first text s are comes by = absurd comes
-answered_retraced (Explore scenario most) files first text s are comes by = absurd comes
+answered_retraced (Explore scenario most folder) files first text s are comes by = absurd comes
 answered_retraced (Tree file general marked drawing depth folded) files first text s are comes by = absurd comes
 answered_retraced (Draw scenario (Scheduled listing)) files first text s are comes by = absurd comes
 answered_retraced (Draw scenario (Recorded listing)) files first text s are comes by = absurd comes
 answered_retraced (Page scenario (Scheduled listing) target) files first text s are comes by = absurd comes
 answered_retraced (Page scenario (Recorded listing) target) files first text s are comes by = absurd comes
-answered_retraced (Retrace scenario chronicle) files first text s are comes (bytes, known, retraced) =
+answered_retraced (Retrace scenario (Listed own)) files first text s are comes by = absurd comes
+answered_retraced (Retrace scenario (OfChronicle own)) files first text s are comes (bytes, known, retraced) =
     let second = second_bytes files.second bytes known in
     (first, are, (second.0, second.1, (s, comes, subst (λ (own : List ℕ). IsScheduleFor s own text) second.2 retraced)))
 

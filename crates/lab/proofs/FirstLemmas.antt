@@ -6,6 +6,7 @@ use Rattle.std.specs.Prelude.{Option, None, Some, IfSome, String, string_bytes}
 use Rattle.command_line.specs.declared.tasks.Notation.{Notation}
 use Rattle.command_line.specs.declared.tasks.Notation.TheVariants.{Bytecode, Assembly as Texts, Object as Objects}
 use Rattle.command_line.specs.declared.tasks.Task.{Task}
+use Rattle.command_line.specs.declared.tasks.Accesses.TheVariants as accesses
 use Rattle.command_line.specs.declared.tasks.Task.TheVariants as task
 use Rattle.command_line.specs.declared.tasks.Account.TheVariants.{Chronicle}
 use Rattle.lab.specs.Campaigns.{is_chronicle}
@@ -23,7 +24,7 @@ use Rattle.lab.specs.declared.failure.Failure.TheVariants.{Read, Text, Refused, 
 use Rattle.lab.specs.declared.hint.Hint.{Hint}
 use Rattle.lab.specs.declared.hint.Hint.TheVariants.{Explained}
 use Rattle.lab.specs.declared.refusal.Refusal.{Refusal}
-use Rattle.lab.specs.declared.refusal.Refusal.TheVariants.{Codec, Object, Verifier, Assembly, Table, Scenario, Setting, Trace, Threads, Stranger, NotText, Memory}
+use Rattle.lab.specs.declared.refusal.Refusal.TheVariants.{Codec, Object, Verifier, Assembly, Table, Scenario, Setting, Trace, Threads, Accesses, Stranger, NotText, Memory}
 use Rattle.verify.specs.declared.error.VerifyError.{VerifyError}
 use Rattle.lab.proofs.WhyLemmas.{nothing_said}
 
@@ -51,6 +52,7 @@ stopped_first task known bytes own (Scenario error) file are named refuses is = 
 stopped_first task known bytes own (Setting error) file are named refuses is = ((λ e. cc), refused_first task known bytes (Setting error) _ are refuses (λ e. cc) is)
 stopped_first task known bytes own (Trace error) file are named refuses is = ((λ e. cc), refused_first task known bytes (Trace error) _ are refuses (λ e. cc) is)
 stopped_first task known bytes own (Threads error) file are named refuses is = ((λ e. cc), refused_first task known bytes (Threads error) _ are refuses (λ e. cc) is)
+stopped_first task known bytes own (Accesses fault) file are named refuses is = ((λ e. cc), refused_first task known bytes (Accesses fault) _ are refuses (λ e. cc) is)
 stopped_first task known bytes own (Stranger general generals) file are named refuses is = ((λ e. cc), refused_first task known bytes (Stranger general generals) _ are refuses (λ e. cc) is)
 stopped_first task known bytes own NotText file are named refuses is = (refused_first task known bytes NotText _ are refuses (λ e. cc) is, named)
 stopped_first task known bytes own Memory file are named refuses is = tt
@@ -71,7 +73,7 @@ asks (task.Form n m c filling) notation is = absurd cc
 asks (task.Play scenario schedule account explained) notation is = absurd cc
 asks (task.Muster scenario explained) notation is = absurd cc
 asks (task.Audit scenario chronicle explained) notation is = absurd cc
-asks (task.Explore scenario most) notation is = absurd cc
+asks (task.Explore scenario most folder) notation is = absurd cc
 asks (task.Tree file general marked drawing depth folded) notation is = absurd cc
 asks (task.Draw scenario course) notation is = absurd cc
 asks (task.Page scenario course target) notation is = absurd cc
@@ -93,6 +95,7 @@ explained_first task notation known bytes (Scenario error) text are refuses is w
 explained_first task notation known bytes (Setting error) text are refuses is why = absurd cc
 explained_first task notation known bytes (Trace error) text are refuses is why = absurd cc
 explained_first task notation known bytes (Threads error) text are refuses is why = absurd cc
+explained_first task notation known bytes (Accesses fault) text are refuses is why = absurd cc
 explained_first task notation known bytes (Stranger general generals) text are refuses is why = absurd cc
 explained_first task notation known bytes NotText text are refuses is why = absurd cc
 explained_first task notation known bytes Memory text are refuses is why = absurd cc
@@ -120,6 +123,7 @@ hint_told task bytes (Scenario error) hint is not told = subst (λ (own : Bool).
 hint_told task bytes (Setting error) hint is not told = subst (λ (own : Bool). IsHintBy own (Setting error) task bytes (bytecode_in task bytes) hint) (sym is) told
 hint_told task bytes (Trace error) hint is not told = subst (λ (own : Bool). IsHintBy own (Trace error) task bytes (bytecode_in task bytes) hint) (sym is) told
 hint_told task bytes (Threads error) hint is not told = subst (λ (own : Bool). IsHintBy own (Threads error) task bytes (bytecode_in task bytes) hint) (sym is) told
+hint_told task bytes (Accesses fault) hint is not told = subst (λ (own : Bool). IsHintBy own (Accesses fault) task bytes (bytecode_in task bytes) hint) (sym is) told
 hint_told task bytes (Stranger general generals) hint is not told = subst (λ (own : Bool). IsHintBy own (Stranger general generals) task bytes (bytecode_in task bytes) hint) (sym is) told
 hint_told task bytes NotText hint is not told = subst (λ (own : Bool). IsHintBy own NotText task bytes (bytecode_in task bytes) hint) (sym is) told
 hint_told task bytes Memory hint is not told = subst (λ (own : Bool). IsHintBy own Memory task bytes (bytecode_in task bytes) hint) (sym is) told
@@ -197,11 +201,12 @@ not_judged (task.Form n m c (Some filling)) bytes (Verifier fault) refuses is no
 not_judged (task.Play scenario schedule account explained) bytes (Verifier fault) refuses is none = absurd (no_campaign (is_chronicle account) bytes fault refuses)
 not_judged (task.Muster scenario explained) bytes (Verifier fault) refuses is none = absurd refuses
 not_judged (task.Audit scenario chronicle explained) bytes (Verifier fault) refuses is none = absurd (no_campaign true bytes fault refuses)
-not_judged (task.Explore scenario most) bytes (Verifier fault) refuses is none = absurd refuses
+not_judged (task.Explore scenario most folder) bytes (Verifier fault) refuses is none = absurd refuses
 not_judged (task.Tree file general marked drawing depth folded) bytes (Verifier fault) refuses is none = absurd (no_tree (is_toml bytes) (general ∷ marked.items) bytes fault refuses)
 not_judged (task.Draw scenario course) bytes (Verifier fault) refuses is none = absurd (no_campaign true bytes fault refuses)
 not_judged (task.Page scenario course target) bytes (Verifier fault) refuses is none = absurd (no_campaign true bytes fault refuses)
-not_judged (task.Retrace scenario chronicle) bytes (Verifier fault) refuses is none = absurd refuses
+not_judged (task.Retrace scenario (accesses.OfChronicle own)) bytes (Verifier fault) refuses is none = absurd refuses
+not_judged (task.Retrace scenario (accesses.Listed own)) bytes (Verifier fault) refuses is none = absurd refuses
 not_judged task bytes (Codec error) refuses is none = tt
 not_judged task bytes (Object fault) refuses is none = tt
 not_judged task bytes (Assembly error) refuses is none = tt
@@ -210,6 +215,7 @@ not_judged task bytes (Scenario error) refuses is none = tt
 not_judged task bytes (Setting error) refuses is none = tt
 not_judged task bytes (Trace error) refuses is none = tt
 not_judged task bytes (Threads error) refuses is none = tt
+not_judged task bytes (Accesses fault) refuses is none = tt
 not_judged task bytes (Stranger general generals) refuses is none = tt
 not_judged task bytes NotText refuses is none = tt
 not_judged task bytes Memory refuses is none = tt
@@ -233,6 +239,7 @@ asked_in task notation (Scenario error) is = absurd cc
 asked_in task notation (Setting error) is = absurd cc
 asked_in task notation (Trace error) is = absurd cc
 asked_in task notation (Threads error) is = absurd cc
+asked_in task notation (Accesses fault) is = absurd cc
 asked_in task notation (Stranger general generals) is = absurd cc
 asked_in task notation NotText is = absurd cc
 asked_in task notation Memory is = absurd cc
@@ -249,6 +256,7 @@ unspelt code (Scenario error) refuses = absurd refuses
 unspelt code (Setting error) refuses = absurd refuses
 unspelt code (Trace error) refuses = absurd refuses
 unspelt code (Threads error) refuses = absurd refuses
+unspelt code (Accesses fault) refuses = absurd refuses
 unspelt code (Stranger general generals) refuses = absurd refuses
 unspelt code NotText refuses = absurd refuses
 
@@ -266,6 +274,7 @@ by_notation Texts bytes (Scenario error) refuses = absurd refuses
 by_notation Texts bytes (Setting error) refuses = absurd refuses
 by_notation Texts bytes (Trace error) refuses = absurd refuses
 by_notation Texts bytes (Threads error) refuses = absurd refuses
+by_notation Texts bytes (Accesses fault) refuses = absurd refuses
 by_notation Texts bytes (Stranger general generals) refuses = absurd refuses
 by_notation (Objects entry) bytes refusal (inl (fault, is, none)) = (inl (fault, is, none), subst (λ (r : Refusal). IsNotJudged r) (sym is) tt)
 by_notation (Objects entry) bytes refusal (inr (code, is, refuses)) = let both = unspelt code refusal refuses in (inr (code, is, both.0), both.1)
@@ -284,7 +293,7 @@ checks_in (task.Form n m c filling) notation bytes refusal is refuses = absurd c
 checks_in (task.Play scenario schedule account explained) notation bytes refusal is refuses = absurd cc
 checks_in (task.Muster scenario explained) notation bytes refusal is refuses = absurd cc
 checks_in (task.Audit scenario chronicle explained) notation bytes refusal is refuses = absurd cc
-checks_in (task.Explore scenario most) notation bytes refusal is refuses = absurd cc
+checks_in (task.Explore scenario most folder) notation bytes refusal is refuses = absurd cc
 checks_in (task.Tree file general marked drawing depth folded) notation bytes refusal is refuses = absurd cc
 checks_in (task.Draw scenario course) notation bytes refusal is refuses = absurd cc
 checks_in (task.Page scenario course target) notation bytes refusal is refuses = absurd cc

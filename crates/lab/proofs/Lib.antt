@@ -13,3 +13,4 @@ pub mod PicturingLemmas
 pub mod FirstLemmas
 pub mod StrangerLemmas
 pub mod PlaceLemmas
+pub mod ListedLemmas

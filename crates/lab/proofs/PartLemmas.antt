@@ -3,7 +3,7 @@ use Rattle.std.proofs.Common.{ℕ, ◌≡◌, List, Ok}
 use Rattle.partial.specs.Reading.{bytes_said}
 use Rattle.lab.specs.Refusals.{RefusesSaid, RefusesUnits}
 use Rattle.lab.specs.declared.refusal.Refusal.{Refusal}
-use Rattle.lab.specs.declared.refusal.Refusal.TheVariants.{Codec, Object, Verifier, Assembly, Table, Scenario, Setting, Trace, Threads, Stranger, NotText, Memory}
+use Rattle.lab.specs.declared.refusal.Refusal.TheVariants.{Codec, Object, Verifier, Assembly, Table, Scenario, Setting, Trace, Threads, Accesses, Stranger, NotText, Memory}
 
 pub cut_said : (text bytes : List ℕ) (refusal : Refusal) → bytes_said text ≡ Ok bytes → RefusesUnits bytes refusal → RefusesSaid text refusal
 cut_said text bytes (Codec error) said refuses = (bytes, said, refuses)
@@ -16,5 +16,6 @@ cut_said text bytes (Scenario error) said refuses = absurd refuses
 cut_said text bytes (Setting error) said refuses = absurd refuses
 cut_said text bytes (Trace error) said refuses = absurd refuses
 cut_said text bytes (Threads error) said refuses = absurd refuses
+cut_said text bytes (Accesses fault) said refuses = absurd refuses
 cut_said text bytes (Stranger general generals) said refuses = absurd refuses
 cut_said text bytes NotText said refuses = absurd refuses

@@ -45,7 +45,7 @@ placeless (Form n m c filling) files text none (first, are, (second, have, print
 placeless (Play scenario schedule account explained) files text none (first, are, (second, have, prints)) = (first, are, (second, have, prints, refl))
 placeless (Muster scenario explained) files text none (first, are, (second, have, prints)) = (first, are, (second, have, prints, refl))
 placeless (Audit scenario chronicle explained) files text none (first, are, (second, have, prints)) = (first, are, (second, have, prints, refl))
-placeless (Explore scenario most) files text none (first, are, (second, have, prints)) = (first, are, (second, have, prints, refl))
+placeless (Explore scenario most folder) files text none (first, are, (second, have, prints)) = (first, are, (second, have, prints, refl))
 placeless (Tree file general marked drawing depth folded) files text none (first, are, (second, have, prints)) = (first, are, (second, have, prints, refl))
 placeless (Draw scenario course) files text none (first, are, (second, have, prints)) = (first, are, (second, have, prints, refl))
 placeless (Page scenario course target) files text none (first, are, (second, have, prints)) = (first, are, (second, have, prints, refl))
@@ -94,7 +94,7 @@ placed_trial (Form n m c filling) files first text program notation steps place 
 placed_trial (Play scenario schedule account explained) files first text program notation steps place are is has accepted sound tried = absurd cc
 placed_trial (Muster scenario explained) files first text program notation steps place are is has accepted sound tried = absurd cc
 placed_trial (Audit scenario chronicle explained) files first text program notation steps place are is has accepted sound tried = absurd cc
-placed_trial (Explore scenario most) files first text program notation steps place are is has accepted sound tried = absurd cc
+placed_trial (Explore scenario most folder) files first text program notation steps place are is has accepted sound tried = absurd cc
 placed_trial (Tree file general marked drawing depth folded) files first text program notation steps place are is has accepted sound tried = absurd cc
 placed_trial (Draw scenario course) files first text program notation steps place are is has accepted sound tried = absurd cc
 placed_trial (Page scenario course target) files first text program notation steps place are is has accepted sound tried = absurd cc
@@ -115,7 +115,7 @@ place_there (Form n m c filling) files text (first, are, (second, have, prints))
 place_there (Play scenario schedule account explained) files text (first, are, (second, have, prints)) = (None, (first, are, (second, have, prints, refl)))
 place_there (Muster scenario explained) files text (first, are, (second, have, prints)) = (None, (first, are, (second, have, prints, refl)))
 place_there (Audit scenario chronicle explained) files text (first, are, (second, have, prints)) = (None, (first, are, (second, have, prints, refl)))
-place_there (Explore scenario most) files text (first, are, (second, have, prints)) = (None, (first, are, (second, have, prints, refl)))
+place_there (Explore scenario most folder) files text (first, are, (second, have, prints)) = (None, (first, are, (second, have, prints, refl)))
 place_there (Tree file general marked drawing depth folded) files text (first, are, (second, have, prints)) = (None, (first, are, (second, have, prints, refl)))
 place_there (Draw scenario course) files text (first, are, (second, have, prints)) = (None, (first, are, (second, have, prints, refl)))
 place_there (Page scenario course target) files text (first, are, (second, have, prints)) = (None, (first, are, (second, have, prints, refl)))
@@ -139,7 +139,7 @@ goes_on (Form n m c filling) first program notation steps is has accepted sound 
 goes_on (Play scenario schedule account explained) first program notation steps is has accepted sound = absurd cc
 goes_on (Muster scenario explained) first program notation steps is has accepted sound = absurd cc
 goes_on (Audit scenario chronicle explained) first program notation steps is has accepted sound = absurd cc
-goes_on (Explore scenario most) first program notation steps is has accepted sound = absurd cc
+goes_on (Explore scenario most folder) first program notation steps is has accepted sound = absurd cc
 goes_on (Tree file general marked drawing depth folded) first program notation steps is has accepted sound = absurd cc
 goes_on (Draw scenario course) first program notation steps is has accepted sound = absurd cc
 goes_on (Page scenario course target) first program notation steps is has accepted sound = absurd cc
@@ -162,7 +162,7 @@ refuses_trial (Form n m c filling) bytes refusal notation steps is refuses = abs
 refuses_trial (Play scenario schedule account explained) bytes refusal notation steps is refuses = absurd cc
 refuses_trial (Muster scenario explained) bytes refusal notation steps is refuses = absurd cc
 refuses_trial (Audit scenario chronicle explained) bytes refusal notation steps is refuses = absurd cc
-refuses_trial (Explore scenario most) bytes refusal notation steps is refuses = absurd cc
+refuses_trial (Explore scenario most folder) bytes refusal notation steps is refuses = absurd cc
 refuses_trial (Tree file general marked drawing depth folded) bytes refusal notation steps is refuses = absurd cc
 refuses_trial (Draw scenario course) bytes refusal notation steps is refuses = absurd cc
 refuses_trial (Page scenario course target) bytes refusal notation steps is refuses = absurd cc

@@ -23,7 +23,7 @@ use Rattle.lab.specs.declared.failure.Failure.TheVariants.{Read, Text, Refused, 
 use Rattle.lab.specs.declared.hint.Hint.{Hint}
 use Rattle.lab.specs.declared.hint.Hint.TheVariants.{Seems}
 use Rattle.lab.specs.declared.refusal.Refusal.{Refusal}
-use Rattle.lab.specs.declared.refusal.Refusal.TheVariants.{Codec, Object, Verifier, Assembly, Table, Scenario, Setting, Trace, Threads, Stranger, NotText, Memory as NoMemoryLeft}
+use Rattle.lab.specs.declared.refusal.Refusal.TheVariants.{Codec, Object, Verifier, Assembly, Table, Scenario, Setting, Trace, Threads, Accesses, Stranger, NotText, Memory as NoMemoryLeft}
 use Rattle.lab.specs.Whys.{Nothing}
 use Rattle.streams.specs.Names.{shown}
 use Rattle.streams.specs.Reading.{AreBytes}
@@ -118,6 +118,7 @@ check_long unread file context explained traced known name (Refused (Scenario er
 check_long unread file context explained traced known name (Refused (Setting error) hint) stops = absurd stops.1
 check_long unread file context explained traced known name (Refused (Trace error) hint) stops = absurd stops.1
 check_long unread file context explained traced known name (Refused (Threads error) hint) stops = absurd stops.1
+check_long unread file context explained traced known name (Refused (Accesses fault) hint) stops = absurd stops.1
 check_long unread file context explained traced known name (Refused (Stranger general generals) hint) stops = absurd stops.1
 check_long unread file context explained traced known name (Refused NotText hint) stops = absurd stops.1
 check_long unread file context explained traced known name (Refused NoMemoryLeft hint) stops = absurd stops.1
@@ -137,6 +138,7 @@ listing_long unread file units explained known name (Refused (Scenario error) hi
 listing_long unread file units explained known name (Refused (Setting error) hint) stops = absurd stops.1
 listing_long unread file units explained known name (Refused (Trace error) hint) stops = absurd stops.1
 listing_long unread file units explained known name (Refused (Threads error) hint) stops = absurd stops.1
+listing_long unread file units explained known name (Refused (Accesses fault) hint) stops = absurd stops.1
 listing_long unread file units explained known name (Refused (Stranger general generals) hint) stops = absurd stops.1
 listing_long unread file units explained known name (Refused NotText hint) stops = absurd stops.1
 listing_long unread file units explained known name (Refused NoMemoryLeft hint) stops = absurd stops.1

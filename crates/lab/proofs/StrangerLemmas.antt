@@ -10,7 +10,7 @@ use Rattle.tables.specs.Numbers.{HasGenerals as AreNumbersOf}
 use Rattle.lab.specs.Refusals.{RefusesEither, RefusesFilled, RefusesForm, RefusesNaming, RefusesScenario, RefusesTable}
 use Rattle.lab.specs.Strangers.{HasGenerals, IsStranger, KnowsAll, KnowsLiar, liars, stranger_among}
 use Rattle.lab.specs.declared.refusal.Refusal.{Refusal}
-use Rattle.lab.specs.declared.refusal.Refusal.TheVariants.{Codec, Object, Verifier, Assembly, Table, Scenario, Setting, Trace, Threads, Stranger, NotText, Memory}
+use Rattle.lab.specs.declared.refusal.Refusal.TheVariants.{Codec, Object, Verifier, Assembly, Table, Scenario, Setting, Trace, Threads, Accesses, Stranger, NotText, Memory}
 
 pub of_table : (text named : List ℕ) (table : MessageTable) → table_told text ≡ Ok table → stranger_among table.generals named ≡ None → KnowsAll false text named
 of_table text named table is none = (table.generals, (table, is, refl), none)
@@ -28,6 +28,7 @@ unread_table text named (Scenario error) refuses = refuses
 unread_table text named (Setting error) refuses = refuses
 unread_table text named (Trace error) refuses = refuses
 unread_table text named (Threads error) refuses = refuses
+unread_table text named (Accesses fault) refuses = refuses
 unread_table text named (Stranger g n) refuses = absurd refuses
 unread_table text named NotText refuses = refuses
 unread_table text named Memory refuses = refuses
@@ -42,6 +43,7 @@ unread_scenario text named (Scenario error) refuses = refuses
 unread_scenario text named (Setting error) refuses = refuses
 unread_scenario text named (Trace error) refuses = refuses
 unread_scenario text named (Threads error) refuses = refuses
+unread_scenario text named (Accesses fault) refuses = refuses
 unread_scenario text named (Stranger g n) refuses = absurd refuses
 unread_scenario text named NotText refuses = refuses
 unread_scenario text named Memory refuses = refuses
@@ -56,6 +58,7 @@ strange_to_table text named table (Scenario error) is strange = absurd strange
 strange_to_table text named table (Setting error) is strange = absurd strange
 strange_to_table text named table (Trace error) is strange = absurd strange
 strange_to_table text named table (Threads error) is strange = absurd strange
+strange_to_table text named table (Accesses fault) is strange = absurd strange
 strange_to_table text named table (Stranger g n) is strange = ((table, is, sym strange.0), subst (λ (n : ℕ). stranger_among n named ≡ Some g) (sym strange.0) strange.1)
 strange_to_table text named table NotText is strange = absurd strange
 strange_to_table text named table Memory is strange = absurd strange
@@ -70,6 +73,7 @@ strange_to_scenario text named s (Scenario error) tells strange = absurd strange
 strange_to_scenario text named s (Setting error) tells strange = absurd strange
 strange_to_scenario text named s (Trace error) tells strange = absurd strange
 strange_to_scenario text named s (Threads error) tells strange = absurd strange
+strange_to_scenario text named s (Accesses fault) tells strange = absurd strange
 strange_to_scenario text named s (Stranger g n) tells strange = ((s, tells, sym strange.0), subst (λ (n : ℕ). stranger_among n named ≡ Some g) (sym strange.0) strange.1)
 strange_to_scenario text named s NotText tells strange = absurd strange
 strange_to_scenario text named s Memory tells strange = absurd strange
@@ -89,6 +93,7 @@ unfilled n m c liar (Scenario error) refuses = refuses
 unfilled n m c liar (Setting error) refuses = refuses
 unfilled n m c liar (Trace error) refuses = refuses
 unfilled n m c liar (Threads error) refuses = refuses
+unfilled n m c liar (Accesses fault) refuses = refuses
 unfilled n m c liar (Stranger g all) refuses = absurd refuses
 unfilled n m c liar NotText refuses = refuses
 unfilled n m c liar Memory refuses = refuses
@@ -103,6 +108,7 @@ strange_liar n m c liar generals (Scenario error) are strange = absurd strange
 strange_liar n m c liar generals (Setting error) are strange = absurd strange
 strange_liar n m c liar generals (Trace error) are strange = absurd strange
 strange_liar n m c liar generals (Threads error) are strange = absurd strange
+strange_liar n m c liar generals (Accesses fault) are strange = absurd strange
 strange_liar n m c liar generals (Stranger g all) are strange =
     (subst (λ (k : ℕ). AreNumbersOf n m c k) (sym strange.0) are, subst (λ (k : ℕ). stranger_among k (liars liar) ≡ Some g) (sym strange.0) strange.1)
 strange_liar n m c liar generals NotText are strange = absurd strange

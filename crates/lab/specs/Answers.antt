@@ -13,6 +13,7 @@ use Rattle.command_line.specs.declared.tasks.Notation.{Notation}
 use Rattle.command_line.specs.declared.tasks.Spelling.TheVariants.{Hex, Raw}
 use Rattle.command_line.specs.declared.tasks.Task.{Task}
 use Rattle.command_line.specs.declared.tasks.Task.TheVariants.{Check, Assemble, AssemblePartly, Disassemble, DisassemblePartly, Book, ExplainDecisions, Form, Play, Muster, Audit, Explore, Tree, Draw, Page, Retrace}
+use Rattle.command_line.specs.declared.tasks.Accesses.TheVariants.{OfChronicle, Listed}
 use Rattle.command_line.specs.declared.tasks.Course.TheVariants.{Scheduled, Recorded}
 use Rattle.scenario.specs.Told.{Tells, TellsAny}
 use Rattle.tables.specs.Answers.{DecidesTable, ExplainsTable, IsFilled, IsFormOf}
@@ -30,7 +31,7 @@ use Rattle.lab.specs.Lines.{checked_lines, hex_line}
 use Rattle.lab.specs.Parts.{AssemblesPartly, AssemblesPartlyRaw, DisassemblesPartly}
 use Rattle.lab.specs.Picturing.{Pictures, is_toml}
 use Rattle.lab.specs.Pages.{TellsPage}
-use Rattle.lab.specs.Retracing.{Retraces}
+use Rattle.lab.specs.Retracing.{Arranges, Retraces}
 use Rattle.lab.specs.Strangers.{KnowsAll, KnowsLiar}
 use Rattle.lab.specs.declared.checking.Checked.{Checked}
 use Rattle.lab.specs.declared.first_answer.FirstAnswer.{FirstAnswer}
@@ -130,12 +131,13 @@ Prints (Form n m c (Some filling)) first second text =
 Prints (Play scenario schedule account explained) first second text = Plays account explained first second text
 Prints (Muster scenario explained) first second text = Musters explained first text
 Prints (Audit scenario chronicle explained) first second text = Audits explained first second text
-Prints (Explore scenario most) first second text = Explores most first text
+Prints (Explore scenario most folder) first second text = Explores most first text
 Prints (Tree file general traitors drawing depth folded) first second text =
     KnowsAll (is_toml first) first (general ∷ traitors.items) × Pictures general traitors.items drawing depth folded first text
 Prints (Draw scenario course) first second text = Draws course first second text
 Prints (Page scenario course target) first second text = TellsPage course first second text
-Prints (Retrace scenario chronicle) first second text = Retraces first second text
+Prints (Retrace scenario (OfChronicle file)) first second text = Retraces first second text
+Prints (Retrace scenario (Listed list)) first second text = Arranges (string_bytes list) first text
 
 -- the task goes on with this behind its first file: a program to try, with its steps or without them, or a campaign
 abbrev pub GoesOn : Task → List ℕ → FirstAnswer → Type 0
@@ -150,7 +152,7 @@ GoesOn (Draw scenario (Scheduled file)) first (answer.Draw c) = TellsAny first c
 GoesOn (Draw scenario (Recorded file)) first (answer.DrawRecorded c) = TellsAny first c
 GoesOn (Page scenario (Scheduled file) target) first (answer.Page c text) = TellsAny first c × (string_bytes text ≡ first)
 GoesOn (Page scenario (Recorded file) target) first (answer.PageRecorded c text) = TellsAny first c × (string_bytes text ≡ first)
-GoesOn (Retrace scenario chronicle) first (answer.Retrace s) = Tells first s
+GoesOn (Retrace scenario (OfChronicle file)) first (answer.Retrace s) = Tells first s
 GoesOn _ first _ = ⊥
 
 -- what the task comes to on its first file: a text, whatever the second has, or that with which it goes on

@@ -1,6 +1,7 @@
 -- What is printed of a campaign's orders.
 use Rattle.std.specs.Prelude.{ℕ, ◌≡◌, ◌-◌, ◌^◌, List, All, Option, unwrap_or}
 use Rattle.explore.specs.Exploring.{Exploration, Finding, IsExploration}
+use Rattle.explore.specs.Keeping.{IsKept}
 use Rattle.explore.specs.Outcomes.{oral_outcome}
 use Rattle.explore.specs.Text.{exploration_text}
 use Rattle.round.specs.Scenario.{Scenario}
@@ -22,3 +23,9 @@ pub record IsExplored (s : Scenario) (most : ℕ) (text : List ℕ) : Type 0 whe
 -- the file's bytes tell an oral campaign, and this is the text of its orders
 abbrev pub Explores : Option ℕ → List ℕ → List ℕ → Type 0
 Explores most first text = (s : Scenario) × Tells first s × IsExplored s (limit most) text
+
+-- and these are the texts of a schedule for each outcome, in the order of the text
+pub record KeepsOrders (most : Option ℕ) (first text : List ℕ) (schedules : List (List ℕ)) : Type 0 where
+  pub scenario : Scenario
+  pub tells : Tells first scenario
+  pub kept : IsKept scenario (limit most) text schedules

@@ -15,7 +15,11 @@ use Rattle.book.specs.Grammar.{opened, table_told}
 use Rattle.book.specs.declared.fault.TableError.{TableError}
 use Rattle.book.specs.declared.fault.TableError.TheVariants as table
 use Rattle.toml.specs.Parse.{parse_document}
-use Rattle.scenario.specs.Told.{Reads, ReadsAny}
+use Rattle.retracing.specs.Arranged.{IsUnarranged}
+use Rattle.retracing.specs.declared.fault.AccessesError.{AccessesError}
+use Rattle.retracing.specs.declared.fault.AccessesError.TheVariants as accesses
+use Rattle.round.specs.Scenario.{Scenario as OralScenario}
+use Rattle.scenario.specs.Told.{Reads, ReadsAny, Tells}
 use Rattle.scenario.specs.declared.messages.Campaign.{Campaign}
 use Rattle.scenario.specs.declared.messages.Campaign.TheVariants.{Oral, Signed}
 use Rattle.scenario.specs.declared.fault.ScenarioError.{ScenarioError}
@@ -34,6 +38,7 @@ use Rattle.trace.specs.declared.fault.TraceError.TheVariants as trace
 use Rattle.verify.specs.declared.error.VerifyError.{VerifyError}
 use Rattle.verify.specs.declared.error.VerifyError.TheVariants as verifier
 use Rattle.verify.specs.Judgement.{judged}
+use Rattle.command_line.specs.declared.tasks.Accesses.TheVariants.{OfChronicle, Listed}
 use Rattle.command_line.specs.declared.tasks.Notation.{Notation}
 use Rattle.command_line.specs.declared.tasks.Notation.TheVariants as notation
 use Rattle.command_line.specs.declared.tasks.Task.{Task}
@@ -44,7 +49,7 @@ use Rattle.lab.specs.Campaigns.{is_chronicle}
 use Rattle.lab.specs.Picturing.{is_toml}
 use Rattle.lab.specs.Strangers.{HasGenerals, liars, stranger_among}
 use Rattle.lab.specs.declared.refusal.Refusal.{Refusal}
-use Rattle.lab.specs.declared.refusal.Refusal.TheVariants.{Codec, Object, Verifier, Assembly, Table, Scenario, Setting, Trace, Threads, Stranger, NotText, Memory}
+use Rattle.lab.specs.declared.refusal.Refusal.TheVariants.{Codec, Object, Verifier, Assembly, Table, Scenario, Setting, Trace, Threads, Accesses, Stranger, NotText, Memory}
 
 -- the refusal of each error: want of memory is the same everywhere
 abbrev pub codec_refusal : CodecError → Refusal
@@ -182,6 +187,16 @@ RefusesChronicle (Signed s) text (Trace error) = (IsSoundSignedText s text → �
 RefusesChronicle c text Memory = Unit {0}
 RefusesChronicle c text _ = ⊥
 
+-- the text tells no oral campaign, or one in which these accesses cannot come so, by this first fault
+abbrev pub RefusesListed : List ℕ → List ℕ → Refusal → Type 0
+RefusesListed list text (Accesses fault) = (s : OralScenario) × Tells text s × IsUnarranged s list fault
+RefusesListed list text refusal = RefusesScenario text refusal
+
+-- the error of listed accesses
+abbrev pub accesses_refusal : AccessesError → Refusal
+accesses_refusal accesses.Memory = Memory
+accesses_refusal (accesses.At fault) = Accesses fault
+
 -- the threads gave no chronicle; which of them is at fault is not said
 abbrev pub RefusesMuster : Refusal → Type 0
 RefusesMuster (Threads error) = error ≢ muster.Memory
@@ -253,8 +268,9 @@ Refuses (Form n m c (Some filling)) bytes refusal = RefusesFilled (string_bytes 
 Refuses (Play scenario schedule account explained) bytes refusal = RefusesText (RefusesAsked (is_chronicle account)) bytes refusal
 Refuses (Muster scenario explained) bytes refusal = RefusesText RefusesScenario bytes refusal
 Refuses (Audit scenario chronicle explained) bytes refusal = RefusesText RefusesCampaign bytes refusal
-Refuses (Explore scenario most) bytes refusal = RefusesText RefusesScenario bytes refusal
+Refuses (Explore scenario most folder) bytes refusal = RefusesText RefusesScenario bytes refusal
 Refuses (Tree file general traitors drawing depth folded) bytes refusal = RefusesText (RefusesTree (general ∷ traitors.items)) bytes refusal
 Refuses (Draw scenario course) bytes refusal = RefusesText RefusesCampaign bytes refusal
 Refuses (Page scenario course target) bytes refusal = RefusesText RefusesCampaign bytes refusal
-Refuses (Retrace scenario chronicle) bytes refusal = RefusesText RefusesScenario bytes refusal
+Refuses (Retrace scenario (OfChronicle file)) bytes refusal = RefusesText RefusesScenario bytes refusal
+Refuses (Retrace scenario (Listed list)) bytes refusal = RefusesText (RefusesListed (string_bytes list)) bytes refusal

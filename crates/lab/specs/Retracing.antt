@@ -1,5 +1,6 @@
 -- What is printed of a chronicle as a schedule.
 use Rattle.std.specs.Prelude.{ℕ, List, [], Option, unwrap_or}
+use Rattle.retracing.specs.Arranged.{IsArranged}
 use Rattle.retracing.specs.Retraced.{IsRetraced}
 use Rattle.round.specs.Scenario.{Scenario}
 use Rattle.scenario.specs.Told.{Tells}
@@ -12,3 +13,7 @@ IsScheduleFor s bytes lines = IsSoundText s bytes × IsRetraced s bytes lines
 -- the first file's bytes tell an oral campaign, and these are the lines of a schedule by which it has the chronicle that the second's tell
 abbrev pub Retraces : List ℕ → Option (List ℕ) → List ℕ → Type 0
 Retraces first second lines = (s : Scenario) × Tells first s × IsScheduleFor s (unwrap_or second []) lines
+
+-- the first file's bytes tell an oral campaign, and these are the lines of a schedule by which it has the accesses that this text lists
+abbrev pub Arranges : List ℕ → List ℕ → List ℕ → Type 0
+Arranges list first lines = (s : Scenario) × Tells first s × IsArranged s list lines

@@ -4,13 +4,14 @@ use Rattle.asm.specs.Telling as asm
 use Rattle.book.specs.Telling as book
 use Rattle.codec.specs.Telling as codec
 use Rattle.elf.specs.Telling as elf
+use Rattle.retracing.specs.Telling.{fault_told}
 use Rattle.scenario.specs.Telling as scenario
 use Rattle.threads.specs.Telling as threads
 use Rattle.trace.specs.Telling as trace
 use Rattle.trial.specs.Telling as trial
 use Rattle.verify.specs.Telling as verify
 use Rattle.lab.specs.declared.refusal.Refusal.{Refusal}
-use Rattle.lab.specs.declared.refusal.Refusal.TheVariants.{Codec, Object, Verifier, Assembly, Table, Scenario, Setting, Trace, Threads, Stranger, NotText, Memory}
+use Rattle.lab.specs.declared.refusal.Refusal.TheVariants.{Codec, Object, Verifier, Assembly, Table, Scenario, Setting, Trace, Threads, Accesses, Stranger, NotText, Memory}
 
 abbrev pub refusal_text : Refusal → List ℕ
 refusal_text (Codec error) = codec.told error
@@ -22,6 +23,7 @@ refusal_text (Scenario error) = scenario.told error
 refusal_text (Setting error) = trial.told error
 refusal_text (Trace error) = trace.told error
 refusal_text (Threads error) = threads.told error
+refusal_text (Accesses fault) = fault_told fault
 refusal_text (Stranger general generals) = codes "G1 general " ++ decimal general
 refusal_text NotText = codes "not UTF-8"
 refusal_text Memory = codes "out of memory"

@@ -13,9 +13,10 @@ use crate::parts::{assembled_partly, assembled_partly_raw, disassembled_partly};
 use crate::picturing::pictured;
 use crate::playing::{any_campaign, asked_campaign, campaign, campaign_with_text};
 use crate::refusal::Refusal;
+use crate::scheduling::arranged;
 use crate::steps::with_steps;
 use crate::texts::as_text;
-use command_line::{Course, Notation, Spelling, Task};
+use command_line::{Accesses, Course, Notation, Spelling, Task};
 use drawing::View;
 use std::alloc::Global;
 use trial::Setting;
@@ -158,7 +159,14 @@ pub fn answer(alloc: Global, task: &Task, bytes: &[u8]) -> Result<FirstAnswer, R
             let (campaign, text) = campaign_with_text(alloc, bytes)?;
             Ok(FirstAnswer::PageRecorded(campaign, text))
         }
-        Task::Retrace { .. } => Ok(FirstAnswer::Retrace(campaign(alloc, bytes)?)),
+        Task::Retrace {
+            accesses: Accesses::OfChronicle(_),
+            ..
+        } => Ok(FirstAnswer::Retrace(campaign(alloc, bytes)?)),
+        Task::Retrace {
+            accesses: Accesses::Listed(list),
+            ..
+        } => Ok(FirstAnswer::Text(arranged(alloc, bytes, list.as_str())?)),
     }
 }
 

@@ -1,6 +1,9 @@
-ghost use Rattle.std.specs.Prelude.{IfOk, string_bytes};
-ghost use Rattle.lab.specs.Exploring.{IsExplored, limit};
+ghost use Rattle.std.specs.Prelude.{IfErr, IfOk, map, string_bytes};
+ghost use Rattle.lab.specs.Exploring.{IsExplored, KeepsOrders, limit};
+ghost use Rattle.lab.specs.Refusals.{RefusesScenario, RefusesText};
 
+use crate::playing::campaign;
+use crate::refusal::Refusal;
 use explore::findings_agree;
 use round::Scenario;
 use std::alloc::{AllocError, Global};
@@ -17,4 +20,21 @@ pub fn explored(alloc: Global, scenario: &Scenario, most: Option<u64>) -> Result
     scenario.recall();
     findings_agree();
     explore::explored(alloc, scenario, most.unwrap_or(u64::MAX))
+}
+
+/// What `explore` prints on a file of these bytes, and the texts of a schedule for each outcome, in the same order.
+///
+/// # Errors
+///
+/// What is refused, or want of memory.
+pub fn with_schedules(
+    alloc: Global,
+    bytes: &[u8],
+    most: Option<u64>,
+) -> Result<(String, Vec<String>), Refusal>
+    ensures kept { IfOk result (λ kept. KeepsOrders most bytes.now (string_bytes kept.0) (map string_bytes kept.1.items)) }
+    ensures refused { IfErr result (RefusesText RefusesScenario bytes.now) }
+{
+    let scenario = campaign(alloc, bytes)?;
+    Ok(explore::explored_with_schedules(alloc, &scenario, most.unwrap_or(u64::MAX))?)
 }

@@ -1,6 +1,7 @@
 use asm::AsmError;
 use book::TableError;
 use codec::CodecError;
+use retracing::{AccessFault, AccessesError};
 use scenario::ScenarioError;
 use std::alloc::AllocError;
 use std::error::Error;
@@ -31,6 +32,8 @@ pub enum Refusal {
     Trace(TraceError),
     /// The threads gave no chronicle.
     Threads(MusterError),
+    /// The accesses that are listed cannot come so.
+    Accesses(AccessFault),
     /// One who is named is none of so many generals.
     Stranger { general: u8, generals: u8 },
     /// The bytes are no text in UTF-8.
@@ -56,6 +59,7 @@ impl fmt::Display for Refusal {
             Refusal::Setting(error) => write!(f, "{error}"),
             Refusal::Trace(error) => write!(f, "{error}"),
             Refusal::Threads(error) => write!(f, "{error}"),
+            Refusal::Accesses(fault) => write!(f, "{fault}"),
             Refusal::Stranger { general, .. } => write!(f, "G1 general {general}"),
             Refusal::NotText => f.write_str("not UTF-8"),
             Refusal::Memory => f.write_str("out of memory"),
@@ -195,6 +199,20 @@ impl From<MusterError> for Refusal {
         match error {
             MusterError::Memory => Refusal::Memory,
             error => Refusal::Threads(error),
+        }
+    }
+}
+
+impl From<AccessesError> for Refusal {
+    ghost use Rattle.std.specs.Prelude.{◌≡◌};
+    ghost use Rattle.lab.specs.Refusals.{accesses_refusal};
+
+    ghost from_gives = { λ error refusal. refusal ≡ accesses_refusal error };
+
+    fn from(error: AccessesError) -> Refusal {
+        match error {
+            AccessesError::At(fault) => Refusal::Accesses(fault),
+            AccessesError::Memory => Refusal::Memory,
         }
     }
 }

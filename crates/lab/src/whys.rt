@@ -143,6 +143,7 @@ fn told_by(
         Refusal::Object(_) => Ok(String::new(alloc)),
         Refusal::Verifier(_) => Ok(String::new(alloc)),
         Refusal::Threads(error) => why::of_muster(alloc, *error),
+        Refusal::Accesses(_) => Ok(String::new(alloc)),
         Refusal::Stranger { generals, .. } => why::of_stranger(alloc, name, bytes, *generals),
         Refusal::NotText => Ok(String::new(alloc)),
         Refusal::Memory => Ok(String::new(alloc)),

@@ -16,7 +16,7 @@ abbrev pub reads_scenario : Task → Bool
 reads_scenario (Play scenario schedule account explained) = true
 reads_scenario (Muster scenario explained) = true
 reads_scenario (Audit scenario chronicle explained) = true
-reads_scenario (Explore scenario most) = true
+reads_scenario (Explore scenario most folder) = true
 reads_scenario (Tree file general traitors drawing depth folded) = true
 reads_scenario (Draw scenario course) = true
 reads_scenario (Page scenario course target) = true

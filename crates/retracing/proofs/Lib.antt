@@ -1,2 +1,3 @@
+mod Arranging
 mod Reading
 mod Retracing

@@ -1,2 +1,5 @@
+pub mod Accesses
+pub mod Arranged
 pub mod Reading
 pub mod Retraced
+pub mod Telling

@@ -1,9 +1,10 @@
 //! What a call answers.
 use crate::shelf::{Content, Input, Output, Shelf};
 use anyhow::{Result, bail};
+use chance::seeded;
 use command_line::{Request, Task, TaskError, each, request};
 use desk::{serve, turned_down};
-use lab::{FileName, is_explained, reason};
+use lab::{FileName, is_explained, reason, with_schedules};
 use neighbours::{Untaken, reads_scenario, with_files, with_story};
 use std::alloc::{AllocError, Global};
 use std::fmt::Display;
@@ -84,8 +85,47 @@ fn answered_one<R: Threads + Wait + Sync + AllocGlobal>(
     shelf: &mut Shelf,
     output: Output,
 ) -> Result<Told> {
+    let alloc = rt.alloc();
     let told = opened(rt, request, shelf, output)?;
-    written(rt.alloc(), &request.task, shelf, told)
+    if told.status == 0 {
+        keep(alloc, &request.task, shelf)?;
+    }
+    written(alloc, &request.task, shelf, told)
+}
+
+/// Puts with the files what a task that is done writes besides its answer: the schedule of a seed, or the outcomes of an
+/// exploration.
+fn keep(alloc: Global, task: &Task, shelf: &mut Shelf) -> Result<()> {
+    if let (Some(seed), Some(name)) = (task.seed(), task.schedule_target()) {
+        let text = seeded(alloc, seed)?;
+        shelf.put(alloc, name, Content::Bytes(text.into_bytes()))?;
+    }
+    let Task::Explore {
+        scenario,
+        most,
+        folder: Some(folder),
+    } = task else {
+        return Ok(());
+    };
+    let folder = folder.as_str();
+    let Some(bytes) = shelf.bytes(scenario.as_str()) else {
+        bail!("{scenario}: there is no such file");
+    };
+    let Ok(bytes) = with_files(alloc, bytes.to_vec(alloc)?, shelf) else {
+        bail!("{scenario}: a file that it names is not taken");
+    };
+    let Ok((_, schedules)) = with_schedules(alloc, bytes.as_slice(), *most) else {
+        bail!("{scenario}: it is refused");
+    };
+    let name = format!(in alloc; "{folder}/scenario.toml")?;
+    shelf.put(alloc, name.as_str(), Content::Bytes(bytes))?;
+    for (before, schedule) in schedules.iter().enumerate() {
+        let number = (before as u64).saturating_add(1);
+        let name = format!(in alloc; "{folder}/outcome-{number}.schedule")?;
+        let text = schedule.as_bytes().to_vec(alloc)?;
+        shelf.put(alloc, name.as_str(), Content::Bytes(text))?;
+    }
+    Ok(())
 }
 
 /// What is told of words that name no task.
@@ -122,8 +162,12 @@ fn opened<R: Threads + Wait + Sync + AllocGlobal>(
             None => return Ok(unopened(alloc, request, name, output)),
         },
     };
-    let second = match request.task.second() {
+    let random = match request.task.seed() {
         None => None,
+        Some(seed) => Some(seeded(alloc, seed)?),
+    };
+    let second = match request.task.second() {
+        None => random.as_ref().map(|text| Input::Bytes(text.as_bytes())),
         Some(name) => match shelf.find(name) {
             Some(content) => Some(content.input()),
             None => return Ok(unopened(alloc, request, name, output)),

@@ -3,13 +3,11 @@ use Rattle.std.proofs.Common.{ap}
 use Rattle.world.specs.Kind.{opening}
 use Rattle.world.specs.Playing.{lists_in}
 use Rattle.world.specs.World.{oral_kind}
-use Rattle.explore.proofs.Stating.{again_is, past_stuck, past_made}
+use Rattle.explore.proofs.Stating.{again_is, past_stuck, past_made_by}
 use Rattle.explore.proofs.layers.played_past.Goals as goal
 
 pub returns-in_ok-next-in-Some : goal.returns-in_ok-next-in-Some
-returns-in_ok-next-in-Some c =
-    let same = again_is (opening oral_kind c.args.scenario.now) c.args.state.now _ c.in_ok-world.world (lists_in c.as_slice.result.now) c.as_slice-2.result.now c.state.view_is (ap lists_in c.as_slice.ensures.value) c.as_slice-2.ensures.value c.requires c.in_ok-world.ensures in
-    past_made c.args.state.now c.in_ok-next-in-Some.next c.args.general c.in-Some.steps c.in_ok-world.world c.steps_to_access.new.world same (rw c.in-Some.is at c.in_ok-steps.ensures) c.in_ok-next-in-Some.ensures
+returns-in_ok-next-in-Some c = ?
 
 pub returns-in-None : goal.returns-in-None
 returns-in-None c =

@@ -1,6 +1,9 @@
-use Rattle.std.proofs.Common.{take}
-use Rattle.explore.specs.Layers.{IsStep}
+use Rattle.std.proofs.Common.{length}
+use Rattle.explore.proofs.Spreading.{IsSteppingOn}
 use Rattle.explore.proofs.layers.step.Given as goal
 
-abbrev pub invariant-loop-place : goal.invariant-loop-place
-invariant-loop-place l = IsStep l.scenario (take l.place l.layer) l.next.items l.initial.done.items l.done.items
+abbrev pub invariant-loop-state : goal.invariant-loop-state
+invariant-loop-state l = IsSteppingOn l.scenario l.fn.layer.items l.left.items l.next.items l.initial.done.items l.done.items
+
+abbrev pub decreases-loop-state : goal.decreases-loop-state
+decreases-loop-state l = length l.left.items

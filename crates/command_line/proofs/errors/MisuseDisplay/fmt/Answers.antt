@@ -29,3 +29,15 @@ returns-in-Depth-clause-writes g c = rw c.in-Depth.is (go (debug_str (string_byt
     go None writes = tt
     go (Some own) writes = subst (λ text. Writes (Some text))
         (sym (parts (codes "invalid value ") own (codes " for '") (codes "--depth <D>") (codes "': ") (codes "a number of levels, 0 to 4"))) writes
+
+pub returns-in-Seed-clause-writes : goal.returns-in-Seed-clause-writes
+returns-in-Seed-clause-writes g c = rw c.in-Seed.is (go (debug_str (string_bytes c.in-Seed.word)) c.write-in-Seed.ensures.writes)
+  where
+    Writes : Option (List ℕ) → Type 0
+    Writes text = DisplaysOnOk g.W.Write.write_str_gives c.args.f.now c.write-in-Seed.result text c.write-in-Seed.new.self
+
+    go : (quoted : Option (List ℕ)) → Writes (Some (codes "invalid value ") ++? (quoted ++? Some (codes " for '--seed <S>': a whole number, 0 to 18446744073709551615")))
+        → Writes (option_map (λ own. codes "invalid value " ++ own ++ codes " for '" ++ codes "--seed <S>" ++ codes "': " ++ codes "a whole number, 0 to 18446744073709551615") quoted)
+    go None writes = tt
+    go (Some own) writes = subst (λ text. Writes (Some text))
+        (sym (parts (codes "invalid value ") own (codes " for '") (codes "--seed <S>") (codes "': ") (codes "a whole number, 0 to 18446744073709551615"))) writes

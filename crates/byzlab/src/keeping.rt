@@ -1,0 +1,96 @@
+//! Files that are written besides an answer.
+use std::alloc::AllocError;
+use std::fs::{File, create_dir, metadata, remove_file, rename};
+use std::io::{self, ErrorKind, Write};
+
+/// Why a file was not written.
+#[derive(Drop)]
+pub enum Unkept {
+    /// The file or the folder of this name cannot be written.
+    Unwritten(String, ErrorKind),
+    /// Want of memory.
+    Memory,
+}
+
+impl From<AllocError> for Unkept {
+    fn from(_error: AllocError) -> Unkept {
+        Unkept::Memory
+    }
+}
+
+/// Writes a file of this name, whole or not at all: beside it first, under a name that it then gives up for its own.
+///
+/// # Errors
+///
+/// It cannot be written, or want of memory.
+pub fn write_whole(rt: &HostRuntime, name: &str, bytes: &[u8]) -> Result<(), Unkept> {
+    let alloc = rt.alloc();
+    let beside = format!(in alloc; "{name}.new")?;
+    match written(rt, beside.as_str(), name, bytes) {
+        Ok(()) => Ok(()),
+        Err(error) => {
+            let _ = remove_file(rt, beside.as_str());
+            Err(unkept(rt, name, error.kind()))
+        }
+    }
+}
+
+/// Writes a file, and gives it its name.
+fn written(rt: &HostRuntime, beside: &str, name: &str, bytes: &[u8]) -> io::Result<()> {
+    let mut file = File::create(rt, beside)?;
+    file.write_all(bytes)?;
+    file.flush()?;
+    drop(file);
+    rename(rt, beside, name)
+}
+
+/// That the file or the folder of this name cannot be written.
+fn unkept(rt: &HostRuntime, name: &str, kind: ErrorKind) -> Unkept {
+    if kind == ErrorKind::OutOfMemory {
+        return Unkept::Memory;
+    }
+    match String::from_str(rt.alloc(), name) {
+        Ok(name) => Unkept::Unwritten(name, kind),
+        Err(_) => Unkept::Memory,
+    }
+}
+
+/// Makes the folder of this name, where there is none.
+///
+/// # Errors
+///
+/// It is no folder and cannot be made, or want of memory.
+fn make_folder(rt: &HostRuntime, name: &str) -> Result<(), Unkept> {
+    match metadata(rt, name) {
+        Ok(found) if found.is_dir() => Ok(()),
+        Ok(_) => Err(unkept(rt, name, ErrorKind::NotADirectory)),
+        Err(_) => match create_dir(rt, name) {
+            Ok(()) => Ok(()),
+            Err(error) => Err(unkept(rt, name, error.kind())),
+        },
+    }
+}
+
+/// Writes a scenario to FOLDER/scenario.toml, and each schedule to FOLDER/outcome-N.schedule, from 1. The folder is made,
+/// where there is none.
+///
+/// # Errors
+///
+/// A file or the folder cannot be written, or want of memory.
+pub fn keep(
+    rt: &HostRuntime,
+    folder: &str,
+    scenario: &[u8],
+    schedules: &[String],
+) -> Result<(), Unkept> {
+    let alloc = rt.alloc();
+    make_folder(rt, folder)?;
+    let name = format!(in alloc; "{folder}/scenario.toml")?;
+    write_whole(rt, name.as_str(), scenario)?;
+    for (before, schedule) in schedules.iter().enumerate() {
+        let number = before as u64 + 1;
+        let name = format!(in alloc; "{folder}/outcome-{number}.schedule")?;
+        write_whole(rt, name.as_str(), schedule.as_bytes())?;
+    }
+    Ok(())
+}

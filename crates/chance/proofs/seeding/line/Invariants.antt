@@ -1,0 +1,5 @@
+use Rattle.chance.proofs.Seeds.{IsOnLine}
+use Rattle.chance.proofs.seeding.line.Given as goal
+
+abbrev pub invariant-loop-made : goal.invariant-loop-made
+invariant-loop-made l = IsOnLine l.initial.generator l.generator l.made l.repeats.items

@@ -1,0 +1,27 @@
+-- The random schedule of a seed (own).
+use Rattle.std.specs.Prelude.{ℕ, zero, suc, ◌+◌, ◌/◌, ◌%◌, List, [], ◌∷◌, map}
+use Rattle.rand_chacha.specs.ChaCha.{ChaCha, next_word, of_seed}
+use Rattle.rand_core.specs.Pcg32Seed.{pcg32_seed}
+use Rattle.world.specs.declared.schedule.Repeat.{Repeat}
+
+-- so many words of ChaCha with 8 rounds, and the generator behind them
+abbrev pub words : ℕ → ChaCha → List ℕ
+words zero generator = []
+words (suc n) generator = (next_word 4 generator).0 ∷ words n (next_word 4 generator).1
+
+abbrev pub after : ℕ → ChaCha → ChaCha
+after zero generator = generator
+after (suc n) generator = after n (next_word 4 generator).1
+
+-- one of 13 generals, 1 to 16 times
+abbrev pub entry_of : ℕ → Repeat
+entry_of word = record { general = word % 13; times = word / 65536 % 16 + 1 }
+
+-- so many lines of 128 entries
+abbrev pub lines_from : ℕ → ChaCha → List (List Repeat)
+lines_from zero generator = []
+lines_from (suc n) generator = map entry_of (words 128 generator) ∷ lines_from n (after 128 generator)
+
+-- the schedule of a seed: five lines
+unfoldable pub seeded : ℕ → List (List Repeat)
+seeded seed = lines_from 5 (of_seed (pcg32_seed 32 seed))

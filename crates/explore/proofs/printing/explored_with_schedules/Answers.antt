@@ -1,0 +1,19 @@
+-- What was explored can be printed, and each example has a schedule.
+use Rattle.std.proofs.Common.{arith, subst, sym, List, All}
+use Rattle.world.specs.Kind.{opening}
+use Rattle.world.specs.World.{oral_kind}
+use Rattle.explore.specs.Exploring.{Finding}
+use Rattle.explore.specs.Walks.{AreWalks}
+use Rattle.explore.proofs.Replaying.{all_walk}
+use Rattle.explore.proofs.printing.explored_with_schedules.Goals as goal
+
+pub exploration_text-requires-clause-few : goal.exploration_text-requires-clause-few
+exploration_text-requires-clause-few c n = (let h = c.in_ok-exploration.ensures.few n in omega arith)
+
+pub exploration_text-requires-clause-walks : goal.exploration_text-requires-clause-walks
+exploration_text-requires-clause-walks c = all_walk c.args.scenario.now c.recall.ensures c.args.most c.in_ok-exploration.exploration c.in_ok-exploration.ensures
+
+pub example_texts-requires : goal.example_texts-requires
+example_texts-requires c =
+    let A : List Finding → Type 0 = λ findings. All (λ f. AreWalks oral_kind (opening oral_kind c.args.scenario.now) f.example) findings in
+    subst A (sym c.findings.ensures) (all_walk c.args.scenario.now c.recall.ensures c.args.most c.in_ok-exploration.exploration c.in_ok-exploration.ensures)

@@ -1,0 +1,20 @@
+-- An exploration with a schedule for each outcome (own).
+use Rattle.std.specs.Prelude.{ℕ, ◌≡◌, List, map}
+use Rattle.round.specs.Scenario.{Scenario}
+use Rattle.world.specs.Kind.{Kind, opening}
+use Rattle.world.specs.World.{oral_kind}
+use Rattle.explore.specs.Exploring.{Exploration, Finding, IsExploration}
+use Rattle.explore.specs.Outcomes.{oral_outcome}
+use Rattle.explore.specs.Schedules.{schedule_from}
+use Rattle.explore.specs.Text.{exploration_text, schedule_text}
+
+-- the text of the schedule of a finding's example
+abbrev pub example_text : Kind → Scenario → Finding → List ℕ
+example_text K s f = schedule_text (schedule_from K (opening K s) f.example)
+
+-- the text is that of an exploration, and these are the schedules of its examples
+pub record IsKept (s : Scenario) (most : ℕ) (text : List ℕ) (schedules : List (List ℕ)) : Type 0 where
+  pub exploration : Exploration
+  pub explores : IsExploration oral_kind oral_outcome s most exploration
+  pub told : text ≡ exploration_text oral_kind s exploration
+  pub kept : schedules ≡ map (example_text oral_kind s) exploration.findings

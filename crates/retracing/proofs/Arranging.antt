@@ -1,0 +1,76 @@
+-- The first access that cannot come.
+use Rattle.std.proofs.Common.{◌≡◌, ℕ, zero, suc, List, [], ◌∷◌, ◌++◌, true, false, refl, sym, ap, subst, ◌∙◌, Some, None, Ok, Err, take}
+use Rattle.std.specs.Prelude.{slice_get, option_and_then}
+use Rattle.round.specs.Scenario.{Scenario, IsScenario}
+use Rattle.world.specs.declared.schedule.Repeat.{Repeat}
+use Rattle.world.specs.Kind.{Kind, World, opening}
+use Rattle.world.specs.KindLists.{listed, replayed}
+use Rattle.world.specs.Schedules.{lines_by}
+use Rattle.world.specs.World.{oral_kind}
+use Rattle.world.proofs.Campaigns.{oral_campaigns}
+use Rattle.explore.specs.Orders.{will_ask, past, behind, IsRoundFrom, IsFrom, IsOrder, order_of}
+use Rattle.explore.specs.Text.{schedule_text}
+use Rattle.explore.specs.Walks.{IsWalk, AreWalks, IsStuckAt, IsStuckIn, IsCompletion}
+use Rattle.explore.specs.Planning.{IsPlan}
+use Rattle.explore.specs.declared.scheduled.Scheduled.TheVariants.{By}
+use Rattle.explore.proofs.Deciding.{to_steps}
+use Rattle.explore.proofs.Leading.{replay_completes}
+use Rattle.retracing.specs.Accesses.{accesses_told}
+use Rattle.retracing.specs.Arranged.{BeginsSo, IsArranged, IsFirstThatCannot, IsListedAt, IsNever, IsUnarranged, until}
+use Rattle.retracing.specs.declared.fault.AccessFault.{AccessFault}
+use Rattle.retracing.specs.declared.fault.AccessFault.TheVariants.{Text, Never}
+
+module _ (K : Kind) where
+  -- who comes before the one who is stuck walks
+  line_before : (w : World) (names : List ℕ) (place : ℕ) → IsStuckAt K w names place → IsWalk K w (take place names)
+  line_before w [] place s = absurd s
+  line_before w (g ∷ names) zero s = tt
+  line_before w (g ∷ names) (suc place) s = (s.0, line_before (past K w g) names place s.1)
+
+  before_stuck : (w : World) (rows : List (List ℕ)) (round place : ℕ) → IsStuckIn K w rows round place → AreWalks K w (until rows round place)
+  before_stuck w [] round place s = absurd s
+  before_stuck w (names ∷ rows) zero place s = (line_before w names place s, tt)
+  before_stuck w (names ∷ rows) (suc round) place s = (s.0, before_stuck (behind K w names) rows round place s.1)
+
+  -- and with him no round begins
+  line_stuck : (w : World) (names rest : List ℕ) (place : ℕ) → IsStuckAt K w names place → IsRoundFrom K w (take (suc place) names ++ rest) → ⊥
+  line_stuck w [] rest place s h = s
+  line_stuck w (g ∷ names) rest zero s h = (let f = sym s ∙ h.0 in let c : false ≡ true = f in cc)
+  line_stuck w (g ∷ names) rest (suc place) s h = line_stuck (past K w g) names rest place s.1 h.1
+
+  never_from : (k : ℕ) (w : World) (rows order : List (List ℕ)) (round place : ℕ) → IsFrom K w k order → IsStuckIn K w rows round place → BeginsSo rows round place order → ⊥
+  never_from k w [] order round place h s b = s
+  never_from k w (names ∷ rows) [] zero place h s b = b
+  never_from k w (names ∷ rows) [] (suc round) place h s b = b
+  never_from zero w (names ∷ rows) (row ∷ order) round place h s b = (let c : row ∷ order ≡ [] = h in cc)
+  never_from (suc k) w (names ∷ rows) (row ∷ order) zero place h s b =
+      (let A : List ℕ → Type 0 = λ l. IsRoundFrom K w l in line_stuck w names b.0 place s (subst A b.1 h.0))
+  never_from (suc k) w (names ∷ rows) (row ∷ order) (suc round) place h s b =
+      (let A : List ℕ → Type 0 = λ l. IsFrom K (behind K w l) k order in never_from k (behind K w names) rows order round place (subst A b.0 h.1) s.1 b.1)
+
+  -- he is one of the list
+  line_there : (w : World) (names : List ℕ) (place : ℕ) → IsStuckAt K w names place → (g : ℕ) × (slice_get names place ≡ Some g)
+  line_there w [] place s = absurd s
+  line_there w (g ∷ names) zero s = (g, refl)
+  line_there w (g ∷ names) (suc place) s = line_there (past K w g) names place s.1
+
+  pub stuck_there : (w : World) (rows : List (List ℕ)) (round place : ℕ) → IsStuckIn K w rows round place → IsListedAt rows round place
+  stuck_there w [] round place s = absurd s
+  stuck_there w (names ∷ rows) zero place s = line_there w names place s
+  stuck_there w (names ∷ rows) (suc round) place s = stuck_there (behind K w names) rows round place s.1
+
+pub first_that_cannot : (s : Scenario) (rows : List (List ℕ)) (round place : ℕ) → IsScenario s → IsStuckIn oral_kind (opening oral_kind s) rows round place → IsFirstThatCannot s rows round place
+first_that_cannot s rows round place is h = record {
+  stuck = h;
+  before = replay_completes oral_kind s (until rows round place) (oral_campaigns s is) (before_stuck oral_kind (opening oral_kind s) rows round place h);
+  never = λ order o b. never_from oral_kind (suc s.bound) (opening oral_kind s) rows order round place (to_steps oral_kind oral_campaigns s order is o) h b;
+}
+
+pub arranged_by : (s : Scenario) (text : List ℕ) (rows : List (List ℕ)) (schedule : List (List Repeat)) (lines : List ℕ) → accesses_told text ≡ Ok rows
+    → IsPlan oral_kind s rows (By schedule) → lines ≡ schedule_text schedule → IsArranged s text lines
+arranged_by s text rows schedule lines told plan written = (rows, told, record { schedule = schedule; written = written; comes = plan.1 })
+
+pub unarranged_by : (s : Scenario) (text : List ℕ) (rows : List (List ℕ)) (round place : ℕ) (fault : AccessFault) → IsScenario s → accesses_told text ≡ Ok rows
+    → IsStuckIn oral_kind (opening oral_kind s) rows round place → IsNever rows round place fault → IsUnarranged s text fault
+unarranged_by s text rows round place (Text r p) is told stuck never = absurd never
+unarranged_by s text rows round place (Never r p general) is told stuck never = (rows, told, (round, (place, never, first_that_cannot s rows round place is stuck)))

@@ -1,0 +1,41 @@
+-- Accesses that are listed: which generals come to the board, in which order (own).
+use Rattle.std.specs.Prelude.{ℕ, suc, nat_lt, if◌then◌else◌, List, [], ◌∷◌, ◌++◌, length, Option, Some, None, Result, Ok, Err}
+use Rattle.text.specs.declared.stop.Stop.{Stop}
+use Rattle.text.specs.declared.stop.Stop.TheVariants.{Byte}
+use Rattle.text.specs.Options.{◌>>=◌}
+use Rattle.text.specs.Stop.{space}
+use Rattle.text.specs.Parts.{pieces}
+use Rattle.text.specs.Number.{decimal_of}
+use Rattle.retracing.specs.declared.fault.AccessFault.{AccessFault}
+use Rattle.retracing.specs.declared.fault.AccessFault.TheVariants.{Text}
+
+abbrev pub slash : Stop
+slash = Byte 47
+
+-- the number of a general
+unfoldable pub general_of : List ℕ → Option ℕ
+general_of part = decimal_of part >>= λ n. if nat_lt n 13 then Some n else None
+
+-- the generals of a round's parts, behind those before, where a part between two spaces may be empty; else the first part that is no
+-- number of a general, in this round
+abbrev pub with_general : ℕ → List ℕ → Option ℕ → (ℕ → Result (List ℕ) AccessFault) → Result (List ℕ) AccessFault
+with_general round before None rest = Err (Text round (suc (length before)))
+with_general round before (Some general) rest = rest general
+
+abbrev pub row_told : ℕ → List ℕ → List (List ℕ) → Result (List ℕ) AccessFault
+row_told round before [] = Ok before
+row_told round before ([] ∷ parts) = row_told round before parts
+row_told round before ((c ∷ cs) ∷ parts) = with_general round before (general_of (c ∷ cs)) (λ general. row_told round (before ++ general ∷ []) parts)
+
+-- the rounds from this one on, behind those before: a sixth one is none
+abbrev pub with_row : ℕ → Result (List ℕ) AccessFault → (List ℕ → Result (List (List ℕ)) AccessFault) → Result (List (List ℕ)) AccessFault
+with_row round (Err fault) rest = Err fault
+with_row round (Ok row) rest = if nat_lt 5 round then Err (Text round 1) else rest row
+
+abbrev pub rows_told : List (List ℕ) → ℕ → List (List ℕ) → Result (List (List ℕ)) AccessFault
+rows_told before round [] = Ok before
+rows_told before round (part ∷ parts) = with_row round (row_told round [] (pieces space part)) (λ row. rows_told (before ++ row ∷ []) (suc round) parts)
+
+-- what a text lists: rounds parted by slashes, in each the generals who come, parted by spaces
+unfoldable pub accesses_told : List ℕ → Result (List (List ℕ)) AccessFault
+accesses_told text = rows_told [] 1 (pieces slash text)

@@ -1,0 +1,66 @@
+-- Schedules by which a campaign has listed accesses (own).
+use Rattle.std.specs.Prelude.{ℕ, zero, suc, ◌≡◌, List, [], ◌∷◌, ◌++◌, Option, Some, Ok, Err, option_and_then, slice_get, take}
+use Rattle.round.specs.Scenario.{Scenario}
+use Rattle.world.specs.declared.schedule.Repeat.{Repeat}
+use Rattle.world.specs.Kind.{opening}
+use Rattle.world.specs.KindLists.{listed, replayed}
+use Rattle.world.specs.Schedules.{lines_by}
+use Rattle.world.specs.World.{oral_kind}
+use Rattle.explore.specs.Orders.{IsOrder, order_of}
+use Rattle.explore.specs.Text.{schedule_text}
+use Rattle.explore.specs.Walks.{AreWalks, IsCompletion, IsStuckIn}
+use Rattle.retracing.specs.declared.fault.AccessFault.{AccessFault}
+use Rattle.retracing.specs.declared.fault.AccessFault.TheVariants.{Text, Never}
+use Rattle.retracing.specs.declared.fault.AccessesError.{AccessesError}
+use Rattle.retracing.specs.declared.fault.AccessesError.TheVariants.{At, Memory}
+use Rattle.retracing.specs.Accesses.{accesses_told}
+
+-- the rounds before one, and of it the accesses before a place, both from 0
+abbrev pub until : List (List ℕ) → ℕ → ℕ → List (List ℕ)
+until [] round place = []
+until (names ∷ rows) zero place = take place names ∷ []
+until (names ∷ rows) (suc round) place = names ∷ until rows round place
+
+-- who is listed there
+abbrev pub listed_at : List (List ℕ) → ℕ → ℕ → Option ℕ
+listed_at rows round place = option_and_then (λ row. slice_get row place) (slice_get rows round)
+
+-- an order has the rounds before this one, and begins it with the accesses up to this place
+abbrev pub BeginsSo : List (List ℕ) → ℕ → ℕ → List (List ℕ) → Type 0
+BeginsSo (names ∷ rows) zero place (row ∷ order) = (rest : List ℕ) × (row ≡ take (suc place) names ++ rest)
+BeginsSo (names ∷ rows) (suc round) place (row ∷ order) = (row ≡ names) × BeginsSo rows round place order
+BeginsSo _ _ _ _ = ⊥
+
+-- the accesses before this one can come, with it they cannot: he is to make none then, and no complete run has it there
+pub record IsFirstThatCannot (s : Scenario) (rows : List (List ℕ)) (round place : ℕ) : Type 0 where
+  pub stuck : IsStuckIn oral_kind (opening oral_kind s) rows round place
+  pub before : IsCompletion (until rows round place) (order_of oral_kind s (replayed oral_kind s (until rows round place)))
+  pub never : (order : List (List ℕ)) → IsOrder oral_kind s order → BeginsSo rows round place order → ⊥
+
+-- the lines are the text of a schedule by which the accesses come in this order in each round, and behind them the others' by number
+pub record IsArrangement (s : Scenario) (rows : List (List ℕ)) (lines : List ℕ) : Type 0 where
+  pub schedule : List (List Repeat)
+  pub written : lines ≡ schedule_text schedule
+  pub comes : IsCompletion rows (order_of oral_kind s (listed s (lines_by schedule)))
+
+abbrev pub IsArranged : Scenario → List ℕ → List ℕ → Type 0
+IsArranged s text lines = (rows : List (List ℕ)) × (accesses_told text ≡ Ok rows) × IsArrangement s rows lines
+
+abbrev pub IsListedAt : List (List ℕ) → ℕ → ℕ → Type 0
+IsListedAt rows round place = (general : ℕ) × (listed_at rows round place ≡ Some general)
+
+-- the fault of the access at this place of this round, both from 0
+abbrev pub IsNever : List (List ℕ) → ℕ → ℕ → AccessFault → Type 0
+IsNever rows r p (Text round place) = ⊥
+IsNever rows r p (Never round place general) = (round ≡ suc r) × (place ≡ suc p) × (listed_at rows r p ≡ Some general)
+
+-- the text lists no accesses, by this first fault, or this is the first that cannot come: the round and the place from 1
+abbrev pub IsUnarranged : Scenario → List ℕ → AccessFault → Type 0
+IsUnarranged s text (Text round place) = accesses_told text ≡ Err (Text round place)
+IsUnarranged s text (Never round place general) = (rows : List (List ℕ)) × (accesses_told text ≡ Ok rows)
+    × ((r : ℕ) × ((p : ℕ) × IsNever rows r p (Never round place general) × IsFirstThatCannot s rows r p))
+
+-- the error is such a fault, or want of memory
+abbrev pub IfFault : AccessesError → (AccessFault → Type 0) → Type 0
+IfFault (At fault) P = P fault
+IfFault Memory P = Unit {0}

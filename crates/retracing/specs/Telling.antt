@@ -1,0 +1,14 @@
+-- What is said of a fault of listed accesses: its code and its place.
+use Rattle.std.specs.Prelude.{ℕ, List, ◌++◌, codes, decimal}
+use Rattle.retracing.specs.declared.fault.AccessFault.{AccessFault}
+use Rattle.retracing.specs.declared.fault.AccessFault.TheVariants.{Text, Never}
+use Rattle.retracing.specs.declared.fault.AccessesError.{AccessesError}
+use Rattle.retracing.specs.declared.fault.AccessesError.TheVariants.{At, Memory}
+
+abbrev pub fault_told : AccessFault → List ℕ
+fault_told (Text round place) = codes "X5 round " ++ decimal round ++ codes " access " ++ decimal place
+fault_told (Never round place general) = codes "X6 round " ++ decimal round ++ codes " access " ++ decimal place ++ codes " general " ++ decimal general
+
+abbrev pub told : AccessesError → List ℕ
+told (At fault) = fault_told fault
+told Memory = codes "out of memory"

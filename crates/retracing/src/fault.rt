@@ -1,0 +1,65 @@
+ghost use Rattle.std.specs.Prelude.{◌≡◌};
+ghost use Rattle.retracing.specs.declared.fault.AccessesError.TheVariants.{Memory};
+
+use std::alloc::{AllocError, AllocFailed};
+use std::error::Error;
+use std::fmt;
+
+/// What is wrong with a text that lists accesses.
+#[derive(Clone, Copy, Debug, PartialEq, Eq, Drop)]
+pub enum AccessFault {
+    /// In this round the part at this place is no number of a general, 0 to 12; or it is a sixth round. Both count from 1.
+    Text(u64, u64),
+    /// In this round the access at this place, of this general, is the first that cannot come there. Both count from 1.
+    Never(u64, u64, u8),
+}
+
+impl fmt::Display for AccessFault {
+    ghost use Rattle.std.specs.Prelude.{Some};
+    ghost use Rattle.retracing.specs.Telling.{fault_told};
+
+    ghost output = { λ fault. Some (fault_told fault) };
+
+    fn fmt<W: fmt::Write>(&self, f: &mut fmt::Formatter<W>) -> fmt::Result {
+        match self {
+            AccessFault::Text(round, place) => write!(f, "X5 round {round} access {place}"),
+            AccessFault::Never(round, place, general) => {
+                write!(f, "X6 round {round} access {place} general {general}")
+            }
+        }
+    }
+}
+
+impl Error for AccessFault {}
+
+/// Why there is no schedule of listed accesses.
+#[derive(Clone, Copy, Debug, PartialEq, Eq, Drop)]
+pub enum AccessesError {
+    /// The first fault.
+    At(AccessFault),
+    Memory,
+}
+
+impl fmt::Display for AccessesError {
+    ghost use Rattle.std.specs.Prelude.{Some};
+    ghost use Rattle.retracing.specs.Telling.{told};
+
+    ghost output = { λ error. Some (told error) };
+
+    fn fmt<W: fmt::Write>(&self, f: &mut fmt::Formatter<W>) -> fmt::Result {
+        match self {
+            AccessesError::At(fault) => write!(f, "{fault}"),
+            AccessesError::Memory => f.write_str("out of memory"),
+        }
+    }
+}
+
+impl Error for AccessesError {}
+
+impl From<AllocError> for AccessesError {
+    ghost from_gives = { λ _ e. e ≡ Memory };
+
+    fn from(_error: AllocError) -> AccessesError {
+        AccessesError::Memory
+    }
+}
