@@ -1,7 +1,6 @@
 #!/bin/sh
-# A part of a survey for each task of a job array: `sbatch --array=0-K survey.sbatch N WORDS`, WORDS those of
-# `./byzlab survey`. Task T plays N seeds from T N + 1 on; its lines are parts/SEED.jsonl, by the first, once all are there.
-#SBATCH --job-name=survey
+# `sbatch --array=0-K survey.sbatch N WORDS`: task T plays N seeds from T N + 1 on of the family of WORDS.
+# Its lines are parts/SEED.jsonl, by the first seed, once all are there.
 #SBATCH --cpus-per-task=4
 #SBATCH --requeue
 #SBATCH --output=survey-%A-%a.log
