@@ -1,8 +1,9 @@
 -- What a campaign comes to: the verdict of the chronicle that `play` gives of it, with no schedule.
-use Rattle.std.specs.Prelude.{ℕ, ◌≡◌, List, [], length, Err}
+use Rattle.std.specs.Prelude.{ℕ, ◌≡◌, ◌≢◌, ◌≤◌, ◌<◌, List, [], length, Err}
 use Rattle.toml.specs.Parse.{parse_document}
 use Rattle.scenario.specs.Told.{ReadsAny, TellsAny}
 use Rattle.scenario.specs.declared.fault.ScenarioError.{ScenarioError}
+use Rattle.scenario.specs.declared.fault.ScenarioError.TheVariants.{Memory}
 use Rattle.scenario.specs.declared.messages.Campaign.{Campaign}
 use Rattle.scenario.specs.declared.messages.Campaign.TheVariants.{Oral, Signed}
 use Rattle.signed.specs.Chronicle.{signed_chronicle_of}
@@ -16,7 +17,7 @@ use Rattle.survey.specs.declared.finding.Finding.{Finding}
 use Rattle.survey.specs.Family.{Family}
 use Rattle.survey.specs.Plot.{Plot}
 use Rattle.survey.specs.Plotting.{plot_of}
-use Rattle.survey.specs.Wording.{plot_text}
+use Rattle.survey.specs.Wording.{campaign_text, plot_text}
 
 -- the verdict on a campaign by the empty schedule
 abbrev pub verdict_in : Campaign → Verdict
@@ -45,3 +46,14 @@ pub record IsFound (p : Plot) (by : ℕ) (found : Finding) : Type 0 where
 -- of the campaign of a family that the seed gives
 abbrev pub IsFindingOf : Family → ℕ → Finding → Type 0
 IsFindingOf f seed found = IsFound (plot_of f seed) seed found
+
+-- its text is refused so, but for want of memory
+abbrev pub IsRefusedBy : Family → ℕ → ScenarioError → Type 0
+IsRefusedBy f seed e = e ≢ Memory → IsRefused (campaign_text f seed) e
+
+-- that of one of the seeds from the first up to the end, without that
+pub record IsRefusedIn (f : Family) (first end : ℕ) (e : ScenarioError) : Type 0 where
+  pub seed : ℕ
+  pub behind : first ≤ seed
+  pub before : seed < end
+  pub refused : IsRefused (campaign_text f seed) e

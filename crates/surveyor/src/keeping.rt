@@ -1,9 +1,10 @@
 //! Campaigns that are kept in a folder.
 use crate::telling::Fault;
-use std::fs::{File, rename};
+use std::fs::{File, remove_file, rename};
 use std::io::{self, ErrorKind, Write};
 
-/// Writes the campaign of a seed to FOLDER/SEED.toml: beside it first, so that no half of it ever stands there.
+/// Writes the campaign of a seed to FOLDER/SEED.toml: beside it first, so that no half of it ever stands there;
+/// where that fails, nothing is left.
 ///
 /// # Errors
 ///
@@ -15,7 +16,10 @@ pub fn keep(rt: &HostRuntime, folder: &str, seed: u64, text: &str) -> Result<(),
     match written(rt, beside.as_str(), name.as_str(), text) {
         Ok(()) => Ok(()),
         Err(error) if error.kind() == ErrorKind::OutOfMemory => Err(Fault::Memory),
-        Err(_) => Err(Fault::Unwritten(Some(name))),
+        Err(_) => {
+            let _ = remove_file(rt, beside.as_str());
+            Err(Fault::Unwritten(Some(name)))
+        }
     }
 }
 

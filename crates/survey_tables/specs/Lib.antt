@@ -1,0 +1,4 @@
+pub mod Covering
+pub mod Groups
+pub mod Tables
+pub mod Pictures
