@@ -9,8 +9,8 @@ use Rattle.scenario.specs.declared.fault.ScenarioError.{ScenarioError}
 use Rattle.survey.specs.Family.{Family}
 use Rattle.survey.specs.Plotting.{plot_of}
 use Rattle.shrink.specs.declared.breach.Breach.{Breach}
-use Rattle.shrink.specs.Shrinking.{AreAlike}
-use Rattle.shrink.specs.Breaches.{AreAllAlike, IsLeastBreach, IsShrunk}
+use Rattle.shrink.specs.Shrinking.{ComesWell}
+use Rattle.shrink.specs.Breaches.{AreAllSound, IsLeastBreach, IsShrunk}
 
 -- what holds of a number and of its result, if it is good
 abbrev pub Gives : (ℕ → Option Breach → Type 0) → ℕ → Result (Option Breach) ScenarioError → Type 0
@@ -29,20 +29,20 @@ all_found R seeds rs (Ok c) h m = subst (AllZip R seeds) (sym m.2) (all_good R s
 all_found R seeds rs (Err e) h m = tt
 
 -- where nothing is left of any of them, agreement is broken in none
-alike_one : (f : Family) (seed : ℕ) (o : Option Breach) → o ≡ None → IsShrunk f seed o → AreAlike (plot_of f seed)
-alike_one f seed None e h = h
-alike_one f seed (Some b) e h = absurd (cc)
+sound_one : (f : Family) (seed : ℕ) (o : Option Breach) → o ≡ None → IsShrunk f seed o → ComesWell (plot_of f seed)
+sound_one f seed None e h = h
+sound_one f seed (Some b) e h = absurd (cc)
 
-all_alike : (f : Family) (a n : ℕ) (all : List (Option Breach)) → AllZip (IsShrunk f) (range_with_len a n) all → All (λ o. o ≡ None) all → (seed : ℕ) → a ≤ seed → seed < a + n → AreAlike (plot_of f seed)
-all_alike f a zero all h none seed low high = absurd (omega arith)
-all_alike f a (suc n) [] h none seed low high = absurd h
-all_alike f a (suc n) (o ∷ os) h none seed low high = ⊎_elim
-    (λ e. subst (λ x. AreAlike (plot_of f x)) e (alike_one f a o (All-head (λ o. o ≡ None) o os none) h.0))
-    (λ lt. all_alike f (a + 1) n os h.1 (All-tail (λ o. o ≡ None) o os none) seed (omega arith) (omega arith))
+all_sound : (f : Family) (a n : ℕ) (all : List (Option Breach)) → AllZip (IsShrunk f) (range_with_len a n) all → All (λ o. o ≡ None) all → (seed : ℕ) → a ≤ seed → seed < a + n → ComesWell (plot_of f seed)
+all_sound f a zero all h none seed low high = absurd (omega arith)
+all_sound f a (suc n) [] h none seed low high = absurd h
+all_sound f a (suc n) (o ∷ os) h none seed low high = ⊎_elim
+    (λ e. subst (λ x. ComesWell (plot_of f x)) e (sound_one f a o (All-head (λ o. o ≡ None) o os none) h.0))
+    (λ lt. all_sound f (a + 1) n os h.1 (All-tail (λ o. o ≡ None) o os none) seed (omega arith) (omega arith))
     (first_or_later a seed low)
   where
     first_or_later : (a seed : ℕ) → a ≤ seed → (a ≡ seed) ⊎ (a < seed)
     first_or_later a seed low = grind arith
 
-pub none_broken : (f : Family) (first end : ℕ) → IsLeastBreach f first end None → AreAllAlike f first end
-none_broken f first end h = λ seed low high. all_alike f first (end - first) h.all h.shrunk h.least seed low (omega arith)
+pub none_broken : (f : Family) (first end : ℕ) → IsLeastBreach f first end None → AreAllSound f first end
+none_broken f first end h = λ seed low high. all_sound f first (end - first) h.all h.shrunk h.least seed low (omega arith)

@@ -16,7 +16,7 @@ less_size p (loyal place lt) =
     let parts = sum_by-append weight (take place p.traitors) (drop (suc place) p.traitors) in
     let whole = sum_by-take-drop weight p.traitors place in
     let first : sum_by weight (drop place p.traitors) ≡ weight (get_or p.traitors place nobody) + sum_by weight (drop (place + 1) p.traitors) =
-        sum_by-drop_more weight p.traitors place nobody lt in
+    sum_by-drop_more weight p.traitors place nobody lt in
     let next : sum_by weight (drop (place + 1) p.traitors) ≡ sum_by weight (drop (suc place) p.traitors) = ap (λ n. sum_by weight (drop n p.traitors)) (add-one place) in
     omega arith
 less_size p (silent place index lt within) =

@@ -39,6 +39,7 @@ other_bounds a b l (Some c) h = not_between c a b h l
   where
     between : (t s e u v w x y z : ℕ) → is_below t s e x y z ≡ false → is_below x y z u v w ≡ false → is_below t s e u v w ≡ false
     between t s e u v w x y z p q = grind (arith, nat_tests)
+
     not_between : (c a b : Breach) → is_before c b ≡ false → is_before b a ≡ false → is_before c a ≡ false
     not_between c a b p q =
         between (length c.plot.traitors) (statements c.plot) c.seed (length a.plot.traitors) (statements a.plot) a.seed (length b.plot.traitors) (statements b.plot) b.seed p q

@@ -8,7 +8,7 @@ use Rattle.survey.specs.Plot.{Plot, Traitor}
 use Rattle.survey.specs.Plotting.{plot_of}
 use Rattle.shrink.specs.declared.breach.Breach.{Breach}
 use Rattle.shrink.specs.declared.breach.Breaking.{Breaking}
-use Rattle.shrink.specs.Shrinking.{AreAlike, IsLeast, IsPartOf}
+use Rattle.shrink.specs.Shrinking.{ComesWell, IsLeast, IsPartOf}
 
 -- how many statements the traitors have
 abbrev pub statements : Plot → ℕ
@@ -27,9 +27,9 @@ pub record IsBreachOf (f : Family) (by : ℕ) (b : Breach) : Type 0 where
   pub least : IsLeast b.plot
   pub part : IsPartOf (plot_of f by) b.plot
 
--- the same, or that its loyal lieutenants decide alike
+-- the same, or that nothing is broken in it
 abbrev pub IsShrunk : Family → ℕ → Option Breach → Type 0
-IsShrunk f seed found = MatchOption found (AreAlike (plot_of f seed)) (IsBreachOf f seed)
+IsShrunk f seed found = MatchOption found (ComesWell (plot_of f seed)) (IsBreachOf f seed)
 
 -- one of these, before which none comes; none where there is none
 abbrev pub IsLeastOf : List (Option Breach) → Option Breach → Type 0
@@ -55,17 +55,17 @@ only n = record { low = n; high = n }
 abbrev pub narrowed : Family → ℕ → ℕ → ℕ → Family
 narrowed f n m t = record f { generals = only n; bound = only m; traitors = only t }
 
--- agreement is broken in none of the campaigns of these seeds
-abbrev pub AreAllAlike : Family → ℕ → ℕ → Type 0
-AreAllAlike f first end = (seed : ℕ) → first ≤ seed → seed < end → AreAlike (plot_of f seed)
+-- none of the campaigns of these seeds is broken
+abbrev pub AreAllSound : Family → ℕ → ℕ → Type 0
+AreAllSound f first end = (seed : ℕ) → first ≤ seed → seed < end → ComesWell (plot_of f seed)
 
 -- fewer traitors of the span break it in none, these in the one of which this is left
 pub record IsBreaking (f : Family) (n m : ℕ) (span : Span) (first end : ℕ) (b : Breaking) : Type 0 where
   pub within : span.low ≤ b.traitors
   pub inside : b.traitors ≤ span.high
   pub least : IsLeastBreach (narrowed f n m b.traitors) first end (Some b.breach)
-  pub fewer : (t : ℕ) → span.low ≤ t → t < b.traitors → AreAllAlike (narrowed f n m t) first end
+  pub fewer : (t : ℕ) → span.low ≤ t → t < b.traitors → AreAllSound (narrowed f n m t) first end
 
 -- no number of traitors of the span breaks it
 abbrev pub NoneBreaks : Family → ℕ → ℕ → Span → ℕ → ℕ → Type 0
-NoneBreaks f n m span first end = (t : ℕ) → span.low ≤ t → t ≤ span.high → AreAllAlike (narrowed f n m t) first end
+NoneBreaks f n m span first end = (t : ℕ) → span.low ≤ t → t ≤ span.high → AreAllSound (narrowed f n m t) first end

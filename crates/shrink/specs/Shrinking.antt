@@ -4,17 +4,18 @@ use Rattle.std.specs.List.{remove}
 use Rattle.world.specs.declared.verdict.Verdict.{Verdict}
 use Rattle.survey.specs.Judging.{IsJudged}
 use Rattle.survey.specs.Plot.{Plot, Traitor}
+use Rattle.survey.specs.Sums.{is_sound}
 use Rattle.survey.specs.Wording.{plot_text}
 
--- whether its loyal lieutenants decide alike, by `play`
-abbrev pub Decides : Bool → Plot → Type 0
-Decides alike p = (v : Verdict) × IsJudged (plot_text p) v × (v.alike ≡ alike)
+-- whether its loyal lieutenants decide alike, and as a loyal commander has ordered, by `play`
+abbrev pub Comes : Bool → Plot → Type 0
+Comes well p = (v : Verdict) × IsJudged (plot_text p) v × (is_sound v ≡ well)
 
-abbrev pub AreAlike : Plot → Type 0
-AreAlike p = Decides true p
+abbrev pub ComesWell : Plot → Type 0
+ComesWell p = Comes true p
 
-abbrev pub AreBroken : Plot → Type 0
-AreBroken p = Decides false p
+abbrev pub IsBroken : Plot → Type 0
+IsBroken p = Comes false p
 
 -- nobody
 abbrev pub nobody : Traitor
@@ -51,22 +52,22 @@ size p = sum_by (λ (t : Traitor). length t.lies + 1) p.traitors
 
 -- without any one of its traitors it is well
 abbrev pub TraitorsAreNeeded : Plot → Type 0
-TraitorsAreNeeded p = (place : ℕ) → place < length p.traitors → AreAlike (without_traitor p place)
+TraitorsAreNeeded p = (place : ℕ) → place < length p.traitors → ComesWell (without_traitor p place)
 
 -- without any one of the statements of the traitor at this place
 abbrev pub LiesAreNeeded : Plot → ℕ → Type 0
-LiesAreNeeded p place = (index : ℕ) → index < length (traitor_at p place).lies → AreAlike (without_lie p place index)
+LiesAreNeeded p place = (index : ℕ) → index < length (traitor_at p place).lies → ComesWell (without_lie p place index)
 
 abbrev pub AllLiesAreNeeded : Plot → Type 0
 AllLiesAreNeeded p = (place : ℕ) → place < length p.traitors → LiesAreNeeded p place
 
--- its loyal lieutenants decide unlike, and would decide alike without any one of its traitors, or of what they say
+-- it is broken, and would not be without any one of its traitors, or of their statements
 pub record IsLeast (p : Plot) : Type 0 where
-  pub broken : AreBroken p
+  pub broken : IsBroken p
   pub traitors : TraitorsAreNeeded p
   pub lies : AllLiesAreNeeded p
 
--- less of the campaign, whose loyal lieutenants decide unlike still
+-- less of the campaign, and it is broken still
 pub record IsStillBroken (p q : Plot) : Type 0 where
   pub less : IsLess p q
-  pub broken : AreBroken q
+  pub broken : IsBroken q

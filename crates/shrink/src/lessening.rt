@@ -1,11 +1,11 @@
 //! Campaigns with a traitor or a statement less.
 ghost use Rattle.std.specs.Prelude.{◌≡◌, ◌<◌, IfOk, IfSome, IfNone, length};
-ghost use Rattle.shrink.specs.Shrinking.{AllLiesAreNeeded, AreBroken, Decides, IsPartOf, IsStillBroken, LiesAreNeeded, TraitorsAreNeeded, traitor_at, without_lie, without_traitor};
+ghost use Rattle.shrink.specs.Shrinking.{AllLiesAreNeeded, Comes, IsBroken, IsPartOf, IsStillBroken, LiesAreNeeded, TraitorsAreNeeded, traitor_at, without_lie, without_traitor};
 
 use crate::copying::copied;
 use scenario::ScenarioError;
 use std::alloc::{AllocError, Global};
-use survey::{Plot, plot_text, verdict_on};
+use survey::{Plot, is_sound, plot_text, verdict_on};
 
 /// The campaign in which the traitor at this place is loyal.
 fn without_traitor(alloc: Global, plot: &Plot, place: usize) -> Result<Plot, AllocError>
@@ -28,29 +28,30 @@ fn without_lie(alloc: Global, plot: &Plot, place: usize, index: usize) -> Result
     Ok(less)
 }
 
-/// Whether the loyal lieutenants of the campaign decide alike.
-pub(crate) fn are_alike(alloc: Global, plot: &Plot) -> Result<bool, ScenarioError>
-    ensures { IfOk result (λ alike. Decides alike plot.now) }
+/// Whether the loyal lieutenants of the campaign decide alike, and as a loyal commander has ordered.
+pub(crate) fn comes_well(alloc: Global, plot: &Plot) -> Result<bool, ScenarioError>
+    ensures { IfOk result (λ well. Comes well plot.now) }
 {
     let text = plot_text(alloc, plot)?;
-    Ok(verdict_on(alloc, text.as_str())?.alike)
+    let verdict = verdict_on(alloc, text.as_str())?;
+    Ok(is_sound(verdict))
 }
 
-/// The campaign without the first traitor without whom its lieutenants still decide unlike.
+/// The campaign without the first traitor without whom it is still broken.
 fn fewer_traitors(alloc: Global, plot: &Plot) -> Result<Option<Plot>, ScenarioError>
     ensures some { IfOk result (λ less. IfSome less (IsStillBroken plot.now)) }
     ensures none { IfOk result (λ less. IfNone less (TraitorsAreNeeded plot.now)) }
 {
     for place in 0..plot.traitors.len() {
         let less = without_traitor(alloc, plot, place)?;
-        if !are_alike(alloc, &less)? {
+        if !comes_well(alloc, &less)? {
             return Ok(Some(less));
         }
     }
     Ok(None)
 }
 
-/// The campaign without the first statement of the traitor at this place without which its lieutenants still decide unlike.
+/// The campaign without the first statement of the traitor at this place without which it is still broken.
 fn fewer_lies_of(alloc: Global, plot: &Plot, place: usize) -> Result<Option<Plot>, ScenarioError>
     requires { place < length plot.now.traitors }
     ensures some { IfOk result (λ less. IfSome less (IsStillBroken plot.now)) }
@@ -58,14 +59,14 @@ fn fewer_lies_of(alloc: Global, plot: &Plot, place: usize) -> Result<Option<Plot
 {
     for index in 0..plot.traitors[place].lies.len() {
         let less = without_lie(alloc, plot, place, index)?;
-        if !are_alike(alloc, &less)? {
+        if !comes_well(alloc, &less)? {
             return Ok(Some(less));
         }
     }
     Ok(None)
 }
 
-/// The campaign without the first statement without which its lieutenants still decide unlike.
+/// The campaign without the first statement without which it is still broken.
 fn fewer_lies(alloc: Global, plot: &Plot) -> Result<Option<Plot>, ScenarioError>
     ensures some { IfOk result (λ less. IfSome less (IsStillBroken plot.now)) }
     ensures none { IfOk result (λ less. IfNone less (AllLiesAreNeeded plot.now)) }
@@ -79,7 +80,7 @@ fn fewer_lies(alloc: Global, plot: &Plot) -> Result<Option<Plot>, ScenarioError>
     Ok(None)
 }
 
-/// The campaign with one traitor or statement less, where its lieutenants still decide unlike.
+/// The campaign with one traitor or statement less, where it is still broken.
 pub(crate) fn less(alloc: Global, plot: &Plot) -> Result<Option<Plot>, ScenarioError>
     ensures some { IfOk result (λ less. IfSome less (IsStillBroken plot.now)) }
     ensures traitors { IfOk result (λ less. IfNone less (TraitorsAreNeeded plot.now)) }
@@ -92,10 +93,10 @@ pub(crate) fn less(alloc: Global, plot: &Plot) -> Result<Option<Plot>, ScenarioE
     fewer_lies(alloc, plot)
 }
 
-/// The campaign without each traitor without whom, the later ones being there, its lieutenants still decide unlike.
+/// The campaign without each traitor without whom, the later ones being there, it is still broken.
 pub(crate) fn fewest_traitors(alloc: Global, plot: Plot) -> Result<Plot, ScenarioError>
-    requires { AreBroken plot }
-    ensures broken { IfOk result AreBroken }
+    requires { IsBroken plot }
+    ensures broken { IfOk result IsBroken }
     ensures part { IfOk result (IsPartOf plot) }
 {
     let mut left = plot;
@@ -103,7 +104,7 @@ pub(crate) fn fewest_traitors(alloc: Global, plot: Plot) -> Result<Plot, Scenari
     for _ in 0..left.traitors.len() {
         if place < left.traitors.len() {
             let less = without_traitor(alloc, &left, place)?;
-            if are_alike(alloc, &less)? {
+            if comes_well(alloc, &less)? {
                 place += 1;
             } else {
                 left = less;
@@ -113,12 +114,12 @@ pub(crate) fn fewest_traitors(alloc: Global, plot: Plot) -> Result<Plot, Scenari
     Ok(left)
 }
 
-/// The campaign without each statement of the traitor at this place without which, the later ones being said, its lieutenants
-/// still decide unlike.
+/// The campaign without each statement of the traitor at this place without which, the later ones being said, it is still
+/// broken.
 fn fewest_lies_of(alloc: Global, plot: Plot, place: usize) -> Result<Plot, ScenarioError>
     requires place { place < length plot.traitors }
-    requires broken { AreBroken plot }
-    ensures broken { IfOk result AreBroken }
+    requires broken { IsBroken plot }
+    ensures broken { IfOk result IsBroken }
     ensures part { IfOk result (IsPartOf plot) }
 {
     let mut left = plot;
@@ -126,7 +127,7 @@ fn fewest_lies_of(alloc: Global, plot: Plot, place: usize) -> Result<Plot, Scena
     for _ in 0..left.traitors[place].lies.len() {
         if place < left.traitors.len() && index < left.traitors[place].lies.len() {
             let less = without_lie(alloc, &left, place, index)?;
-            if are_alike(alloc, &less)? {
+            if comes_well(alloc, &less)? {
                 index += 1;
             } else {
                 left = less;
@@ -136,10 +137,10 @@ fn fewest_lies_of(alloc: Global, plot: Plot, place: usize) -> Result<Plot, Scena
     Ok(left)
 }
 
-/// The campaign without each statement without which, the later ones being said, its lieutenants still decide unlike.
+/// The campaign without each statement without which, the later ones being said, it is still broken.
 pub(crate) fn fewest_lies(alloc: Global, plot: Plot) -> Result<Plot, ScenarioError>
-    requires { AreBroken plot }
-    ensures broken { IfOk result AreBroken }
+    requires { IsBroken plot }
+    ensures broken { IfOk result IsBroken }
     ensures part { IfOk result (IsPartOf plot) }
 {
     let mut left = plot;

@@ -93,6 +93,7 @@ repeated_have (a ∷ b ∷ seeds) h x = go (a == b) refl
   where
     more : nat_lt 0 (times x (repeated (b ∷ seeds))) ≡ nat_le 2 (times x (b ∷ seeds))
     more = repeated_have (b ∷ seeds) h.1 x
+
     go : (t : Bool) → (a == b) ≡ t → nat_lt 0 (times x (cond t (b ∷ []) [] ++ repeated (b ∷ seeds))) ≡ nat_le 2 (times x (a ∷ b ∷ seeds))
     go true e = twice_same a b x (times x seeds) (times x (repeated (b ∷ seeds))) (equal_is a b e) more
     go false e = twice_other a b x (times x seeds) (times x (repeated (b ∷ seeds))) (less_is a b h.0.0 e) (λ lt. none_below x b (b ∷ seeds) lt (omega arith, h.1.0)) more
@@ -112,6 +113,7 @@ stretches_have a b (s ∷ seeds) le h r x = go (nat_le s (b + 1)) refl
   where
     more : b ≤ s
     more = h.0
+
     go : (t : Bool) → nat_le s (b + 1) ≡ t
         → is_in x (cond t (stretches_from a (max b s) seeds) (record { first = a; last = b } ∷ stretches_from s s seeds)) ≡ ((nat_le a x && nat_le x b) || nat_lt 0 (times x (s ∷ seeds)))
     go true e = stretches_have a (max b s) seeds (omega (arith, more, le)) (are_from_less (max b s) s seeds (omega (arith, more)) r.0) r.1 x ∙ longer a b s x (times x seeds) le more e

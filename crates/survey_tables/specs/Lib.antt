@@ -1,3 +1,4 @@
+pub mod Counts
 pub mod Covering
 pub mod Groups
 pub mod Tables

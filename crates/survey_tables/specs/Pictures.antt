@@ -12,15 +12,15 @@ size height = codes " height=\"" ++ (decimal height ++ (codes "\" viewBox=\"0 0 
 -- what it shows, what it looks like, and what stands above its rows
 unfoldable pub head : List ℕ
 head =
-    codes "<title>where agreement is broken</title>\n"
+    codes "<title>where agreement or the order is broken</title>\n"
     ++ codes "<desc>Each row: so many generals, n, who provide for so many traitors, m. Each column: so many traitors. "
-    ++ codes "A bar: the share of the campaigns of these numbers in which agreement is broken. "
+    ++ codes "A bar: the share of the campaigns of these numbers in which loyal lieutenants decide unlike, or not as a loyal commander has ordered. "
     ++ codes "Dashes: n = 3m + 1, at so many traitors as m. A ground: the campaign's bound is kept.</desc>\n"
     ++ codes "<style>svg{background:#fff}text{fill:#111;font:14px sans-serif}.bar{fill:#b00020}.base,.limit{fill:none;stroke:#767676}"
     ++ codes ".limit{stroke:#0b57d0;stroke-width:2;stroke-dasharray:6 3}.kept{fill:#d7f0da}.share{font-size:11px;text-anchor:middle}"
     ++ codes "@media(prefers-color-scheme:dark){svg{background:#111}text{fill:#eee}.bar{fill:#ff6b7a}.limit{stroke:#8ab4f8}"
     ++ codes ".kept{fill:#143d1b}}</style>\n"
-    ++ codes "<text x=\"10\" y=\"24\">campaigns in which agreement is broken, by the number of traitors</text>\n"
+    ++ codes "<text x=\"10\" y=\"24\">campaigns in which agreement is broken or the order disobeyed, by the number of traitors</text>\n"
     ++ codes "<text x=\"10\" y=\"46\">dashes: n = 3m + 1, for m the number of traitors; green: within the campaign's bound</text>\n"
     ++ codes "<text x=\"10\" y=\"84\">traitors</text>\n"
 
@@ -61,19 +61,19 @@ kept row g =
     cond (g.sums.kept.count == 0) []
     (codes "<rect class=\"kept\" x=\"" ++ (decimal (120 + 50 * g.traitors) ++ (codes "\" y=\"" ++ (decimal (44 + 44 * row) ++ codes "\" width=\"50\" height=\"44\"/>"))))
 
--- of the whole so much as agreement is broken in of the campaigns
+-- of the whole so much as fail of the campaigns
 abbrev pub share_of : ℕ → Group → ℕ
-share_of whole g = cond (g.sums.campaigns == 0) 0 (g.sums.broken.count * whole / g.sums.campaigns)
+share_of whole g = cond (g.sums.campaigns == 0) 0 (g.failed * whole / g.sums.campaigns)
 
 -- how many they are, and a bar
 unfoldable pub bar : ℕ → Group → List ℕ
 bar row g =
-    codes "<g><title>" ++ (decimal g.sums.broken.count ++ (codes " of " ++ (decimal g.sums.campaigns ++ (codes "</title><rect class=\"bar\" x=\""
+    codes "<g><title>" ++ (decimal g.failed ++ (codes " of " ++ (decimal g.sums.campaigns ++ (codes "</title><rect class=\"bar\" x=\""
     ++ (decimal (125 + 50 * g.traitors) ++ (codes "\" y=\"" ++ (decimal (80 + 44 * row - share_of 28 g) ++ (codes "\" width=\"40\" height=\""
     ++ (decimal (share_of 28 g) ++ codes "\"/></g>")))))))))
 
 unfoldable pub percent : Group → List ℕ
-percent g = cond (share_of 100 g == 0 && nat_lt 0 g.sums.broken.count) (codes "&lt;1%") (decimal (share_of 100 g) ++ codes "%")
+percent g = cond (share_of 100 g == 0 && nat_lt 0 g.failed) (codes "&lt;1%") (decimal (share_of 100 g) ++ codes "%")
 
 unfoldable pub place : ℕ → Group → List ℕ
 place row g = codes "<text class=\"share\" x=\"" ++ (decimal (145 + 50 * g.traitors) ++ (codes "\" y=\"" ++ (decimal (86 + 44 * row) ++ codes "\">")))

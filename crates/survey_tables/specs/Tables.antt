@@ -26,14 +26,14 @@ cells_of g =
     cell 8 (Some g.generals) ∷ cell 5 (Some g.bound) ∷ cell 8 (Some g.traitors) ∷ cell 9 (Some g.sums.campaigns)
     ∷ cell 8 (Some g.sums.kept.count) ∷ cell 7 g.sums.kept.first
     ∷ cell 8 (Some g.sums.broken.count) ∷ cell 7 g.sums.broken.first
-    ∷ cell 9 (Some g.sums.disobeyed.count) ∷ cell 7 g.sums.disobeyed.first ∷ []
+    ∷ cell 9 (Some g.sums.disobeyed.count) ∷ cell 7 g.sums.disobeyed.first ∷ cell 8 (Some g.failed) ∷ []
 
 -- the row of a group
 abbrev pub group_text : Group → List ℕ
 group_text g = row_text (cells_of g)
 
 unfoldable pub header : List ℕ
-header = codes " generals bound traitors campaigns     kept   first   broken   first disobeyed   first\n"
+header = codes " generals bound traitors campaigns     kept   first   broken   first disobeyed   first   failed\n"
 
 abbrev pub table_text : List Group → List ℕ
 table_text groups = header ++ flat_map group_text groups

@@ -8,4 +8,6 @@ pub struct Group {
     pub bound: u8,
     pub traitors: u8,
     pub sums: Sums,
+    /// In how many of them the loyal lieutenants decide unlike, or not as a loyal commander has ordered.
+    pub failed: u64,
 }

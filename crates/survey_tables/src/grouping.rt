@@ -1,10 +1,10 @@
 //! The campaigns of a survey, by their numbers.
-ghost use Rattle.std.specs.Prelude.{◌≡◌, ◌++◌, IfOk, OnOk, filter};
-ghost use Rattle.survey_tables.specs.Groups.{groups_in, groups_of, of_bound, of_generals, of_traitors};
+ghost use Rattle.std.specs.Prelude.{◌≡◌, ◌++◌, IfOk, OnOk};
+ghost use Rattle.survey_tables.specs.Groups.{failed_in, groups_by_bound, groups_in, groups_of, of_bound, of_generals, of_traitors};
 
 use crate::group::Group;
 use std::alloc::{AllocError, Global};
-use survey::{Finding, sums_of};
+use survey::{Finding, is_sound, sums_of};
 
 /// The campaigns of so many generals.
 fn of_generals(
@@ -53,6 +53,19 @@ fn of_traitors(
     Ok(some)
 }
 
+/// In how many of the campaigns the loyal lieutenants decide unlike, or not as a loyal commander has ordered.
+fn failed_in(findings: &[Finding]) -> u64
+    ensures { result ≡ failed_in findings.now }
+{
+    let mut count = 0;
+    for finding in findings {
+        if !is_sound(finding.verdict) {
+            count += 1;
+        }
+    }
+    count
+}
+
 /// Adds the groups of campaigns of so many generals who provide for so many traitors, which these are, by their traitors.
 fn push_groups(
     alloc: Global,
@@ -74,6 +87,7 @@ fn push_groups(
                 bound,
                 traitors,
                 sums: sums_of(some.as_slice()),
+                failed: failed_in(some.as_slice()),
             })?;
         }
     }

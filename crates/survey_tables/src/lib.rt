@@ -3,6 +3,7 @@
 
 mod cell;
 mod cells;
+mod counts;
 mod covering;
 mod group;
 mod grouping;
@@ -10,6 +11,7 @@ mod picture;
 mod stretch;
 mod table;
 
+pub use counts::{lines_text, sums_text};
 pub use covering::{doubles, holes};
 pub use group::Group;
 pub use grouping::groups;

@@ -1,4 +1,4 @@
-//! The sums of a survey as a picture in SVG: in how many campaigns agreement is broken, over the number of traitors.
+//! The sums of a survey as a picture in SVG: in how many campaigns the loyal fail, over the number of traitors.
 ghost use Rattle.std.specs.Prelude.{◌≡◌, ◌++◌, ◌<◌, IfOk, None, OnOk, string_bytes};
 ghost use Rattle.survey_tables.specs.Groups.{groups_of};
 ghost use Rattle.survey_tables.specs.Pictures.{bar, begins, cell, cells, column, columns, head, kept, label, percent, picture_text, place, rows_of, share_of, size, start, start_of};
@@ -21,15 +21,15 @@ fn start() -> &'static str
 fn head() -> &'static str
     ensures { result.now ≡ head }
 {
-    "<title>where agreement is broken</title>\n\
+    "<title>where agreement or the order is broken</title>\n\
      <desc>Each row: so many generals, n, who provide for so many traitors, m. Each column: so many traitors. A bar: the share of \
-     the campaigns of these numbers in which agreement is broken. Dashes: n = 3m + 1, at so many traitors as m. A ground: \
+     the campaigns of these numbers in which loyal lieutenants decide unlike, or not as a loyal commander has ordered. Dashes: n = 3m + 1, at so many traitors as m. A ground: \
      the campaign's bound is kept.</desc>\n\
      <style>svg{background:#fff}text{fill:#111;font:14px sans-serif}.bar{fill:#b00020}.base,.limit{fill:none;stroke:#767676}\
      .limit{stroke:#0b57d0;stroke-width:2;stroke-dasharray:6 3}.kept{fill:#d7f0da}.share{font-size:11px;text-anchor:middle}\
      @media(prefers-color-scheme:dark){svg{background:#111}text{fill:#eee}.bar{fill:#ff6b7a}.limit{stroke:#8ab4f8}\
      .kept{fill:#143d1b}}</style>\n\
-     <text x=\"10\" y=\"24\">campaigns in which agreement is broken, by the number of traitors</text>\n\
+     <text x=\"10\" y=\"24\">campaigns in which agreement is broken or the order disobeyed, by the number of traitors</text>\n\
      <text x=\"10\" y=\"46\">dashes: n = 3m + 1, for m the number of traitors; green: within the campaign's bound</text>\n\
      <text x=\"10\" y=\"84\">traitors</text>\n"
 }
@@ -107,7 +107,7 @@ fn put_label(out: &mut String, row: u64, group: &Group) -> Result<(), AllocError
     )
 }
 
-/// How much of a whole the campaigns are in which agreement is broken.
+/// How much of a whole the campaigns are that fail.
 fn share_of(whole: u64, group: &Group) -> u128
     ensures { result ≡ share_of whole group.now }
 {
@@ -115,7 +115,7 @@ fn share_of(whole: u64, group: &Group) -> u128
     if campaigns == 0 {
         return 0;
     }
-    u128::from(group.sums.broken.count) * u128::from(whole) / campaigns
+    u128::from(group.failed) * u128::from(whole) / campaigns
 }
 
 /// Adds the ground of a cell in whose campaigns the bound is kept.
@@ -139,23 +139,23 @@ fn put_kept(out: &mut String, row: u64, group: &Group) -> Result<(), AllocError>
 fn put_bar(out: &mut String, row: u64, group: &Group) -> Result<(), AllocError>
     ensures { OnOk result (string_bytes out.new ≡ string_bytes out.old ++ bar row group.now) }
 {
-    let (broken, campaigns) = (group.sums.broken.count, group.sums.campaigns);
+    let (failed, campaigns) = (group.failed, group.sums.campaigns);
     let x = 125 + 50 * u64::from(group.traitors);
     let height = share_of(28, group);
     let y = (80 + 44 * u128::from(row)).saturating_sub(height);
     write!(
         out,
-        "<g><title>{broken} of {campaigns}</title><rect class=\"bar\" x=\"{x}\" y=\"{y}\" width=\"40\" height=\"{height}\"/></g>"
+        "<g><title>{failed} of {campaigns}</title><rect class=\"bar\" x=\"{x}\" y=\"{y}\" width=\"40\" height=\"{height}\"/></g>"
     )
 }
 
-/// Adds the share of the campaigns in which agreement is broken, in per cent.
+/// Adds the share of the campaigns that fail, in per cent.
 #[tactic(auto, unfolding(crate::specs::Pictures::percent))]
 fn put_percent(out: &mut String, group: &Group) -> Result<(), AllocError>
     ensures { OnOk result (string_bytes out.new ≡ string_bytes out.old ++ percent group.now) }
 {
     let percent = share_of(100, group);
-    if percent == 0 && group.sums.broken.count > 0 {
+    if percent == 0 && group.failed > 0 {
         return out.push_str("&lt;1%");
     }
     write!(out, "{percent}%")
@@ -212,7 +212,8 @@ fn put_groups(out: &mut String, groups: &[Group]) -> Result<(), AllocError>
 }
 
 /// The picture of what these campaigns come to: a row for each number of generals and bound of which there are some, a column
-/// for each number of traitors, in it a bar as high as the share of its campaigns in which agreement is broken.
+/// for each number of traitors, in it a bar as high as the share of its campaigns in which the loyal
+/// lieutenants decide unlike, or not as a loyal commander has ordered.
 ///
 /// # Errors
 ///

@@ -28,7 +28,7 @@ fn if_any(width: usize, number: Option<u64>) -> Cell
 }
 
 /// The cells of a row.
-fn cells_of(group: &Group) -> [Cell; 10]
+fn cells_of(group: &Group) -> [Cell; 11]
     ensures { result ≡ cells_of group.now }
 {
     let sums = group.sums;
@@ -43,6 +43,7 @@ fn cells_of(group: &Group) -> [Cell; 10]
         if_any(7, sums.broken.first),
         of(9, sums.disobeyed.count),
         if_any(7, sums.disobeyed.first),
+        of(8, group.failed),
     ]
 }
 
@@ -61,7 +62,7 @@ fn put_groups(out: &mut String, groups: &[Group]) -> Result<(), AllocError>
 fn header() -> &'static str
     ensures { result.now ≡ header }
 {
-    " generals bound traitors campaigns     kept   first   broken   first disobeyed   first\n"
+    " generals bound traitors campaigns     kept   first   broken   first disobeyed   first   failed\n"
 }
 
 /// The table of what these campaigns come to: a row for each numbers of generals, bound and traitors of which there are some.

@@ -142,7 +142,7 @@ fn with_family<'a>(alloc: Global, command: Command<'a>) -> Result<Command<'a>, A
             alloc,
             "seeds",
             "N..M",
-            "The seeds, each of which gives a campaign [default: 1..1000]",
+            "The seeds, each of which gives a campaign, 10000000 at most [default: 1..1000]",
         ))?
         .arg(option(
             alloc,
@@ -181,30 +181,30 @@ fn with_shapes<'a>(alloc: Global, command: Command<'a>) -> Result<Command<'a>, A
         .arg(switch(
             alloc,
             "svg",
-            "Prints a picture: the share of broken campaigns over the traitors",
+            "Prints a picture: the share of broken campaigns over the number of traitors",
         ))?
         .arg(switch(
             alloc,
             "shrink",
-            "Prints the least broken campaign of which nothing more can be taken out",
+            "Prints the least broken campaign, of which nothing more can be taken out",
         ))?
         .arg(switch(
             alloc,
             "break",
-            "Prints, for each number of generals and bound, the fewest traitors who break agreement, and how",
+            "Prints, for each number of generals and bound, the least campaign found with the fewest traitors who break it",
         ))?
         .arg(option(
             alloc,
             "keep",
             "DIR",
-            "Writes each campaign in which agreement is broken to DIR/SEED.toml",
+            "Writes each broken campaign to DIR/SEED.toml",
         ))?
         .arg(
             option(
                 alloc,
                 "sum",
                 "FILE",
-                "The sums of the lines of these files, and seeds that lack or are double; nothing is played",
+                "Sums the lines of these files, and names the seeds that lack or are double; nothing is played",
             )
             .num_args(1..)
             .action(ArgAction::Append),

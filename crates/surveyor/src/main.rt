@@ -3,7 +3,6 @@
 #![tactic(auto)]
 
 mod asked;
-mod counts;
 mod family;
 mod keeping;
 mod numbers;

@@ -1,11 +1,10 @@
 //! What is printed.
 use crate::asked::Shape;
-use crate::counts::sums_text;
 use crate::telling::Fault;
 use std::alloc::{AllocError, Global};
 use std::io::Write;
-use survey::{Finding, sums_of};
-use survey_tables::{picture, table};
+use survey::Finding;
+use survey_tables::{picture, sums_text, table};
 
 /// Prints a text.
 ///
@@ -25,7 +24,7 @@ pub fn print(rt: &HostRuntime, text: &str) -> Result<(), Fault> {
 /// `AllocError` where memory is refused.
 pub fn summary(alloc: Global, shape: Shape, findings: &[Finding]) -> Result<String, AllocError> {
     match shape {
-        Shape::Sums => sums_text(alloc, &sums_of(findings)),
+        Shape::Sums => sums_text(alloc, findings),
         Shape::Table => table(alloc, findings),
         Shape::Picture => picture(alloc, findings),
         Shape::Lines | Shape::Least => Ok(String::new(alloc)),

@@ -3,14 +3,15 @@ ghost use Rattle.surveyor.specs.Asked.{IsSurvey};
 
 use crate::asked::{Shape, Survey};
 use crate::family::family_of;
-use crate::keeping::keep;
+use crate::keeping::{keep, try_folder};
 use crate::pieces::{at_once, refused};
 use crate::printing::{print, summary};
 use crate::progress::tell_progress;
 use crate::shrinking::shrunken;
 use crate::telling::Fault;
 use std::thread::Threads;
-use survey::{Family, Finding, campaign_text, put_line, survey};
+use survey::{Family, Finding, campaign_text, is_sound, survey};
+use survey_tables::lines_text;
 
 /// Plays the campaigns of a survey, and prints what is asked for. The result is the exit status.
 ///
@@ -25,6 +26,9 @@ pub fn surveyed<T: Threads + Sync>(
     requires { IsSurvey asked.now }
 {
     let family = family_of(rt, asked)?;
+    if let Some(folder) = &asked.keep {
+        try_folder(rt, folder.as_str())?;
+    }
     if asked.shape == Shape::Least {
         return shrunken(rt, threads, asked, &family);
     }
@@ -64,11 +68,11 @@ fn played<T: Threads + Sync>(
     Ok(0)
 }
 
-/// In how many of the campaigns agreement is broken.
+/// In how many of the campaigns agreement is broken, or the order disobeyed.
 fn broken_in(found: &[Finding]) -> u64 {
     let mut broken: u64 = 0;
     for finding in found {
-        if !finding.verdict.alike {
+        if !is_sound(finding.verdict) {
             broken = broken.saturating_add(1);
         }
     }
@@ -86,19 +90,16 @@ fn add(asked: &Survey, all: &mut Vec<Finding>, found: &[Finding]) -> Result<(), 
     Ok(())
 }
 
-/// Prints the lines of these campaigns, where lines are asked for, and keeps those in which agreement is broken.
+/// Prints the lines of these campaigns, where lines are asked for, and keeps those in which agreement is
+/// broken, or the order disobeyed.
 fn put(rt: &HostRuntime, asked: &Survey, family: &Family, found: &[Finding]) -> Result<(), Fault> {
     let alloc = rt.alloc();
     if asked.shape == Shape::Lines {
-        let mut lines = String::new(alloc);
-        for finding in found {
-            put_line(&mut lines, finding)?;
-        }
-        print(rt, lines.as_str())?;
+        print(rt, lines_text(alloc, found)?.as_str())?;
     }
     if let Some(folder) = &asked.keep {
         for finding in found {
-            if !finding.verdict.alike {
+            if !is_sound(finding.verdict) {
                 let text = campaign_text(alloc, family, finding.seed)?;
                 keep(rt, folder.as_str(), finding.seed, text.as_str())?;
             }

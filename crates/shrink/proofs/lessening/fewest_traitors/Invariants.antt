@@ -1,5 +1,5 @@
-use Rattle.shrink.specs.Shrinking.{AreBroken, IsPartOf}
+use Rattle.shrink.specs.Shrinking.{IsBroken, IsPartOf}
 use Rattle.shrink.proofs.lessening.fewest_traitors.Given as goal
 
 abbrev pub invariant-loop : goal.invariant-loop
-invariant-loop l = AreBroken l.left × IsPartOf l.fn.plot l.left
+invariant-loop l = IsBroken l.left × IsPartOf l.fn.plot l.left
