@@ -123,7 +123,8 @@ pub fn breaking<R: Threads + Sync>(
     ensures some { IfOk result (λ found. IfSome found (IsBreaking family.now generals bound traitors first end)) }
     ensures none { IfOk result (λ found. IfNone found (NoneBreaks family.now generals bound traitors first end)) }
 {
-    for count in traitors.low..=traitors.high {
+    for count in u16::from(traitors.low)..u16::from(traitors.high) + 1 {
+        let count = count as u8;
         let family = narrowed(alloc, family, generals, bound, count)?;
         if let Some(breach) = least_breach(rt, alloc, &family, first, end)? {
             return Ok(Some(Breaking {

@@ -102,9 +102,9 @@ pub fn broken<T: Threads + Sync>(
         print(rt, "generals bound traitors statements seed\n")?;
     }
     let mut is_first = true;
-    for generals in asked.generals.low..=asked.generals.high {
+    for generals in asked.generals.low..asked.generals.high + 1 {
         let most = generals.saturating_sub(2).min(4);
-        for bound in asked.bound.low.min(most)..=asked.bound.high.min(most) {
+        for bound in asked.bound.low.min(most)..asked.bound.high.min(most) + 1 {
             if !is_table && !is_first {
                 print(rt, "\n")?;
             }
