@@ -10,6 +10,7 @@ use std::alloc::Global;
 use std::fs::read_to_string;
 use std::io::ErrorKind;
 use survey::{Adversary, Family};
+use verify::{VerifyError, verify};
 
 /// The family of a survey. A file of assembly is read for it.
 ///
@@ -40,7 +41,7 @@ fn adversary_of(rt: &HostRuntime, word: &str) -> Result<Adversary, Fault> {
     }
 }
 
-/// The bytecode of a file of assembly, in hex.
+/// The bytecode of a file of assembly, in hex. The verifier must accept it.
 fn hex_of(rt: &HostRuntime, name: &str) -> Result<String, Fault> {
     let alloc = rt.alloc();
     let text = match read_to_string(rt, name) {
@@ -53,5 +54,19 @@ fn hex_of(rt: &HostRuntime, name: &str) -> Result<String, Fault> {
         Err(error) => return Err(Fault::Refused(format!(in alloc; "refused {error}")?)),
     };
     let bytes = encode(alloc, &program)?;
-    Ok(hex::encode(alloc, bytes.as_slice())?)
+    match verify(alloc, program) {
+        Ok(_) => Ok(hex::encode(alloc, bytes.as_slice())?),
+        Err(refused) => Err(unsound(alloc, refused.fault)),
+    }
+}
+
+/// That a program is refused.
+fn unsound(alloc: Global, fault: VerifyError) -> Fault {
+    match fault {
+        VerifyError::Memory => Fault::Memory,
+        fault => match format!(in alloc; "refused {fault}") {
+            Ok(line) => Fault::Refused(line),
+            Err(_) => Fault::Memory,
+        },
+    }
 }
