@@ -1,6 +1,6 @@
 -- Findings from states.
-use Rattle.std.proofs.Common.{◌≡◌, ℕ, suc, ◌+◌, ◌*◌, ◌-◌, ◌^◌, ◌<◌, ◌≤◌, min, List, [], ◌∷◌, ◌++◌, length, take, map, set, get_or, true, false, refl, sym, ap, subst, ◌∙◌, ◌⊎◌, inl, inr, ⊎_elim, arith, All, length-append}
-use Rattle.std.specs.Prelude.{sum_by, bytes_eq}
+use Rattle.std.proofs.Common.{◌≡◌, ℕ, suc, ◌+◌, ◌*◌, ◌-◌, ◌^◌, ◌<◌, ◌≤◌, min, List, [], ◌∷◌, ◌++◌, length, take, set, get_or, true, false, refl, sym, ap, subst, ◌∙◌, inl, inr, ⊎_elim, arith, All, length-append}
+use Rattle.std.specs.Prelude.{bytes_eq}
 use Rattle.std.proofs.Math.Nat.{add-mul}
 use Rattle.std.proofs.Math.Seq.{map-set_same}
 use Rattle.std.proofs.lemmas.Slice.Eq.{bytes_eq-Decides}

@@ -1,17 +1,18 @@
 -- A layer gives way to the next, state by state and access by access.
-use Rattle.std.proofs.Common.{◌≡◌, ℕ, suc, ◌+◌, ◌*◌, ◌-◌, ◌^◌, ◌<◌, ◌≤◌, List, [], ◌∷◌, ◌++◌, length, get_or, reverse, Bool, true, false, refl, sym, ap, subst, ◌∙◌, arith, All, None, Some, append-nil, append_assoc, length-append, zero}
+use Rattle.std.proofs.Common.{◌≡◌, ℕ, suc, ◌+◌, ◌*◌, ◌-◌, ◌^◌, ◌<◌, ◌≤◌, List, [], ◌∷◌, ◌++◌, length, drop, get_or, reverse, take, Bool, true, false, refl, sym, ap, subst, ◌∙◌, arith, All, None, Some, append-nil, append_assoc, length-append, zero}
 use Rattle.std.specs.Prelude.{slice_get, sum_by, ◌||◌}
 use Rattle.std.proofs.Math.Nat.{mul-add, mul-zero, one-mul}
 use Rattle.std.proofs.lemmas.List.{get_or_append_left, get_or_push, reverse-append, reverse-reverse}
 use Rattle.std.proofs.lemmas.List.Sums.{sum_by_push, sum_by-cons}
 use Rattle.std.proofs.lemmas.List.Elements.{All-weaker, All-nil, All-push}
 use Rattle.round.specs.Scenario.{Scenario, IsScenario}
+use Rattle.world.specs.declared.part.Part.{Part}
 use Rattle.world.specs.Kind.{World, opening}
 use Rattle.world.specs.Playing.{program_length}
 use Rattle.world.specs.World.{oral_kind}
 use Rattle.explore.specs.Orders.{will_ask, past, behind}
 use Rattle.explore.specs.Listing.{askers, most_in_round}
-use Rattle.explore.specs.Layers.{State, kept, AsKept, IsStateOf, AreStatesOf, IsFreshOf, AreFreshOf, IsEntered, IsPastOf, IsAsked, IsCommon, weighed, weighed_both, stepped, over_round, over_rounds, or_sum, IsExpanded, IsStep, IsRoundOn, AreLayers}
+use Rattle.explore.specs.Layers.{State, kept, AsKept, IsStateOf, AreStatesOf, IsFreshOf, AreFreshOf, IsEntered, IsPastOf, IsAsked, IsCommon, weighed, weighed_both, stepped, over_round, over_rounds, or_sum, IsExpanded, IsStep, IsRoundOn, AreLayers, reached}
 use Rattle.explore.proofs.Branching.{last_step, next_step, round_common, rounds_common}
 use Rattle.explore.proofs.Reaching.{past_state, closed_state, scenario_is, few_parts, askers_below, asks_more, asks_no_more, all_askers, or_some}
 use Rattle.explore.proofs.Stepping.{idle_asks}
@@ -100,6 +101,23 @@ spread_all s t last n old new asked h less idle =
     subst (λ (m : ℕ). IsSpread s t m old new asked) e
     (spread_rest s t (n - (last + 1)) (last + 1) old new asked h (λ g a b. idle_asks (slice_get t.world.parts g) (idle g (omega arith) (omega arith))))
 
+-- the last who acts is asked of the state itself, and then all are
+pub spread_last : (s : Scenario) (t u : State) (last n all : ℕ) (parts : List Part) (old mid new : List State) (asked own : Bool) → n ≡ last → all ≡ s.generals → last < all
+    → u ≡ t → parts ≡ t.world.parts → IsSpread s t n old mid asked → IsAsked u last mid own new
+    → ((g : ℕ) → last < g → g < all → program_length (slice_get parts g) ≡ None) → IsSpread s t s.generals old new (asked || own)
+spread_last s t u last n all parts old mid new asked own there whole inside same acting h asks idle =
+    let one = spread_more s t last old mid new asked own (subst (λ (m : ℕ). IsSpread s t m old mid asked) there h) (subst (λ (v : State). IsAsked v last mid own new) same asks) in
+    spread_all s t last s.generals old new (asked || own) one (omega (arith, whole, inside))
+    (λ g a b. subst (λ (l : List Part). program_length (slice_get l g) ≡ None) acting (idle g a (omega (arith, whole, b))))
+
+-- the state as the next round begins, by its parts
+pub shut_is : (o : World) (t u shut : State) → u ≡ t → t.world ≡ reached o t.rows t.names
+    → shut ≡ record { world = behind oral_kind (reached o u.rows u.names) []; ways = u.ways; rows = u.rows ++ u.names ∷ []; names = [] }
+    → shut ≡ record { world = behind oral_kind t.world []; ways = t.ways; rows = t.rows ++ t.names ∷ []; names = [] }
+shut_is o t u shut same there is =
+    is ∙ ((λ i. record { world = behind oral_kind (reached o (same i).rows (same i).names) []; ways = (same i).ways; rows = (same i).rows ++ (same i).names ∷ []; names = [] })
+    ∙ ap (λ (w : World). record { world = behind oral_kind w []; ways = t.ways; rows = t.rows ++ t.names ∷ []; names = [] }) (sym there))
+
 module _ (s : Scenario) (t : State) (next done new : List State) where
   -- somebody had an access left
   pub expanded_on : IsSpread s t s.generals next new true → IsExpanded s t next done new done
@@ -171,6 +189,19 @@ step_more s seen next mid done done_mid done_new t h x = record {
       let e : weighed g done + weighed (stepped f g) seen + t.ways * stepped f g t.world ≡ weighed g done + weighed (stepped f g) (seen ++ t ∷ []) = omega arith in
       b ∙ (c ∙ ap kept e);
 }
+
+-- a list that was turned round in its place
+front_of : (xs zs : List State) → take (length xs) (xs ++ zs) ≡ xs
+front_of [] zs = refl
+front_of (x ∷ xs) zs = ap (λ (l : List State). x ∷ l) (front_of xs zs)
+
+pub turned : (layer seen new : List State) (n : ℕ) → n ≡ length new → new ≡ reverse seen → seen ≡ layer → take n (new ++ drop (length new) layer) ≡ reverse layer
+turned layer seen new n count is same =
+    ap (λ (m : ℕ). take m (new ++ drop (length new) layer)) count ∙ (front_of new (drop (length new) layer) ∙ (is ∙ ap reverse same))
+
+pub none_left : (left : List State) (n : ℕ) → n ≡ length left → n ≡ 0 → left ≡ []
+none_left [] n count none = refl
+none_left (t ∷ left) n count none = absurd (omega (arith, count, none))
 
 -- these of a layer have given way, and these, the last at the front, are left
 pub record IsSteppingOn (s : Scenario) (layer left next done done_new : List State) : Type 0 where

@@ -27,6 +27,7 @@ pub fn explored(alloc: Global, scenario: &Scenario, most: Option<u64>) -> Result
 /// # Errors
 ///
 /// What is refused, or want of memory.
+#[tactic(auto, using(crate::proofs::ExploringLemmas::keeps_orders))]
 pub fn with_schedules(
     alloc: Global,
     bytes: &[u8],

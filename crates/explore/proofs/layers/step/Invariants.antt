@@ -1,4 +1,4 @@
-use Rattle.std.proofs.Common.{length}
+use Rattle.std.proofs.Common.{vec_len}
 use Rattle.explore.proofs.Spreading.{IsSteppingOn}
 use Rattle.explore.proofs.layers.step.Given as goal
 
@@ -6,4 +6,4 @@ abbrev pub invariant-loop-state : goal.invariant-loop-state
 invariant-loop-state l = IsSteppingOn l.scenario l.fn.layer.items l.left.items l.next.items l.initial.done.items l.done.items
 
 abbrev pub decreases-loop-state : goal.decreases-loop-state
-decreases-loop-state l = length l.left.items
+decreases-loop-state l = vec_len l.left
