@@ -77,6 +77,7 @@ fn scenario_in(campaign: &Campaign) -> &Scenario
 }
 
 /// How many traitors the scenario has.
+#[tactic(auto, using(crate::proofs::Ranges::count_range))]
 fn traitors_in(scenario: &Scenario) -> u64
     ensures { result ≡ traitors_in scenario.now }
 {

@@ -7,14 +7,14 @@ mod counts;
 mod covering;
 mod group;
 mod grouping;
-mod picture;
+mod picturing;
 mod stretch;
-mod table;
+mod tabling;
 
 pub use counts::{lines_text, sums_text};
 pub use covering::{doubles, holes};
 pub use group::Group;
 pub use grouping::groups;
-pub use picture::picture;
+pub use picturing::picture;
 pub use stretch::Stretch;
-pub use table::table;
+pub use tabling::table;

@@ -1,6 +1,7 @@
 //! What the words ask for.
-ghost use Rattle.std.specs.Prelude.{◌≤◌, IfOk, IfSome};
+ghost use Rattle.std.specs.Prelude.{◌≡◌, ◌≤◌, IfOk, IfSome, option_map};
 ghost use Rattle.surveyor.specs.Asked.{IsSurvey, IsAsked};
+ghost use Rattle.surveyor.specs.Words.{manner_named, plain_manner};
 
 use crate::numbers::{patience, seeds, span};
 use clap::error::ErrorKind;
@@ -225,24 +226,48 @@ fn value<'a>(found: &ArgMatches<'a>, name: &str, without: &'a str) -> &'a str {
     found.get_str(name).unwrap_or(without)
 }
 
+/// How messages are sent, by the words of `--rule` and `--signed`.
+fn manner_named(rule: Option<&str>, is_signed: bool) -> Option<Manner>
+    ensures { result ≡ manner_named (option_map (λ word. word.now) rule.entry) is_signed }
+{
+    let Some(rule) = rule else {
+        return Some(plain_manner(is_signed));
+    };
+    if is_signed {
+        return None;
+    }
+    if rule.as_bytes() == b"majority".as_slice() {
+        return Some(Manner::Oral(Rule::Majority));
+    }
+    if rule.as_bytes() == b"median".as_slice() {
+        return Some(Manner::Oral(Rule::Median));
+    }
+    None
+}
+
+/// How messages are sent where no rule is named.
+fn plain_manner(is_signed: bool) -> Manner
+    ensures { result ≡ plain_manner is_signed }
+{
+    if is_signed {
+        Manner::Signed
+    } else {
+        Manner::Oral(Rule::Majority)
+    }
+}
+
 /// How messages are sent.
 fn manner(found: &ArgMatches) -> Result<Manner, &'static str> {
-    let rule = found.get_str("rule");
-    if found.get_flag("signed") {
-        return match rule {
-            None => Ok(Manner::Signed),
-            Some(_) => Err(SIGNED),
-        };
-    }
-    match rule {
-        None | Some("majority") => Ok(Manner::Oral(Rule::Majority)),
-        Some("median") => Ok(Manner::Oral(Rule::Median)),
-        Some(_) => Err(RULE),
+    let is_signed = found.get_flag("signed");
+    match manner_named(found.get_str("rule"), is_signed) {
+        Some(manner) => Ok(manner),
+        None if is_signed => Err(SIGNED),
+        None => Err(RULE),
     }
 }
 
 /// What is to be printed of campaigns; at most one of its words stands there.
-fn shape(found: &ArgMatches) -> Result<Shape, &'static str> {
+fn printed(found: &ArgMatches) -> Result<Shape, &'static str> {
     let words = (
         found.get_flag("lines"),
         found.get_flag("table"),
@@ -301,7 +326,7 @@ fn survey_of(alloc: Global, found: &ArgMatches, some: &str) -> Result<Survey, As
         adversary: String::from_str(alloc, value(found, "adversary", "lies"))?,
         first: seeds.0,
         last: seeds.1,
-        shape: shape(found).map_err(AskedError::Value)?,
+        shape: printed(found).map_err(AskedError::Value)?,
         keep: owned(alloc, found, "keep")?,
     })
 }
@@ -349,7 +374,7 @@ fn files(alloc: Global, names: &[&str]) -> Result<Vec<String>, AllocError> {
 
 /// What is to be told of these files.
 fn merge_of(alloc: Global, found: &ArgMatches, names: &[&str]) -> Result<Merge, AskedError> {
-    let shape = shape(found).map_err(AskedError::Value)?;
+    let shape = printed(found).map_err(AskedError::Value)?;
     if does_play(found) || shape == Shape::Lines || shape == Shape::Least {
         return Err(AskedError::Value(MERGE));
     }
@@ -365,7 +390,7 @@ fn merge_of(alloc: Global, found: &ArgMatches, names: &[&str]) -> Result<Merge, 
 }
 
 /// What the words ask for that `clap` has found.
-fn asked(alloc: Global, found: &ArgMatches) -> Result<Asked, AskedError>
+fn meant(alloc: Global, found: &ArgMatches) -> Result<Asked, AskedError>
     ensures { IfOk result IsAsked }
 {
     if let Some(names) = found.get_strs("sum") {
@@ -387,7 +412,7 @@ pub fn request(alloc: Global, words: &[&str]) -> Result<Asked, AskedError>
 {
     let command = command(alloc)?;
     match command.try_get_matches_from(words) {
-        Ok(found) => asked(alloc, &found),
+        Ok(found) => meant(alloc, &found),
         Err(error) if error.kind() == ErrorKind::OutOfMemory => Err(AskedError::Memory),
         Err(error) => Err(AskedError::Words(error)),
     }

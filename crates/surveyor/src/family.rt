@@ -1,6 +1,7 @@
 //! The family that is asked for.
 ghost use Rattle.std.specs.Prelude.{◌≡◌, IfOk};
 ghost use Rattle.surveyor.specs.Asked.{IsSurvey};
+ghost use Rattle.surveyor.specs.Words.{IsFamilyOf, IsNamed};
 
 use crate::asked::Survey;
 use crate::telling::Fault;
@@ -19,6 +20,7 @@ use verify::{VerifyError, verify};
 /// The file is not read, or refused.
 pub fn family_of(rt: &HostRuntime, survey: &Survey) -> Result<Family, Fault>
     requires { IsSurvey survey.now }
+    ensures { IfOk result (IsFamilyOf survey.now) }
 {
     let adversary = adversary_of(rt, survey.adversary.as_str())?;
     Ok(Family::new(
@@ -32,7 +34,9 @@ pub fn family_of(rt: &HostRuntime, survey: &Survey) -> Result<Family, Fault>
 }
 
 /// What the traitors do whom a word names.
-fn adversary_of(rt: &HostRuntime, word: &str) -> Result<Adversary, Fault> {
+fn adversary_of(rt: &HostRuntime, word: &str) -> Result<Adversary, Fault>
+    ensures { IfOk result (IsNamed word.now) }
+{
     match word {
         "lies" => Ok(Adversary::Lies),
         "silent" => Ok(Adversary::Silent),
