@@ -5,7 +5,7 @@ ghost use Rattle.trace.specs.Text.{chronicle_text};
 
 use crate::accesses::put_accesses;
 use crate::schedule::put_schedule;
-use crate::sections::{put_lieutenants, put_programs};
+use crate::sections::{put_lieutenants, put_programs_of};
 use crate::verdict::put_verdict;
 use book::Heard;
 use diagram::campaign_svg;
@@ -50,7 +50,7 @@ fn put_parts<H: Heard>(
 {
     put_scenario(out, scenario_text)?;
     put_schedule(alloc, out, schedule)?;
-    put_programs(alloc, out, chronicle.scenario())?;
+    put_programs_of(alloc, out, chronicle)?;
     put_diagram(alloc, out, table, chronicle)?;
     put_lieutenants(alloc, out, table, chronicle)?;
     put_accesses(alloc, out, chronicle)?;

@@ -19,6 +19,17 @@ use round::Scenario;
 use std::alloc::{AllocError, Global};
 use world::Chronicle;
 
+/// Adds the programs of a campaign's traitors.
+pub(crate) fn put_programs_of(
+    alloc: Global,
+    out: &mut String,
+    chronicle: &Chronicle,
+) -> Result<(), AllocError>
+    ensures { OnOk result (string_bytes out.new ≡ string_bytes out.old ++ programs_part chronicle.now.scenario) }
+{
+    put_programs(alloc, out, chronicle.scenario())
+}
+
 /// Adds the traitors' programs, each with what the verifier knows of it.
 ///
 /// # Errors

@@ -1,8 +1,8 @@
 //! A campaign of signed messages as a page.
 ghost use Rattle.std.specs.Prelude.{◌≡◌, ◌++◌, codes, option_map, string_bytes, IfOk, OnOk};
-ghost use Rattle.campaign_page.specs.Account.{chronicle_shown, picture_told};
+ghost use Rattle.campaign_page.specs.Account.{accesses_part, chronicle_shown, picture_told, programs_part, verdict_told};
 ghost use Rattle.signed_diagram.specs.Svg.{signed_svg};
-ghost use Rattle.signed_page.specs.Account.{parts, signed_page_text, signed_title};
+ghost use Rattle.signed_page.specs.Account.{bound_told, parts, signed_page_text, signed_title};
 ghost use Rattle.trace.specs.SignedText.{signed_text};
 
 use crate::lieutenants::put_lieutenants;
@@ -51,12 +51,12 @@ fn put_parts(
 {
     put_scenario(out, scenario_text)?;
     put_schedule(alloc, out, schedule)?;
-    put_programs(alloc, out, chronicle.scenario())?;
+    put_programs_of(alloc, out, chronicle)?;
     put_diagram(alloc, out, chronicle)?;
     put_lieutenants(alloc, out, chronicle)?;
-    put_listed(alloc, out, chronicle.accesses())?;
+    put_accesses(alloc, out, chronicle)?;
     put_chronicle(alloc, out, chronicle)?;
-    put_verdict(out, chronicle.verdict())?;
+    put_verdict_of(out, chronicle)?;
     Ok(())
 }
 
@@ -67,6 +67,35 @@ fn signed_title(alloc: Global, scenario: &Scenario) -> Result<String, AllocError
     let mut words = title(alloc, scenario)?;
     words.push_str("; signed messages")?;
     Ok(words)
+}
+
+/// Adds the programs of the traitors.
+fn put_programs_of(
+    alloc: Global,
+    out: &mut String,
+    chronicle: &SignedChronicle,
+) -> Result<(), AllocError>
+    ensures { OnOk result (string_bytes out.new ≡ string_bytes out.old ++ programs_part chronicle.now.scenario) }
+{
+    put_programs(alloc, out, chronicle.scenario())
+}
+
+/// Adds the accesses to the board, if there are any.
+fn put_accesses(
+    alloc: Global,
+    out: &mut String,
+    chronicle: &SignedChronicle,
+) -> Result<(), AllocError>
+    ensures { OnOk result (string_bytes out.new ≡ string_bytes out.old ++ accesses_part chronicle.now.accesses) }
+{
+    put_listed(alloc, out, chronicle.accesses())
+}
+
+/// Adds the verdict.
+fn put_verdict_of(out: &mut String, chronicle: &SignedChronicle) -> Result<(), AllocError>
+    ensures { OnOk result (string_bytes out.new ≡ string_bytes out.old ++ verdict_told chronicle.now.verdict (bound_told chronicle.now.verdict.bound)) }
+{
+    put_verdict(out, chronicle.verdict())
 }
 
 /// Adds the picture.
