@@ -251,11 +251,7 @@ fn exploration_text(
 }
 
 /// The text of the schedule of a finding's example.
-fn example_text(
-    alloc: Global,
-    scenario: &Scenario,
-    finding: &Finding,
-) -> Result<String, AllocError>
+fn example_text(alloc: Global, scenario: &Scenario, finding: &Finding) -> Result<String, AllocError>
     requires { AreWalks oral_kind (opening oral_kind scenario.now) finding.now.example }
     ensures { IfOk result (λ text. string_bytes text ≡ example_text oral_kind scenario.now finding.now) }
 {

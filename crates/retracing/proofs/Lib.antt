@@ -1,3 +1,3 @@
-mod Arranging
 mod Reading
 mod Retracing
+mod Stopping

@@ -43,10 +43,8 @@ fn take_in(row: &mut Vec<u8>, round: u64, part: &[u8]) -> Result<(), AccessesErr
     let Some(general) = general_of(part) else {
         return Err(AccessesError::At(AccessFault::Text(round, row.len() as u64 + 1)));
     };
-    match row.push(general) {
-        Ok(()) => Ok(()),
-        Err(_) => Err(AccessesError::Memory),
-    }
+    row.push(general)?;
+    Ok(())
 }
 
 /// The generals of this round.

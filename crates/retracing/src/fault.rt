@@ -63,3 +63,11 @@ impl From<AllocError> for AccessesError {
         AccessesError::Memory
     }
 }
+
+impl<T: Drop> From<AllocFailed<T>> for AccessesError {
+    ghost from_gives = { λ _ e. e ≡ Memory };
+
+    fn from(_error: AllocFailed<T>) -> AccessesError {
+        AccessesError::Memory
+    }
+}

@@ -1,6 +1,8 @@
 -- The first access that cannot come.
-use Rattle.std.proofs.Common.{◌≡◌, ℕ, zero, suc, List, [], ◌∷◌, ◌++◌, true, false, refl, sym, ap, subst, ◌∙◌, Some, None, Ok, Err, take}
-use Rattle.std.specs.Prelude.{slice_get, option_and_then}
+use Rattle.std.proofs.Common.{◌≡◌, ℕ, zero, suc, List, [], ◌∷◌, ◌++◌, true, false, Bool, cond, refl, sym, ap, subst, ◌∙◌, Option, Some, None, Result, Ok, Err, nat_lt, take}
+use Rattle.std.specs.Prelude.{slice_get}
+use Rattle.text.specs.Parts.{pieces}
+use Rattle.text.specs.Stop.{space}
 use Rattle.round.specs.Scenario.{Scenario, IsScenario}
 use Rattle.world.specs.declared.schedule.Repeat.{Repeat}
 use Rattle.world.specs.Kind.{Kind, World, opening}
@@ -15,9 +17,11 @@ use Rattle.explore.specs.Planning.{IsPlan}
 use Rattle.explore.specs.declared.scheduled.Scheduled.TheVariants.{By}
 use Rattle.explore.proofs.Deciding.{to_steps}
 use Rattle.explore.proofs.Leading.{replay_completes}
-use Rattle.retracing.specs.Accesses.{accesses_told}
-use Rattle.retracing.specs.Arranged.{BeginsSo, IsArranged, IsFirstThatCannot, IsListedAt, IsNever, IsUnarranged, until}
+use Rattle.retracing.specs.Accesses.{accesses_told, general_of, row_told, rows_told, slash, with_general, with_row}
+use Rattle.retracing.specs.Arranged.{BeginsSo, IfFault, IsArranged, IsFirstThatCannot, IsListedAt, IsNever, IsUnarranged, until}
 use Rattle.retracing.specs.declared.fault.AccessFault.{AccessFault}
+use Rattle.retracing.specs.declared.fault.AccessesError.{AccessesError}
+use Rattle.retracing.specs.declared.fault.AccessesError.TheVariants.{At, Memory}
 use Rattle.retracing.specs.declared.fault.AccessFault.TheVariants.{Text, Never}
 
 module _ (K : Kind) where
@@ -74,3 +78,42 @@ pub unarranged_by : (s : Scenario) (text : List ℕ) (rows : List (List ℕ)) (r
     → IsStuckIn oral_kind (opening oral_kind s) rows round place → IsNever rows round place fault → IsUnarranged s text fault
 unarranged_by s text rows round place (Text r p) is told stuck never = absurd never
 unarranged_by s text rows round place (Never r p general) is told stuck never = (rows, told, (round, (place, never, first_that_cannot s rows round place is stuck)))
+
+-- ---- a text that lists no accesses has the fault of a text
+
+module _ (r p g : ℕ) where
+  row_never : (round : ℕ) (before : List ℕ) (parts : List (List ℕ)) → row_told round before parts ≡ Err (Never r p g) → ⊥
+  row_never round before [] is = cc
+  row_never round before ([] ∷ parts) is = row_never round before parts is
+  row_never round before ((c ∷ cs) ∷ parts) is =
+      go (general_of (c ∷ cs)) (λ general e. row_never round (before ++ general ∷ []) parts e) is
+    where
+      go : (o : Option ℕ) → ((general : ℕ) → row_told round (before ++ general ∷ []) parts ≡ Err (Never r p g) → ⊥)
+          → with_general round before o (λ general. row_told round (before ++ general ∷ []) parts) ≡ Err (Never r p g) → ⊥
+      go None later is = cc
+      go (Some general) later is = later general is
+
+  rows_never : (before : List (List ℕ)) (round : ℕ) (parts : List (List ℕ)) → rows_told before round parts ≡ Err (Never r p g) → ⊥
+  rows_never before round [] is = cc
+  rows_never before round (part ∷ parts) is =
+      go (row_told round [] (pieces space part)) refl (λ row e. rows_never (before ++ row ∷ []) (suc round) parts e) is
+    where
+      by : (row : List ℕ) (b : Bool) → (rows_told (before ++ row ∷ []) (suc round) parts ≡ Err (Never r p g) → ⊥)
+          → cond b (Err (Text round 1)) (rows_told (before ++ row ∷ []) (suc round) parts) ≡ Err (Never r p g) → ⊥
+      by row true later is = cc
+      by row false later is = later is
+
+      go : (told : Result (List ℕ) AccessFault) → row_told round [] (pieces space part) ≡ told
+          → ((row : List ℕ) → rows_told (before ++ row ∷ []) (suc round) parts ≡ Err (Never r p g) → ⊥)
+          → with_row round told (λ row. rows_told (before ++ row ∷ []) (suc round) parts) ≡ Err (Never r p g) → ⊥
+      go (Err fault) told later is = row_never round [] (pieces space part) (told ∙ (let same : fault ≡ Never r p g = cc in ap Err same))
+      go (Ok row) told later is = by row (nat_lt 5 round) (later row) is
+
+  accesses_never : (text : List ℕ) → accesses_told text ≡ Err (Never r p g) → ⊥
+  unfolding accesses_told
+  accesses_never text is = rows_never [] 1 (pieces slash text) is
+
+pub unlisted : (s : Scenario) (text : List ℕ) (error : AccessesError) → IfFault error (λ fault. accesses_told text ≡ Err fault) → IfFault error (IsUnarranged s text)
+unlisted s text (At (Text round place)) is = is
+unlisted s text (At (Never round place general)) is = absurd (accesses_never round place general text is)
+unlisted s text Memory is = tt
