@@ -6,13 +6,11 @@ use Rattle.text.specs.Stop.{space}
 use Rattle.round.specs.Scenario.{Scenario, IsScenario}
 use Rattle.world.specs.declared.schedule.Repeat.{Repeat}
 use Rattle.world.specs.Kind.{Kind, World, opening}
-use Rattle.world.specs.KindLists.{listed, replayed}
-use Rattle.world.specs.Schedules.{lines_by}
 use Rattle.world.specs.World.{oral_kind}
 use Rattle.world.proofs.Campaigns.{oral_campaigns}
-use Rattle.explore.specs.Orders.{will_ask, past, behind, IsRoundFrom, IsFrom, IsOrder, order_of}
+use Rattle.explore.specs.Orders.{past, behind, IsRoundFrom, IsFrom}
 use Rattle.explore.specs.Text.{schedule_text}
-use Rattle.explore.specs.Walks.{IsWalk, AreWalks, IsStuckAt, IsStuckIn, IsCompletion}
+use Rattle.explore.specs.Walks.{IsWalk, AreWalks, IsStuckAt, IsStuckIn}
 use Rattle.explore.specs.Planning.{IsPlan}
 use Rattle.explore.specs.declared.scheduled.Scheduled.TheVariants.{By}
 use Rattle.explore.proofs.Deciding.{to_steps}

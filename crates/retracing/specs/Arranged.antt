@@ -8,7 +8,7 @@ use Rattle.world.specs.Schedules.{lines_by}
 use Rattle.world.specs.World.{oral_kind}
 use Rattle.explore.specs.Orders.{IsOrder, order_of}
 use Rattle.explore.specs.Text.{schedule_text}
-use Rattle.explore.specs.Walks.{AreWalks, IsCompletion, IsStuckIn}
+use Rattle.explore.specs.Walks.{IsCompletion, IsStuckIn}
 use Rattle.retracing.specs.declared.fault.AccessFault.{AccessFault}
 use Rattle.retracing.specs.declared.fault.AccessFault.TheVariants.{Text, Never}
 use Rattle.retracing.specs.declared.fault.AccessesError.{AccessesError}
