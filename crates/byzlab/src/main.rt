@@ -5,7 +5,6 @@
 mod folder;
 mod input;
 mod keeping;
-mod locale;
 mod progress;
 mod target;
 mod telling;
@@ -26,7 +25,6 @@ use folder::FolderOf;
 use input::{Input, Opened};
 use keeping::{Unkept, keep, write_whole};
 use lab::{Failure, FileName, Refusal, is_explained, with_schedules};
-use locale::{in_locale, is_utf8};
 use neighbours::{Untaken, reads_scenario, with_files, with_story};
 use own_lines::refused;
 use progress::Progress;
@@ -66,12 +64,11 @@ fn called<T: Threads + Wait + Sync>(rt: &HostRuntime, threads: &T) -> io::Result
         texts.push(word.as_str())?;
     }
     let requests = each(alloc, texts.as_slice())?;
-    let is_utf8 = is_utf8(rt)?;
     let progress = Progress::of(rt, requests.len());
     let mut worst = 0;
     for (index, words) in requests.iter().enumerate() {
         let request = match command_line::request(alloc, words.as_slice()) {
-            Ok(request) => in_locale(request, is_utf8),
+            Ok(request) => request,
             Err(error) => return unasked(rt, error),
         };
         let _ = progress.clear();
