@@ -25,9 +25,11 @@ module _ (text traitors : List ℕ) (view : View) (form : Form) (general : ℕ) 
   of_campaign s is tells draws =
       (table_of (played s []), subst (λ (own : Bool). IsTableIn own text (table_of (played s []))) (sym is) (s, tells, refl), draws)
 
-  pub of_chronicle : (s : Scenario) (c : Chronicle) (t : MessageTable) → c ≡ played s [] → table_told (table_of c) ≡ Ok t → picture ≡ drawn t traitors view form general
-      → DrawsTable (table_of (played s [])) traitors view form general picture
-  of_chronicle s c t is told draws = subst (λ (own : Chronicle). DrawsTable (table_of own) traitors view form general picture) is (t, told, draws)
+  pub is_drawn : (c : Chronicle) (t : MessageTable) → table_told (table_of c) ≡ Ok t → picture ≡ drawn t traitors view form general → DrawsTable (table_of c) traitors view form general picture
+  is_drawn c t told draws = (t, told, draws)
+
+  pub of_same : (c own : Chronicle) → c ≡ own → DrawsTable (table_of c) traitors view form general picture → DrawsTable (table_of own) traitors view form general picture
+  of_same c own same drawn = subst (λ (x : Chronicle). DrawsTable (table_of x) traitors view form general picture) same drawn
 
 pub no_table : (named text : List ℕ) (refusal : Refusal) → is_toml text ≡ false → RefusesNaming named text refusal → RefusesTree named text refusal
 no_table named text refusal none refuses = subst (λ (own : Bool). RefusesEither own named text refusal) (sym none) refuses

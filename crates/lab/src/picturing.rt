@@ -4,7 +4,7 @@ ghost use Rattle.lab.specs.Campaigns.{played};
 ghost use Rattle.lab.specs.Picturing.{IsTableIn, form_of, is_toml};
 ghost use Rattle.lab.specs.Refusals.{RefusesEither, RefusesNaming, RefusesScenario, RefusesTree};
 ghost use Rattle.lab.specs.Strangers.{KnowsAll};
-ghost use Rattle.retold.specs.Retold.{table_of};
+ghost use Rattle.retold.specs.Retold.{IsWhole, table_of};
 ghost use Rattle.scenario.specs.Told.{Tells};
 
 use crate::deciding::table_in;
@@ -15,7 +15,7 @@ use drawing::{Form, Style, View, drawn, tree_drawn};
 use retold::{hearing, told_table};
 use round::Scenario;
 use std::alloc::{AllocError, Global};
-use world::{Schedule, play};
+use world::{Chronicle, Schedule, play};
 
 /// What this general was told by the message table or, where the text is TOML, in the oral campaign that it tells, without a
 /// schedule; drawn so far, where these generals are named as traitors. Nothing where he is the commander.
@@ -104,7 +104,7 @@ fn is_toml(alloc: Global, text: &str) -> Result<bool, AllocError>
 }
 
 /// What he was told in the campaign.
-#[tactic(auto, using(crate::proofs::CampaignLemmas::played_wholly, crate::proofs::PicturingLemmas::of_chronicle))]
+#[tactic(auto, using(crate::proofs::CampaignLemmas::played_wholly, crate::proofs::PicturingLemmas::of_same))]
 fn campaign_pictured(
     alloc: Global,
     scenario: Scenario,
@@ -120,9 +120,25 @@ fn campaign_pictured(
         lines: Vec::new(alloc),
     };
     let chronicle = play(alloc, scenario, &schedule)?;
-    let told = hearing(alloc, &chronicle)?;
-    let table = told_table(&told, &chronicle);
-    tree_drawn(alloc, &table, traitors, view, form, general)
+    Ok(chronicle_pictured(alloc, &chronicle, traitors, view, form, general)?)
+}
+
+/// What he was told in the campaign of a chronicle, by the message table that its letters tell.
+#[tactic(auto, using(crate::proofs::PicturingLemmas::is_drawn))]
+fn chronicle_pictured(
+    alloc: Global,
+    chronicle: &Chronicle,
+    traitors: &[u8],
+    view: View,
+    form: Form,
+    general: u8,
+) -> Result<String, AllocError>
+    requires { IsWhole chronicle.now }
+    ensures { IfOk result (λ picture. DrawsTable (table_of chronicle.now) traitors.now view form general (string_bytes picture)) }
+{
+    let told = hearing(alloc, chronicle)?;
+    let table = told_table(&told, chronicle);
+    Ok(tree_drawn(alloc, &table, traitors, view, form, general)?)
 }
 
 /// The form of a drawing.
