@@ -6,7 +6,7 @@
 
 _byzlab() {
     local words=("${COMP_WORDS[@]}") at=$COMP_CWORD script="prove --try" offered
-    local commands="check asm dis book table muster play audit explore tree draw page schedule help"
+    local commands="check asm dis book table muster play audit explore tree draw page schedule survey help"
     # (behind --try stand the same words; it and prove are the script's)
     if [ "$at" -gt 1 ] && [ "${words[1]}" = --try ]; then
         words=("${words[0]}" "${words[@]:2}") at=$((at - 1)) script=
@@ -28,6 +28,7 @@ _byzlab() {
     *:page:-*) offered="--schedule --chronicle -o -h --help" ;;
     *:schedule:-*) offered="--accesses -h --help" ;;
     *:explore:-*) offered="--most --keep -h --help" ;;
+    *:survey:-*) offered="--generals --bound --traitors --seeds --rule --patience --signed --adversary --lines --table --svg --shrink --break --keep --sum -h --help" ;;
     *:muster:-*) offered="--explain --json --of -h --help" ;;
     *:audit:-*) offered="--explain --json --verdicts --of -h --help" ;;
     *) offered= ;;

@@ -5,6 +5,7 @@
 mod folder;
 mod input;
 mod keeping;
+mod locale;
 mod progress;
 mod target;
 mod telling;
@@ -14,6 +15,7 @@ ghost use Rattle.std.specs.Prelude.{◌≡◌, Ok, IfOk, IfErr, IfSome, Some, fa
 ghost use Rattle.std.specs.IoError.{error_kind};
 ghost use Rattle.command_line.specs.Told.{file_of, second_of, seed_of};
 ghost use Rattle.neighbours.specs.Seen.{reads_scenario};
+ghost use Rattle.neighbours.specs.Story.{with_story};
 ghost use Rattle.byzlab.specs.Files.{IsInputIf, IsSecondIf, IsSeededIf, IsTextOf};
 ghost use Rattle.byzlab.specs.Telling.{IsExploredEnding, IsStatus, IsUnasked, failure_of};
 
@@ -24,7 +26,8 @@ use folder::FolderOf;
 use input::{Input, Opened};
 use keeping::{Unkept, keep, write_whole};
 use lab::{Failure, FileName, Refusal, is_explained, with_schedules};
-use neighbours::{Untaken, reads_scenario, with_files};
+use locale::{in_locale, is_utf8};
+use neighbours::{Untaken, reads_scenario, with_files, with_story};
 use own_lines::refused;
 use progress::Progress;
 use std::env;
@@ -63,11 +66,12 @@ fn called<T: Threads + Wait + Sync>(rt: &HostRuntime, threads: &T) -> io::Result
         texts.push(word.as_str())?;
     }
     let requests = each(alloc, texts.as_slice())?;
+    let is_utf8 = is_utf8(rt)?;
     let progress = Progress::of(rt, requests.len());
     let mut worst = 0;
     for (index, words) in requests.iter().enumerate() {
         let request = match command_line::request(alloc, words.as_slice()) {
-            Ok(request) => request,
+            Ok(request) => in_locale(request, is_utf8),
             Err(error) => return unasked(rt, error),
         };
         let _ = progress.clear();
@@ -349,22 +353,23 @@ fn completed(rt: &HostRuntime, request: &Request, first: Input) -> io::Result<Op
     }
 }
 
-/// The bytes of a scenario in which the files stand that it names; none where it names some, and is refused, and an explanation
-/// is asked for, after what says so at its own lines and those of the files.
+/// The bytes of a scenario in which the files stand that it names, for a page behind its story; none where it names some, and
+/// is refused, and an explanation is asked for, after what says so at its own lines and those of the files.
 fn made(
     rt: &HostRuntime,
     request: &Request,
     own: &[u8],
     bytes: Vec<u8>,
 ) -> io::Result<Option<Input>>
-    ensures text { IfOk result (λ input. IfSome input (IsTextOf bytes.items)) }
+    ensures text { IfOk result (λ input. IfSome input (IsTextOf (with_story request.now.task own.now bytes.items))) }
     ensures memory { IfErr result (λ error. error_kind error ≡ ErrorKind.OutOfMemory) }
 {
     if let Some(lines) = refused(rt.alloc(), &request.task, own, bytes.as_slice())? {
         turn_down(rt, request, lines.as_str())?;
         return Ok(None);
     }
-    Ok(Some(Opened::Text(Cursor::new(bytes))))
+    let text = with_story(rt.alloc(), &request.task, own, bytes)?;
+    Ok(Some(Opened::Text(Cursor::new(text))))
 }
 
 /// Says that the task is not done, by this line.

@@ -4,10 +4,10 @@ use Rattle.std.specs.Prelude.{if◌then◌else◌}
 use Rattle.std.specs.Fmt.{decimal}
 use Rattle.std.specs.List.{flat_map, range_with_len}
 use Rattle.std.proofs.lemmas.Bool.{cond_both}
-use Rattle.markup.specs.Grammar.{IsContent, joined, no_text, text}
+use Rattle.markup.specs.Grammar.{IsContent, IsElement, joined, no_text, text}
 use Rattle.markup.proofs.TagLaws.{proved_elements_are_elements}
 use Rattle.markup.proofs.TextLemmas.{bare_text}
-use Rattle.page.specs.Page.{cell, fold, heading, item, lines, list, paragraph, table, text_item}
+use Rattle.page.specs.Page.{begun_lines, cell, fold, heading, item, lines, list, paragraph, picture, table, text_item}
 use Rattle.page.proofs.PageLaws.{proved_pages_are_elements, proved_parts_are_content}
 use Rattle.board.specs.Board.{Access}
 use Rattle.book.specs.Decisions.{decision_of}
@@ -30,19 +30,19 @@ use Rattle.trace.specs.Text.{chronicle_text}
 use Rattle.world.specs.Chronicle.{Chronicle}
 use Rattle.world.specs.declared.schedule.Repeat.{Repeat}
 use Rattle.world.specs.declared.verdict.Verdict.{Verdict}
-use Rattle.campaign_page.specs.Account.{access_heads, access_row, accesses_heading, accesses_part, alike_told, bound_told, chronicle_heading, chronicle_part, course_told, general_name, lieutenant_part, lieutenant_told, lieutenant_words, lieutenants_heading, lieutenants_part, obeyed_told, page_text, parts, picture_heading, picture_name, picture_part, program_if, program_part, programs_heading, programs_part, recorded_words, scenario_heading, scenario_part, schedule_heading, schedule_part, title, unscheduled_words, verdict_heading, verdict_part, view, why_part}
+use Rattle.campaign_page.specs.Account.{access_heads, access_row, accesses_heading, accesses_part, alike_told, bound_told, chronicle_heading, chronicle_shown, chronicle_part, course_told, general_name, helper_words, lieutenant_part, lieutenant_told, lieutenant_words, lieutenants_heading, lieutenants_part, obeyed_told, page_text, parts, picture_heading, picture_name, picture_part, picture_told, program_if, program_part, programs_heading, programs_part, recorded_words, scenario_heading, scenario_part, schedule_heading, schedule_part, title, unscheduled_words, verdict_heading, verdict_part, verdict_told, view, why_part}
 use Rattle.campaign_page.specs.Trees.{item_by, items_below, label_item, node_by, root_told, tree_told}
 use Rattle.campaign_page.specs.Laws.{CampaignPagesAreElements}
 
-all : (f : ℕ → List ℕ) (xs : List ℕ) → ((x : ℕ) → IsContent (f x)) → IsContent (flat_map f xs)
+pub all : (f : ℕ → List ℕ) (xs : List ℕ) → ((x : ℕ) → IsContent (f x)) → IsContent (flat_map f xs)
 all f [] h = text [] no_text
 all f (x ∷ xs) h = joined (f x) (flat_map f xs) (h x) (all f xs h)
 
 -- a heading, and what stands below it
-below : (words parts : List ℕ) → IsContent parts → IsContent (heading words ++ parts)
+pub below : (words parts : List ℕ) → IsContent parts → IsContent (heading words ++ parts)
 below words parts c = joined (heading words) parts (proved_parts_are_content.heading words) c
 
-scenario_content : (words : List ℕ) → IsContent (scenario_part words)
+pub scenario_content : (words : List ℕ) → IsContent (scenario_part words)
 scenario_content words = below scenario_heading (lines words) (proved_parts_are_content.lines words)
 
 course_content : (schedule : Option (List (List Repeat))) → IsContent (course_told schedule)
@@ -50,23 +50,28 @@ course_content None = proved_parts_are_content.paragraph recorded_words
 course_content (Some []) = proved_parts_are_content.paragraph unscheduled_words
 course_content (Some (line ∷ rest)) = proved_parts_are_content.lines (schedule_text (line ∷ rest))
 
-schedule_content : (schedule : Option (List (List Repeat))) → IsContent (schedule_part schedule)
+pub schedule_content : (schedule : Option (List (List Repeat))) → IsContent (schedule_part schedule)
 schedule_content schedule = below schedule_heading (course_told schedule) (course_content schedule)
 
 program_content : (g : ℕ) (program : Option (List Insn)) → IsContent (program_if g program)
 program_content g None = text [] no_text
-program_content g (Some program) = proved_parts_are_content.fold (general_name g) (lines (explained program)) (proved_parts_are_content.lines (explained program))
+program_content g (Some program) =
+    proved_parts_are_content.fold (general_name g) (paragraph helper_words ++ begun_lines (explained program))
+    (joined (paragraph helper_words) (begun_lines (explained program)) (proved_parts_are_content.paragraph helper_words) (proved_parts_are_content.begun_lines (explained program)))
 
-programs_content : (s : Scenario) → IsContent (programs_part s)
+pub programs_content : (s : Scenario) → IsContent (programs_part s)
 programs_content s =
     below programs_heading (flat_map (program_part s) (range_with_len 0 s.generals)) (all (program_part s) (range_with_len 0 s.generals) (λ g. program_content g (program_of s g)))
 
+-- a picture that is an element, and a line feed
+pub svg_content : (svg element : List ℕ) → IsElement element → svg ≡ element ++ codes "\n" → IsContent (picture_told svg)
+svg_content svg element is e =
+    let drawn : IsContent svg =
+    subst IsContent (sym e) (joined element (codes "\n") (proved_elements_are_elements.content element is) (text (codes "\n") (bare_text (codes "\n") refl))) in
+    below picture_heading (picture picture_name svg) (proved_parts_are_content.picture picture_name svg drawn)
+
 picture_content : (t : MessageTable) (c : Chronicle) → IsContent (picture_part t c)
-picture_content t c =
-    let drawn = proved_diagrams_are_elements t c in
-    let svg : IsContent (svg_text t c) =
-    subst IsContent (sym drawn.2) (joined drawn.0 (codes "\n") (proved_elements_are_elements.content drawn.0 drawn.1) (text (codes "\n") (bare_text (codes "\n") refl))) in
-    below picture_heading _ (proved_parts_are_content.picture picture_name (svg_text t c) svg)
+picture_content t c = let drawn = proved_diagrams_are_elements t c in svg_content (svg_text t c) drawn.0 drawn.1 drawn.2
 
 why_content : (t : MessageTable) (traitors : List ℕ) (g : ℕ) → IsContent (why_part t traitors g)
 why_content t traitors g =
@@ -128,22 +133,22 @@ rows_content : (accesses : List Access) → IsContent (flat_map access_row acces
 rows_content [] = text [] no_text
 rows_content (a ∷ accesses) = joined (access_row a) (flat_map access_row accesses) (access_content a) (rows_content accesses)
 
-accesses_content : (accesses : List Access) → IsContent (accesses_part accesses)
+pub accesses_content : (accesses : List Access) → IsContent (accesses_part accesses)
 accesses_content [] = text [] no_text
 accesses_content (a ∷ accesses) =
     let rows : List ℕ = access_heads ++ flat_map access_row (a ∷ accesses) in
     below accesses_heading (table rows) (proved_parts_are_content.table rows (joined access_heads (flat_map access_row (a ∷ accesses)) heads_content (rows_content (a ∷ accesses))))
 
-chronicle_content : (c : Chronicle) → IsContent (chronicle_part c)
-chronicle_content c = below chronicle_heading (lines (flat_map encode_utf8 (chronicle_text c))) (proved_parts_are_content.lines (flat_map encode_utf8 (chronicle_text c)))
+pub chronicle_content : (words : List ℕ) → IsContent (chronicle_shown words)
+chronicle_content words = below chronicle_heading (lines (flat_map encode_utf8 words)) (proved_parts_are_content.lines (flat_map encode_utf8 words))
 
-verdict_content : (v : Verdict) → IsContent (verdict_part v)
-verdict_content v =
-    joined (heading verdict_heading ++ paragraph (alike_told v.alike) ++ paragraph (obeyed_told v.obeyed)) (paragraph (bound_told v.bound))
+pub verdict_content : (v : Verdict) (bound : List ℕ) → IsContent (verdict_told v bound)
+verdict_content v bound =
+    joined (heading verdict_heading ++ paragraph (alike_told v.alike) ++ paragraph (obeyed_told v.obeyed)) (paragraph bound)
     (joined (heading verdict_heading ++ paragraph (alike_told v.alike)) (paragraph (obeyed_told v.obeyed))
     (below verdict_heading (paragraph (alike_told v.alike)) (proved_parts_are_content.paragraph (alike_told v.alike)))
     (proved_parts_are_content.paragraph (obeyed_told v.obeyed)))
-    (proved_parts_are_content.paragraph (bound_told v.bound))
+    (proved_parts_are_content.paragraph bound)
 
 parts_content : (words : List ℕ) (schedule : Option (List (List Repeat))) (t : MessageTable) (c : Chronicle) → IsContent (parts words schedule t c)
 unfolding parts
@@ -159,8 +164,8 @@ parts_content words schedule t c =
     (picture_content t c))
     (lieutenants_content t (traitors_of c.scenario)))
     (accesses_content c.accesses))
-    (chronicle_content c))
-    (verdict_content c.verdict)
+    (chronicle_content (chronicle_text c)))
+    (verdict_content c.verdict (bound_told c.verdict.bound))
 
 pub proved_campaign_pages_are_elements : CampaignPagesAreElements
 proved_campaign_pages_are_elements words schedule t c =

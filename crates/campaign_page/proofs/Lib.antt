@@ -1,3 +1,3 @@
-mod AccountLaws
-mod ChainLemmas
+pub mod AccountLaws
+pub mod ChainLemmas
 mod TreeLemmas

@@ -13,7 +13,7 @@ use Rattle.explain.specs.Explained.{explained}
 use Rattle.explore.specs.Text.{schedule_text}
 use Rattle.insn.specs.declared.insn.Insn.{Insn}
 use Rattle.label.specs.Labels.{on}
-use Rattle.page.specs.Page.{cell, fold, head, heading, lines, page, paragraph, picture, row, table}
+use Rattle.page.specs.Page.{begun_lines, cell, fold, head, heading, lines, page, paragraph, picture, row, table}
 use Rattle.retold.specs.Retold.{traitors_of}
 use Rattle.round.specs.Scenario.{Scenario, program_of}
 use Rattle.trace.specs.Text.{chronicle_text}
@@ -75,12 +75,15 @@ course_told (Some schedule) = schedule_told schedule
 abbrev pub schedule_part : Option (List (List Repeat)) → List ℕ
 schedule_part schedule = heading schedule_heading ++ course_told schedule
 
--- the program of a traitor, and what the verifier knows of it
+-- the program of a traitor, and what the verifier knows of it, in which a helper is called by its number
+unfoldable pub helper_words : List ℕ
+helper_words = codes "Helpers are called by numbers: 1 board_get, 2 board_swap, 3 board_add, 4 board_cas, 5 board_copy, 6 send, 7 send_row, 8 sway, 9 honest, 10 sign_order, 11 pass_on."
+
 abbrev pub general_name : ℕ → List ℕ
 general_name g = codes "General " ++ decimal g
 
 abbrev pub program_told : ℕ → List Insn → List ℕ
-program_told g program = fold (general_name g) (lines (explained program))
+program_told g program = fold (general_name g) (paragraph helper_words ++ begun_lines (explained program))
 
 abbrev pub program_if : ℕ → Option (List Insn) → List ℕ
 program_if g None = []
@@ -93,8 +96,11 @@ abbrev pub programs_part : Scenario → List ℕ
 programs_part s = heading programs_heading ++ flat_map (program_part s) (range_with_len 0 s.generals)
 
 -- the picture
+abbrev pub picture_told : List ℕ → List ℕ
+picture_told svg = heading picture_heading ++ picture picture_name svg
+
 abbrev pub picture_part : MessageTable → Chronicle → List ℕ
-picture_part t c = heading picture_heading ++ picture picture_name (svg_text t c)
+picture_part t c = picture_told (svg_text t c)
 
 -- what a lieutenant decides, his tree, three levels below the commander's, and shorter where all tell the same, and how his decision comes about
 abbrev pub view : View
@@ -132,8 +138,11 @@ accesses_part [] = []
 accesses_part (a ∷ accesses) = heading accesses_heading ++ table (access_heads ++ flat_map access_row (a ∷ accesses))
 
 -- the chronicle, each of its bytes as a character
+abbrev pub chronicle_shown : List ℕ → List ℕ
+chronicle_shown text = heading chronicle_heading ++ lines (flat_map encode_utf8 text)
+
 abbrev pub chronicle_part : Chronicle → List ℕ
-chronicle_part c = heading chronicle_heading ++ lines (flat_map encode_utf8 (chronicle_text c))
+chronicle_part c = chronicle_shown (chronicle_text c)
 
 -- the verdict, and which promise holds (TOPLAS 1982, IC1 and IC2)
 unfoldable pub alike_told : Bool → List ℕ
@@ -149,9 +158,11 @@ unfoldable pub bound_told : Bool → List ℕ
 bound_told true = codes "The bound holds: there are few enough traitors, so that loyal lieutenants decide alike, and obey a loyal commander, whatever the traitors do."
 bound_told false = codes "The bound does not hold, by too few generals or too many traitors: no promise."
 
+abbrev pub verdict_told : Verdict → List ℕ → List ℕ
+verdict_told v bound = heading verdict_heading ++ paragraph (alike_told v.alike) ++ paragraph (obeyed_told v.obeyed) ++ paragraph bound
+
 abbrev pub verdict_part : Verdict → List ℕ
-verdict_part v =
-    heading verdict_heading ++ paragraph (alike_told v.alike) ++ paragraph (obeyed_told v.obeyed) ++ paragraph (bound_told v.bound)
+verdict_part v = verdict_told v (bound_told v.bound)
 
 -- all sections, of a chronicle whose letters tell this message table, whose scenario this text tells, and which was played by this schedule, if by one
 unfoldable pub parts : List ℕ → Option (List (List Repeat)) → MessageTable → Chronicle → List ℕ

@@ -1,15 +1,16 @@
 //! A campaign as a page.
 ghost use Rattle.std.specs.Prelude.{◌≡◌, ◌++◌, encode_utf8, flat_map, option_map, string_bytes, IfOk, OnOk};
-ghost use Rattle.campaign_page.specs.Account.{picture_name, chronicle_heading, picture_heading, scenario_heading, chronicle_part, page_text, parts, picture_part, scenario_part, title, title_words};
+ghost use Rattle.campaign_page.specs.Account.{picture_name, chronicle_heading, picture_heading, scenario_heading, chronicle_shown, chronicle_part, page_text, parts, picture_part, picture_told, scenario_part, title, title_words};
 ghost use Rattle.trace.specs.Text.{chronicle_text};
 
 use crate::accesses::put_accesses;
 use crate::schedule::put_schedule;
-use crate::sections::{put_lieutenants, put_programs};
+use crate::sections::{put_lieutenants, put_programs_of};
 use crate::verdict::put_verdict;
 use book::Heard;
 use diagram::campaign_svg;
 use page::{finish, put_heading, put_lines, put_picture, start};
+use round::Scenario;
 use std::alloc::{AllocError, Global};
 use trace::{Latch, write_chronicle};
 use world::{Chronicle, Schedule};
@@ -29,7 +30,7 @@ pub fn page_text<H: Heard>(
 ) -> Result<String, AllocError>
     ensures { IfOk result (λ text. string_bytes text ≡ page_text scenario_text.now (option_map (λ s. s.now) schedule.entry) (H.seen table.now) chronicle.now) }
 {
-    let title = title(alloc, chronicle)?;
+    let title = title(alloc, chronicle.scenario())?;
     let mut out = start(alloc, title.as_str())?;
     put_parts(alloc, &mut out, scenario_text, schedule, table, chronicle)?;
     finish(&mut out)?;
@@ -49,7 +50,7 @@ fn put_parts<H: Heard>(
 {
     put_scenario(out, scenario_text)?;
     put_schedule(alloc, out, schedule)?;
-    put_programs(alloc, out, chronicle)?;
+    put_programs_of(alloc, out, chronicle)?;
     put_diagram(alloc, out, table, chronicle)?;
     put_lieutenants(alloc, out, table, chronicle)?;
     put_accesses(alloc, out, chronicle)?;
@@ -59,10 +60,9 @@ fn put_parts<H: Heard>(
 }
 
 /// The campaign's numbers.
-fn title(alloc: Global, chronicle: &Chronicle) -> Result<String, AllocError>
-    ensures { IfOk result (λ text. string_bytes text ≡ title chronicle.now.scenario) }
+pub fn title(alloc: Global, scenario: &Scenario) -> Result<String, AllocError>
+    ensures { IfOk result (λ text. string_bytes text ≡ title scenario.now) }
 {
-    let scenario = chronicle.scenario();
     title_of(
         alloc,
         scenario.generals(),
@@ -89,7 +89,11 @@ fn title_of(
 }
 
 /// Adds the scenario's text.
-fn put_scenario(out: &mut String, text: &str) -> Result<(), AllocError>
+///
+/// # Errors
+///
+/// No memory for the text; so of every function here.
+pub fn put_scenario(out: &mut String, text: &str) -> Result<(), AllocError>
     ensures { OnOk result (string_bytes out.new ≡ string_bytes out.old ++ scenario_part text.now) }
 {
     put_heading(out, scenario_heading())?;
@@ -106,8 +110,15 @@ fn put_diagram<H: Heard>(
     ensures { OnOk result (string_bytes out.new ≡ string_bytes out.old ++ picture_part (H.seen table.now) chronicle.now) }
 {
     let svg = campaign_svg(alloc, table, chronicle)?;
+    put_svg(out, svg.as_str())
+}
+
+/// Adds this picture.
+pub fn put_svg(out: &mut String, svg: &str) -> Result<(), AllocError>
+    ensures { OnOk result (string_bytes out.new ≡ string_bytes out.old ++ picture_told svg.now) }
+{
     put_heading(out, picture_heading())?;
-    put_picture(out, picture_name(), svg.as_str())
+    put_picture(out, picture_name(), svg)
 }
 
 /// Adds the chronicle.
@@ -115,17 +126,25 @@ fn put_chronicle(alloc: Global, out: &mut String, chronicle: &Chronicle) -> Resu
     ensures { OnOk result (string_bytes out.new ≡ string_bytes out.old ++ chronicle_part chronicle.now) }
 {
     let text = chronicle_text(alloc, chronicle)?;
+    put_chronicle_text(alloc, out, text.as_slice())
+}
+
+/// Adds a chronicle of this text.
+pub fn put_chronicle_text(alloc: Global, out: &mut String, text: &[u8]) -> Result<(), AllocError>
+    ensures { OnOk result (string_bytes out.new ≡ string_bytes out.old ++ chronicle_shown text.now) }
+{
+    let text = text_of(alloc, text)?;
     put_heading(out, chronicle_heading())?;
     put_lines(out, text.as_str())
 }
 
 /// The text of a chronicle.
-fn chronicle_text(alloc: Global, chronicle: &Chronicle) -> Result<String, AllocError>
-    ensures { IfOk result (λ text. string_bytes text ≡ flat_map encode_utf8 (chronicle_text chronicle.now)) }
+fn chronicle_text(alloc: Global, chronicle: &Chronicle) -> Result<Vec<u8>, AllocError>
+    ensures { IfOk result (λ text. text.items ≡ chronicle_text chronicle.now) }
 {
     let mut latch = Latch::new(Vec::new(alloc));
     match write_chronicle(chronicle, &mut latch) {
-        Ok(()) => text_of(alloc, latch.into_writer().as_slice()),
+        Ok(()) => Ok(latch.into_writer()),
         Err(_) => Err(AllocError),
     }
 }

@@ -1,4 +1,5 @@
-//! A campaign as a page of HTML: its scenario, the programs, the picture, the trees, the chronicle and the verdict.
+//! A campaign as a page of HTML: its scenario, the programs, the picture, the trees, the chronicle and the verdict. Its parts
+//! are public, for pages of other campaigns.
 #![tactic(auto)]
 
 mod accesses;
@@ -9,5 +10,9 @@ mod schedule;
 mod sections;
 mod verdict;
 
-pub use account::page_text;
+pub use accesses::put_listed;
+pub use account::{page_text, put_chronicle_text, put_scenario, put_svg, title};
 pub use laws::campaign_pages_are_elements;
+pub use schedule::put_schedule;
+pub use sections::put_programs;
+pub use verdict::put_verdict_told;

@@ -8,7 +8,11 @@ use std::alloc::{AllocError, Global};
 use world::Schedule;
 
 /// Adds the schedule by which the campaign was played, or that its course is a chronicle's.
-pub(crate) fn put_schedule(
+///
+/// # Errors
+///
+/// No memory for the text.
+pub fn put_schedule(
     alloc: Global,
     out: &mut String,
     schedule: Option<&Schedule>,

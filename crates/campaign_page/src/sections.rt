@@ -1,7 +1,7 @@
 //! Sections with a part for each general.
 ghost use Rattle.std.specs.Prelude.{◌≡◌, ◌<◌, ◌++◌, flat_map, option_map, string_bytes, IfOk, OnOk};
 ghost use Rattle.std.specs.List.{range_with_len};
-ghost use Rattle.campaign_page.specs.Account.{lieutenants_heading, programs_heading, lieutenant_part, lieutenant_words, lieutenants_part, program_part, program_told, programs_part, traitor_words, why_part, general_name, view};
+ghost use Rattle.campaign_page.specs.Account.{lieutenants_heading, programs_heading, lieutenant_part, lieutenant_words, lieutenants_part, program_part, program_told, programs_part, traitor_words, why_part, general_name, helper_words, view};
 ghost use Rattle.label.specs.Labels.{on};
 ghost use Rattle.retold.specs.Retold.{traitors_of};
 ghost use Rattle.round.specs.Scenario.{program_of};
@@ -11,22 +11,39 @@ use book::{Heard, decision, explain_one};
 use drawing::View;
 use explain::explanation;
 use insn::Program;
-use page::{put_fold_end, put_fold_start, put_heading, put_lines};
+use page::{
+    put_begun_lines, put_fold_end, put_fold_start, put_heading, put_lines, put_paragraph,
+};
 use retold::traitors;
 use round::Scenario;
 use std::alloc::{AllocError, Global};
 use world::Chronicle;
 
-/// Adds the traitors' programs, each with what the verifier knows of it.
-pub(crate) fn put_programs(
+/// Adds the programs of a campaign's traitors.
+pub(crate) fn put_programs_of(
     alloc: Global,
     out: &mut String,
     chronicle: &Chronicle,
 ) -> Result<(), AllocError>
     ensures { OnOk result (string_bytes out.new ≡ string_bytes out.old ++ programs_part chronicle.now.scenario) }
 {
+    put_programs(alloc, out, chronicle.scenario())
+}
+
+/// Adds the traitors' programs, each with what the verifier knows of it.
+///
+/// # Errors
+///
+/// No memory for the text; so of every function here.
+pub fn put_programs(
+    alloc: Global,
+    out: &mut String,
+    scenario: &Scenario,
+) -> Result<(), AllocError>
+    ensures { OnOk result (string_bytes out.new ≡ string_bytes out.old ++ programs_part scenario.now) }
+{
     put_heading(out, programs_heading())?;
-    put_each_program(alloc, out, chronicle.scenario())
+    put_each_program(alloc, out, scenario)
 }
 
 /// Adds that of each traitor.
@@ -67,8 +84,18 @@ fn put_program(
     let told = explanation(alloc, program)?;
     let name = general_name(alloc, general)?;
     put_fold_start(out, name.as_str())?;
-    put_lines(out, told.as_str())?;
+    put_paragraph(out, helper_words())?;
+    put_begun_lines(out, told.as_str())?;
     put_fold_end(out)
+}
+
+/// Which helper has which number.
+#[tactic(auto, unfolding(crate::specs::Account::helper_words))]
+fn helper_words() -> &'static str
+    ensures { result.now ≡ helper_words }
+{
+    "Helpers are called by numbers: 1 board_get, 2 board_swap, 3 board_add, 4 board_cas, 5 board_copy, 6 send, \
+     7 send_row, 8 sway, 9 honest, 10 sign_order, 11 pass_on."
 }
 
 /// A general's name.
@@ -178,7 +205,7 @@ fn lieutenant_name(
 }
 
 /// What marks a traitor.
-fn traitor_words(is_traitor: bool) -> &'static str
+pub(crate) fn traitor_words(is_traitor: bool) -> &'static str
     ensures { result.now ≡ traitor_words is_traitor }
 {
     if is_traitor { ", a traitor," } else { "" }

@@ -1,6 +1,6 @@
 //! The verdict on a campaign, and what was promised.
 ghost use Rattle.std.specs.Prelude.{◌≡◌, ◌++◌, string_bytes, OnOk};
-ghost use Rattle.campaign_page.specs.Account.{verdict_heading, alike_told, bound_told, obeyed_told, verdict_part};
+ghost use Rattle.campaign_page.specs.Account.{verdict_heading, alike_told, bound_told, obeyed_told, verdict_part, verdict_told};
 
 use page::{put_heading, put_paragraph};
 use std::alloc::AllocError;
@@ -10,17 +10,26 @@ use world::{Chronicle, Verdict};
 pub(crate) fn put_verdict(out: &mut String, chronicle: &Chronicle) -> Result<(), AllocError>
     ensures { OnOk result (string_bytes out.new ≡ string_bytes out.old ++ verdict_part chronicle.now.verdict) }
 {
-    put_told(out, chronicle.verdict())
+    let verdict = chronicle.verdict();
+    put_verdict_told(out, verdict, bound_words(verdict.bound))
 }
 
-/// Adds this verdict.
-fn put_told(out: &mut String, verdict: Verdict) -> Result<(), AllocError>
-    ensures { OnOk result (string_bytes out.new ≡ string_bytes out.old ++ verdict_part verdict) }
+/// Adds this verdict, and these words on its bound.
+///
+/// # Errors
+///
+/// No memory for the text.
+pub fn put_verdict_told(
+    out: &mut String,
+    verdict: Verdict,
+    bound: &str,
+) -> Result<(), AllocError>
+    ensures { OnOk result (string_bytes out.new ≡ string_bytes out.old ++ verdict_told verdict bound.now) }
 {
     put_heading(out, verdict_heading())?;
     put_paragraph(out, alike_words(verdict.alike))?;
     put_paragraph(out, obeyed_words(verdict.obeyed))?;
-    put_paragraph(out, bound_words(verdict.bound))
+    put_paragraph(out, bound)
 }
 
 /// Whether the loyal lieutenants decide alike.

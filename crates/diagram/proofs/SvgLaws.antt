@@ -18,6 +18,7 @@ use Rattle.diagram.specs.Bands.{access_at, accesses_from, band, bands, board_lin
 use Rattle.diagram.specs.Facts.{strokes_of}
 use Rattle.diagram.specs.Foot.{alike_words, bound_words, decided, decided_all, decided_at, decided_if, decides_words, foot, obeyed_words, place_of, shape_of, sort_of, verdict_lines}
 use Rattle.diagram.specs.Laws.{DiagramsAreElements}
+use Rattle.diagram.specs.Legend.{differs_meaning, legend, legend_of, marks_words, meaning_at, missing_meaning, told_meaning, wide_meaning}
 use Rattle.diagram.specs.Layout.{access_top, board, column, fan_top, height, rows_top, top_of, width}
 use Rattle.diagram.specs.Shapes.{group_at, group_start, line, mark, stroke_at, stroke_open, stroke_way, text_at, text_start, title}
 use Rattle.diagram.specs.Svg.{board_head, box_words, campaign_words, general_head, head, head_of, heads, key, look, picture, start, svg_text, svg_with}
@@ -428,17 +429,52 @@ verdict_content v =
     (joined a b (text_content (codes "name") 120 64 (alike_words v.alike) name (alike_text v.alike)) (text_content (codes "name") 120 84 (obeyed_words v.obeyed) name (obeyed_text v.obeyed)))
     (text_content (codes "name") 120 104 (bound_words v.bound) name (bound_text v.bound))
 
+-- ---- what the marks mean
+
+meaning_content : (y : ℕ) (kind outline words : List ℕ) → IsText kind → IsText outline → IsText words → IsContent (meaning_at y kind outline words)
+meaning_content y kind outline words k o w =
+    let m : List ℕ = mark kind outline in
+    let t : List ℕ = text_at (codes "small") 12 4 words in
+    let st : List ℕ = stroke_at kind 2 0 0 36 0 words in
+    group_content 120 y (st ++ group_at 52 0 (m ++ t))
+    (joined st (group_at 52 0 (m ++ t)) (stroke_content kind 2 0 0 36 0 words k w)
+    (group_content 52 0 (m ++ t) (joined m t (mark_content kind outline k o) (text_content (codes "small") 12 4 words small w))))
+
+pub legend_of_content : (told differs missing wide : List ℕ) → IsText told → IsText differs → IsText missing → IsText wide → IsContent (legend_of told differs missing wide)
+unfolding marks_words
+legend_of_content told differs missing wide a b c d =
+    let one : List ℕ = meaning_at 132 (codes "told key") (outline_of false None) told in
+    let two : List ℕ = meaning_at 152 (codes "lie key") (outline_of true (Some 0)) differs in
+    let three : List ℕ = meaning_at 172 (codes "none key") (outline_of true None) missing in
+    let four : List ℕ = text_at (codes "small") 120 196 wide in
+    joined (one ++ two ++ three ++ four) (text_at (codes "small") 120 214 marks_words)
+    (joined (one ++ two ++ three) four
+    (joined (one ++ two) three
+    (joined one two (meaning_content 132 (codes "told key") (outline_of false None) told (bare_text (codes "told key") refl) (outline_text false None) a)
+    (meaning_content 152 (codes "lie key") (outline_of true (Some 0)) differs (bare_text (codes "lie key") refl) (outline_text true (Some 0)) b))
+    (meaning_content 172 (codes "none key") (outline_of true None) missing (bare_text (codes "none key") refl) (outline_text true None) c))
+    (text_content (codes "small") 120 196 wide small d))
+    (text_content (codes "small") 120 214 marks_words small (bare_text marks_words refl))
+
+legend_content : IsContent legend
+unfolding told_meaning differs_meaning missing_meaning wide_meaning
+legend_content =
+    legend_of_content told_meaning differs_meaning missing_meaning wide_meaning (bare_text told_meaning refl) (bare_text differs_meaning refl)
+    (bare_text missing_meaning refl) (bare_text wide_meaning refl)
+
 foot_content : (c : Chronicle) (wide top : ℕ) → IsContent (foot c wide top)
 foot_content c wide top =
     let a : List ℕ = line (codes "rule") 16 0 wide 0 in
     let b : List ℕ = text_at (codes "round") 16 28 (codes "decisions") in
     let d : List ℕ = decided_all c.scenario c.decisions in
-    group_content 0 top (a ++ b ++ d ++ verdict_lines c.verdict)
+    group_content 0 top (a ++ b ++ d ++ verdict_lines c.verdict ++ legend)
+    (joined (a ++ b ++ d ++ verdict_lines c.verdict) legend
     (joined (a ++ b ++ d) (verdict_lines c.verdict)
     (joined (a ++ b) d
     (joined a b (line_content (codes "rule") 16 0 wide 0 (bare_text (codes "rule") refl)) (text_content (codes "round") 16 28 (codes "decisions") (bare_text (codes "round") refl) (bare_text (codes "decisions") refl)))
     (decisions_content c.scenario c.decisions))
     (verdict_content c.verdict))
+    legend_content)
 
 -- ---- the head
 
@@ -545,7 +581,7 @@ proved_diagrams_are_elements t c =
     let bottom : ℕ = top_of s.generals strokes c.accesses (s.bound + 1) in
     let wide : ℕ = width s.generals c.accesses in
     let w : ℕ = wide + 16 in
-    let h : ℕ = bottom + 124 in
+    let h : ℕ = bottom + 230 in
     let a : List ℕ = head s in
     let b : List ℕ = heads s c.accesses in
     let d : List ℕ = bands s.generals strokes c.accesses wide (s.bound + 1) in

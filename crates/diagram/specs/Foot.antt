@@ -1,4 +1,4 @@
--- What stands below the bands of a picture: the decisions and the verdict (TOPLAS 1982, IC1 and IC2).
+-- What stands below the bands of a picture: the decisions and the verdict (TOPLAS 1982, IC1 and IC2), and what the marks mean.
 use Rattle.std.specs.Prelude.{ℕ, ◌-◌, ◌==◌, nat_lt, Bool, true, false, if◌then◌else◌, List, [], ◌++◌, flat_map, codes, slice_get, Option, None, Some}
 use Rattle.std.specs.Fmt.{decimal}
 use Rattle.std.specs.List.{range_with_len}
@@ -6,6 +6,7 @@ use Rattle.round.specs.Scenario.{Scenario, is_traitor}
 use Rattle.world.specs.Chronicle.{Chronicle}
 use Rattle.world.specs.declared.verdict.Verdict.{Verdict}
 use Rattle.diagram.specs.Layout.{column}
+use Rattle.diagram.specs.Legend.{legend}
 use Rattle.diagram.specs.Shapes.{group_at, line, mark, text_at}
 
 -- a general's shape: a square for a traitor, a circle for a loyal one
@@ -57,4 +58,4 @@ verdict_lines v =
 abbrev pub foot : Chronicle → ℕ → ℕ → List ℕ
 foot c wide top =
     group_at 0 top
-    (line (codes "rule") 16 0 wide 0 ++ text_at (codes "round") 16 28 (codes "decisions") ++ decided_all c.scenario c.decisions ++ verdict_lines c.verdict)
+    (line (codes "rule") 16 0 wide 0 ++ text_at (codes "round") 16 28 (codes "decisions") ++ decided_all c.scenario c.decisions ++ verdict_lines c.verdict ++ legend)

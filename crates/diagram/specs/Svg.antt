@@ -78,7 +78,7 @@ svg_with strokes c =
     let s = c.scenario in
     let bottom = top_of s.generals strokes c.accesses (s.bound + 1) in
     let wide = width s.generals c.accesses in
-    picture (wide + 16) (bottom + 124) (head s ++ heads s c.accesses ++ bands s.generals strokes c.accesses wide (s.bound + 1) ++ foot c wide bottom)
+    picture (wide + 16) (bottom + 230) (head s ++ heads s c.accesses ++ bands s.generals strokes c.accesses wide (s.bound + 1) ++ foot c wide bottom)
 
 -- the picture of a chronicle, whose letters tell this message table
 unfoldable pub svg_text : MessageTable → Chronicle → List ℕ

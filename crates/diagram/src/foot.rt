@@ -1,9 +1,10 @@
-//! What stands below the bands of a picture: the decisions and the verdict.
+//! What stands below the bands of a picture: the decisions, the verdict, and what the marks mean.
 ghost use Rattle.std.specs.Prelude.{◌≡◌, ◌≤◌, ◌<◌, ◌++◌, flat_map, string_bytes, OnOk, slice_get};
 ghost use Rattle.std.specs.List.{range_with_len};
 ghost use Rattle.diagram.specs.Foot.{alike_words, bound_words, decided, decided_all, decided_at, decides_words, foot, obeyed_words, place_of, shape_of, sort_of, verdict_lines};
 
 use crate::layout::column;
+use crate::legend::put_legend;
 use crate::shapes::{
     put_group_end, put_group_start, put_line, put_mark, put_text_end, put_text_start, put_words,
 };
@@ -11,7 +12,7 @@ use round::Scenario;
 use std::alloc::AllocError;
 use world::{Chronicle, Verdict};
 
-/// Adds the decisions and the verdict, at this height.
+/// Adds the decisions, the verdict and what the marks mean, at this height.
 pub(crate) fn put_foot(
     out: &mut String,
     chronicle: &Chronicle,
@@ -26,6 +27,7 @@ pub(crate) fn put_foot(
     put_words(out, "round", 16, 28, "decisions")?;
     put_decisions(out, scenario, chronicle.decisions())?;
     put_verdict(out, chronicle.verdict())?;
+    put_legend(out)?;
     put_group_end(out)
 }
 

@@ -42,7 +42,7 @@ pub fn campaign_svg<H: Heard>(
     let wide = width(alloc, generals, accesses)?;
     let bottom = top_of(generals, strokes.as_slice(), accesses, rounds);
     let mut text = String::from_str(alloc, start())?;
-    put_box(&mut text, wide + 16, bottom + 124)?;
+    put_box(&mut text, wide + 16, bottom + 230)?;
     put_head(&mut text, scenario)?;
     put_heads(&mut text, scenario, accesses)?;
     put_bands(

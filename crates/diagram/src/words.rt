@@ -100,7 +100,7 @@ pub fn outline(stroke: &Stroke) -> &'static str
     outline_of(stroke.differs, stroke.told)
 }
 
-fn outline_of(differs: bool, told: Option<u32>) -> &'static str
+pub(crate) fn outline_of(differs: bool, told: Option<u32>) -> &'static str
     ensures { result.now ≡ outline_of differs told }
 {
     match (differs, told) {

@@ -21,7 +21,7 @@ use Rattle.drawing.specs.Laws.{PicturesAreElements}
 use Rattle.drawing.specs.Places.{branch_at}
 use Rattle.drawing.specs.Rows.{branch_way, branch_ways, kind, lines_end, lines_start, outcome_class, outline, row, row_end, row_start, rows_from, shape, stub, way, widest, word_text}
 use Rattle.drawing.specs.Shown.{nodes_of}
-use Rattle.drawing.specs.Svg.{head, heading, key, look, picture, size, start, svg_text, title, view_box}
+use Rattle.drawing.specs.Svg.{breadth, head, heading, inside, key, legend, look, meanings, picture, size, start, svg_text, tallness, title, view_box}
 use Rattle.drawing.specs.Words.{extent_words, mark_words, outcome_words, said, told_words, words}
 
 -- ---- words
@@ -210,6 +210,68 @@ unfolding rows_from
 rows_content n p place [] = text [] no_text
 rows_content n p place (node ∷ nodes) = joined (row n p place node) (rows_from n p (place + 1) nodes) (row_content n p place node) (rows_content n p (place + 1) nodes)
 
+-- ---- what the shapes mean
+
+abbrev words_at : List ℕ → List ℕ → List ℕ
+words_at y words = element (codes "text") (attribute (codes "x") (codes "14") ++ (attribute (codes "y") y ++ [])) words
+
+shape_content : (class way : List ℕ) → IsText class → IsText way → IsContent (shape_of class way)
+shape_content class way c w = alone (codes "path") (attribute (codes "class") class ++ (attribute (codes "d") way ++ [])) (path_tag class way c w)
+
+words_content : (y words : List ℕ) → IsText y → IsText words → IsContent (words_at y words)
+words_content y words t u = nested (codes "text") (attribute (codes "x") (codes "14") ++ (attribute (codes "y") y ++ [])) words (text_tag (codes "14") y (bare_text (codes "14") refl) t) (text words u)
+
+abbrev meaning_at : List ℕ → List ℕ → List ℕ → List ℕ → List ℕ
+meaning_at class way y words = shape_of class way ++ words_at y words
+
+meaning_content : (class way y words : List ℕ) → IsText class → IsText way → IsText y → IsText words → IsContent (meaning_at class way y words)
+meaning_content class way y words c w t u = joined (shape_of class way) (words_at y words) (shape_content class way c w) (words_content y words t u)
+
+abbrev circle_meaning : List ℕ
+circle_meaning = meaning_at (codes "told") (codes "M0 18a6 6 0 0 1 0 12a6 6 0 0 1 0-12z") (codes "29") (codes "no lie is known")
+
+abbrev square_meaning : List ℕ
+square_meaning = meaning_at (codes "word") (codes "M0 42h6v12h-12v-12z") (codes "53") (codes "a named commander, his word")
+
+abbrev diamond_meaning : List ℕ
+diamond_meaning = meaning_at (codes "lie") (codes "M0 64l8 8l-8 8l-8-8z") (codes "77") (codes "a lie of a named traitor")
+
+abbrev dashes_meaning : List ℕ
+dashes_meaning = meaning_at (codes "told split") (codes "M0 90a6 6 0 0 1 0 12a6 6 0 0 1 0-12z") (codes "101") (codes "no order has a majority")
+
+abbrev rule_above : List ℕ
+rule_above = lines_of (codes "M0 6h240")
+
+meanings_are : meanings ≡ rule_above ++ circle_meaning ++ square_meaning ++ diamond_meaning ++ dashes_meaning
+unfolding meanings
+meanings_are = refl
+
+meanings_content : IsContent meanings
+meanings_content =
+    subst IsContent (sym meanings_are)
+    (joined (rule_above ++ circle_meaning ++ square_meaning ++ diamond_meaning) dashes_meaning
+    (joined (rule_above ++ circle_meaning ++ square_meaning) diamond_meaning
+    (joined (rule_above ++ circle_meaning) square_meaning
+    (joined rule_above circle_meaning (shape_content (codes "line") (codes "M0 6h240") (bare_text (codes "line") refl) (bare_text (codes "M0 6h240") refl))
+    (meaning_content (codes "told") (codes "M0 18a6 6 0 0 1 0 12a6 6 0 0 1 0-12z") (codes "29") (codes "no lie is known") (bare_text _ refl) (bare_text _ refl) (bare_text _ refl) (bare_text _ refl)))
+    (meaning_content (codes "word") (codes "M0 42h6v12h-12v-12z") (codes "53") (codes "a named commander, his word") (bare_text _ refl) (bare_text _ refl) (bare_text _ refl) (bare_text _ refl)))
+    (meaning_content (codes "lie") (codes "M0 64l8 8l-8 8l-8-8z") (codes "77") (codes "a lie of a named traitor") (bare_text _ refl) (bare_text _ refl) (bare_text _ refl) (bare_text _ refl)))
+    (meaning_content (codes "told split") (codes "M0 90a6 6 0 0 1 0 12a6 6 0 0 1 0-12z") (codes "101") (codes "no order has a majority") (bare_text _ refl) (bare_text _ refl) (bare_text _ refl) (bare_text _ refl)))
+
+legend_whole : (number content : List ℕ) → (codes "<g transform=\"translate(16 " ++ (number ++ codes ")\">")) ++ content ++ (codes "</g>" ++ codes "\n") ≡ group_of (codes "translate(16 " ++ (number ++ codes ")")) content ++ codes "\n"
+legend_whole number content = simp append_assoc
+
+legend_content : (place : ℕ) → IsContent (legend place)
+unfolding row_start row_end
+legend_content place =
+    let place_is = many (codes "translate(16 ") (decimal (36 + 24 * place) ++ codes ")") (bare_text (codes "translate(16 ") refl) (many (decimal (36 + 24 * place)) (codes ")") (decimal_text (36 + 24 * place)) (bare_text (codes ")") refl)) in
+    subst IsContent (sym (legend_whole (decimal (36 + 24 * place)) meanings))
+    (joined (group_of (place_of place) meanings) (codes "\n") (nested (codes "g") (attribute (codes "transform") (place_of place) ++ []) meanings (group_tag (place_of place) place_is) meanings_content)
+    (text (codes "\n") (bare_text (codes "\n") refl)))
+
+inside_content : (n p : ℕ) (nodes : List Node) → IsContent (inside n p nodes)
+inside_content n p nodes = joined (rows_from n p 0 nodes) (legend (length nodes)) (rows_content n p 0 nodes) (legend_content (length nodes))
+
 -- ---- the head
 
 abbrev headline : ℕ → ℕ → List ℕ
@@ -309,17 +371,17 @@ pub proved_pictures_are_elements : PicturesAreElements
 unfolding svg_text
 proved_pictures_are_elements t traitors view p =
     let nodes : List Node = nodes_of t traitors view p in
-    let w : ℕ = 48 + widest nodes in
-    let h : ℕ = 48 + 24 * length nodes in
-    let inner : List ℕ = head p (decision_of t p) ++ rows_from t.generals p 0 nodes in (
+    let w : ℕ = breadth nodes in
+    let h : ℕ = tallness nodes in
+    let inner : List ℕ = head p (decision_of t p) ++ inside t.generals p nodes in (
       element (codes "svg") (attributes w h) inner,
       record {
         name = codes "svg";
         attributes = attributes w h;
         content = inner;
         tag = svg_tag w h;
-        inside = joined (head p (decision_of t p)) (rows_from t.generals p 0 nodes) (head_content p (decision_of t p)) (rows_content t.generals p 0 nodes);
+        inside = joined (head p (decision_of t p)) (inside t.generals p nodes) (head_content p (decision_of t p)) (inside_content t.generals p nodes);
         whole = refl;
       },
-      picture_is w h (head p (decision_of t p)) (rows_from t.generals p 0 nodes),
+      picture_is w h (head p (decision_of t p)) (inside t.generals p nodes),
     )

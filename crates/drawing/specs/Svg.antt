@@ -1,10 +1,11 @@
 -- The tree of a lieutenant as a picture in SVG.
-use Rattle.std.specs.Prelude.{ℕ, ◌+◌, ◌*◌, List, ◌++◌, length, codes}
+use Rattle.std.specs.Prelude.{ℕ, ◌+◌, ◌*◌, max, List, ◌++◌, length, codes}
 use Rattle.std.specs.Fmt.{decimal}
 use Rattle.book.specs.Decisions.{decision_of}
 use Rattle.book.specs.Table.{MessageTable}
 use Rattle.drawing.specs.declared.node.View.{View}
-use Rattle.drawing.specs.Rows.{rows_from, widest}
+use Rattle.drawing.specs.declared.node.Node.{Node}
+use Rattle.drawing.specs.Rows.{row_end, row_start, rows_from, widest}
 use Rattle.drawing.specs.Shown.{nodes_of}
 
 -- what every picture begins with
@@ -45,6 +46,31 @@ head p order = title p order ++ key ++ look ++ heading p order
 abbrev pub picture : ℕ → ℕ → List ℕ → List ℕ → List ℕ
 picture width height head rows = start ++ size width height ++ view_box width height ++ head ++ rows ++ codes "</svg>\n"
 
+-- below the rows, what each shape means, beside it
+unfoldable pub meanings : List ℕ
+meanings =
+    codes "<path class=\"line\" d=\"M0 6h240\"/><path class=\"told\" d=\"M0 18a6 6 0 0 1 0 12a6 6 0 0 1 0-12z\"/><text x=\"14\" y=\"29\">no lie is known</text>"
+    ++ codes "<path class=\"word\" d=\"M0 42h6v12h-12v-12z\"/><text x=\"14\" y=\"53\">a named commander, his word</text>"
+    ++ codes "<path class=\"lie\" d=\"M0 64l8 8l-8 8l-8-8z\"/><text x=\"14\" y=\"77\">a lie of a named traitor</text>"
+    ++ codes "<path class=\"told split\" d=\"M0 90a6 6 0 0 1 0 12a6 6 0 0 1 0-12z\"/><text x=\"14\" y=\"101\">no order has a majority</text>"
+
+abbrev pub legend : ℕ → List ℕ
+legend place = row_start place ++ meanings ++ row_end
+
+-- the rows, and what their shapes mean
+abbrev pub inside : ℕ → ℕ → List Node → List ℕ
+inside n p nodes = rows_from n p 0 nodes ++ legend (length nodes)
+
+-- how wide a picture is, at least as its heading and the meanings are, and how high
+abbrev pub breadth : List Node → ℕ
+breadth nodes = max 300 (48 + widest nodes)
+
+abbrev pub tallness : List Node → ℕ
+tallness nodes = 160 + 24 * length nodes
+
+-- the picture of these labels
+abbrev pub svg_of : MessageTable → ℕ → List Node → List ℕ
+svg_of t p nodes = picture (breadth nodes) (tallness nodes) (head p (decision_of t p)) (inside t.generals p nodes)
+
 unfoldable pub svg_text : MessageTable → List ℕ → View → ℕ → List ℕ
-svg_text t traitors view p =
-    picture (48 + widest (nodes_of t traitors view p)) (48 + 24 * length (nodes_of t traitors view p)) (head p (decision_of t p)) (rows_from t.generals p 0 (nodes_of t traitors view p))
+svg_text t traitors view p = svg_of t p (nodes_of t traitors view p)

@@ -69,7 +69,7 @@ fn put_row(
 
 /// Adds what a row begins with.
 #[tactic(auto, unfolding(crate::specs::Rows::row_start))]
-fn put_start(out: &mut String, place: usize) -> Result<(), AllocError>
+pub(crate) fn put_start(out: &mut String, place: usize) -> Result<(), AllocError>
     ensures { OnOk result (string_bytes out.new ≡ string_bytes out.old ++ row_start place) }
 {
     let top = 36 + 24 * place as u128;
@@ -94,7 +94,7 @@ fn lines_end() -> &'static str
 
 /// What a row ends in.
 #[tactic(auto, unfolding(crate::specs::Rows::row_end))]
-fn row_end() -> &'static str
+pub(crate) fn row_end() -> &'static str
     ensures { result.now ≡ row_end }
 {
     "</g>\n"

@@ -1,12 +1,15 @@
 //! A lieutenant's tree as a picture in SVG: a row for each label, below that of the label that it goes on from.
 ghost use Rattle.std.specs.Prelude.{◌≡◌, ◌≢◌, ◌<◌, ◌^◌, ◌++◌, string_bytes, IfOk, OnOk};
-ghost use Rattle.drawing.specs.Svg.{head, heading, key, look, size, start, svg_text, title, view_box};
+ghost use Rattle.drawing.specs.Svg.{head, heading, inside, key, legend, look, meanings, size, start, svg_text, title, view_box};
 
-use crate::node::View;
-use crate::rows::{put_rows, widest};
+use crate::node::{Node, View};
+use crate::rows::{put_rows, put_start, row_end, widest};
 use crate::shown::nodes;
 use book::{Heard, decision};
 use std::alloc::{AllocError, Global};
+
+/// How wide a picture is at least, so that neither its heading nor what its shapes mean is cut.
+const LEAST: u128 = 300;
 
 /// The tree of what a lieutenant was told, in SVG: a circle for each label that is shown, a square for the word of a
 /// commander who is named as a traitor, a diamond for a lie, and dashes where no order has a majority.
@@ -27,13 +30,13 @@ pub fn tree_svg<H: Heard>(
     ensures { IfOk result (λ text. string_bytes text ≡ svg_text (H.seen table.now) traitors.now view general) }
 {
     let nodes = nodes(alloc, table, traitors, view, general)?;
-    let width = 48 + widest(alloc, nodes.as_slice())?;
-    let height = 48 + 24 * nodes.len() as u128;
+    let width = LEAST.max(48 + widest(alloc, nodes.as_slice())?);
+    let height = 160 + 24 * nodes.len() as u128;
     let mut text = String::from_str(alloc, start())?;
     put_size(&mut text, width, height)?;
     put_view_box(&mut text, width, height)?;
     put_head(&mut text, general, decision(table, general))?;
-    put_rows(&mut text, table.generals(), general, nodes.as_slice())?;
+    put_inside(&mut text, table.generals(), general, nodes.as_slice())?;
     text.push_str("</svg>\n")?;
     Ok(text)
 }
@@ -110,4 +113,38 @@ fn look() -> &'static str
      .told{fill:#fff;stroke:#111}.word{fill:#ffd24d;stroke:#111}.lie{fill:#b00020;stroke:#111}\
      .split{stroke-dasharray:3 2}@media(prefers-color-scheme:dark){svg{background:#111}text{fill:#eee}\
      .told,.word,.lie{stroke:#eee}.told{fill:#111}}</style>\n"
+}
+
+/// Adds the rows, and what their shapes mean.
+fn put_inside(
+    out: &mut String,
+    generals: u8,
+    general: u8,
+    nodes: &[Node],
+) -> Result<(), AllocError>
+    ensures { OnOk result (string_bytes out.new ≡ string_bytes out.old ++ inside generals general nodes.now) }
+{
+    put_rows(out, generals, general, nodes)?;
+    put_legend(out, nodes.len())
+}
+
+/// Adds what the shapes mean, below so many rows.
+fn put_legend(out: &mut String, rows: usize) -> Result<(), AllocError>
+    ensures { OnOk result (string_bytes out.new ≡ string_bytes out.old ++ legend rows) }
+{
+    put_start(out, rows)?;
+    out.push_str(meanings())?;
+    out.push_str(row_end())
+}
+
+/// What each shape means, beside it.
+#[tactic(auto, unfolding(crate::specs::Svg::meanings))]
+fn meanings() -> &'static str
+    ensures { result.now ≡ meanings }
+{
+    "<path class=\"line\" d=\"M0 6h240\"/>\
+     <path class=\"told\" d=\"M0 18a6 6 0 0 1 0 12a6 6 0 0 1 0-12z\"/><text x=\"14\" y=\"29\">no lie is known</text>\
+     <path class=\"word\" d=\"M0 42h6v12h-12v-12z\"/><text x=\"14\" y=\"53\">a named commander, his word</text>\
+     <path class=\"lie\" d=\"M0 64l8 8l-8 8l-8-8z\"/><text x=\"14\" y=\"77\">a lie of a named traitor</text>\
+     <path class=\"told split\" d=\"M0 90a6 6 0 0 1 0 12a6 6 0 0 1 0-12z\"/><text x=\"14\" y=\"101\">no order has a majority</text>"
 }

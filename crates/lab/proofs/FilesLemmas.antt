@@ -18,10 +18,10 @@ use Rattle.trace.specs.Schedules.{schedule_told}
 use Rattle.lab.specs.Answers.{ComesTo, GoesOn, IsTriedBy, Prints}
 use Rattle.lab.specs.Hints.{explained_in, if_asked}
 use Rattle.lab.specs.Whys.{is_explained}
-use Rattle.lab.specs.Campaigns.{IsAudited, IsMustered, IsPlayed, played}
+use Rattle.lab.specs.Campaigns.{IsAudited, IsMustered, IsPlayed}
 use Rattle.lab.specs.Diagrams.{IsRecordDrawn}
 use Rattle.lab.specs.Faults.{Prevents, Stops}
-use Rattle.lab.specs.Pages.{IsPage, IsRecordTold}
+use Rattle.lab.specs.Pages.{IsCampaignPaged, IsRecordTold}
 use Rattle.lab.specs.Retracing.{IsScheduleFor}
 use Rattle.lab.specs.Serving.{AreSecond, AreSecondBytes, Files, IsAnswer, IsAuditOf, IsDrawnAs, IsDrawnBy, IsPagedAs, IsPagedBy, IsPlayedBy, IsRetracedBy, IsScheduleOf, IsToldLater, IsTrialOf, first_name, second_name}
 use Rattle.streams.specs.Reading.{AreBytes}
@@ -213,7 +213,7 @@ answered_recorded (Retrace scenario (OfChronicle own)) files first text s are co
 answered_recorded (Retrace scenario (Listed own)) files first text s are comes by = absurd comes
 
 -- a page by the second file's schedule
-pub answered_paged : (task : Task) (files : Files) (first page : List ℕ) (s : Scenario) (text : String Global) → AreBytes files.first first
+pub answered_paged : (task : Task) (files : Files) (first page : List ℕ) (s : Campaign) (text : String Global) → AreBytes files.first first
     → ComesTo task first (answer.Page s text) → IsPagedBy files.second s (string_bytes text) page → IsAnswer task files page
 answered_paged (Check file notation None explained traced) files first page s text are comes by = absurd comes
 answered_paged (Check file notation (Some context) explained traced) files first page s text are comes by = absurd comes
@@ -232,13 +232,13 @@ answered_paged (Tree file general marked drawing depth folded) files first page 
 answered_paged (Draw scenario (Scheduled listing)) files first page s text are comes by = absurd comes
 answered_paged (Draw scenario (Recorded listing)) files first page s text are comes by = absurd comes
 answered_paged (Page scenario (Scheduled listing) target) files first page s text are comes (schedule, listed, paged) =
-    (first, are, (listed.0, listed.1, (s, comes.0, (schedule, listed.2, subst (λ (own : List ℕ). IsPage own (Some schedule) (played s schedule) page) comes.1 paged))))
+    (first, are, (listed.0, listed.1, (s, comes.0, (schedule, listed.2, subst (λ (own : List ℕ). IsCampaignPaged s own schedule page) comes.1 paged))))
 answered_paged (Page scenario (Recorded listing) target) files first page s text are comes by = absurd comes
 answered_paged (Retrace scenario (OfChronicle own)) files first page s text are comes by = absurd comes
 answered_paged (Retrace scenario (Listed own)) files first page s text are comes by = absurd comes
 
 -- a page of the second file's chronicle
-pub answered_page_recorded : (task : Task) (files : Files) (first page : List ℕ) (s : Scenario) (text : String Global) → AreBytes files.first first
+pub answered_page_recorded : (task : Task) (files : Files) (first page : List ℕ) (s : Campaign) (text : String Global) → AreBytes files.first first
     → ComesTo task first (answer.PageRecorded s text) → IsPagedAs files.second s (string_bytes text) page → IsAnswer task files page
 answered_page_recorded (Check file notation None explained traced) files first page s text are comes by = absurd comes
 answered_page_recorded (Check file notation (Some context) explained traced) files first page s text are comes by = absurd comes

@@ -1,9 +1,10 @@
 -- The page of a chronicle.
-use Rattle.std.proofs.Common.{ℕ, ◌≡◌, List, Option, Ok, subst}
+use Rattle.std.proofs.Common.{ℕ, ◌≡◌, ◌∙◌, List, Option, Ok, ap, subst}
 use Rattle.book.specs.Grammar.{table_told}
 use Rattle.book.specs.Table.{MessageTable}
 use Rattle.campaign_page.specs.Account.{page_text}
 use Rattle.retold.specs.Retold.{table_of}
+use Rattle.signed_page.specs.Account.{signed_page_text}
 use Rattle.world.specs.Chronicle.{Chronicle}
 use Rattle.world.specs.declared.schedule.Repeat.{Repeat}
 use Rattle.lab.specs.Pages.{IsPage}
@@ -14,3 +15,7 @@ is_page scenario schedule c t page told is = (t, told, is)
 
 pub of_same : (scenario : List ℕ) (schedule : Option (List (List Repeat))) (c own : Chronicle) (page : List ℕ) → c ≡ own → IsPage scenario schedule c page → IsPage scenario schedule own page
 of_same scenario schedule c own page same told = subst (λ (x : Chronicle). IsPage scenario schedule x page) same told
+
+pub of_signed : (scenario : List ℕ) (schedule : Option (List (List Repeat))) (c own : Chronicle) (page : List ℕ)
+    → c ≡ own → page ≡ signed_page_text scenario schedule c → page ≡ signed_page_text scenario schedule own
+of_signed scenario schedule c own page same is = is ∙ ap (signed_page_text scenario schedule) same

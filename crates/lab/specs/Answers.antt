@@ -150,8 +150,8 @@ GoesOn (Audit scenario chronicle explained) first (answer.Audit c why) =
     TellsAny first c × (why ≡ explained)
 GoesOn (Draw scenario (Scheduled file)) first (answer.Draw c) = TellsAny first c
 GoesOn (Draw scenario (Recorded file)) first (answer.DrawRecorded c) = TellsAny first c
-GoesOn (Page scenario (Scheduled file) target) first (answer.Page s text) = Tells first s × (string_bytes text ≡ first)
-GoesOn (Page scenario (Recorded file) target) first (answer.PageRecorded s text) = Tells first s × (string_bytes text ≡ first)
+GoesOn (Page scenario (Scheduled file) target) first (answer.Page c text) = TellsAny first c × (string_bytes text ≡ first)
+GoesOn (Page scenario (Recorded file) target) first (answer.PageRecorded c text) = TellsAny first c × (string_bytes text ≡ first)
 GoesOn (Retrace scenario (OfChronicle file)) first (answer.Retrace s) = Tells first s
 GoesOn _ first _ = ⊥
 

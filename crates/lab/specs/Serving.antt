@@ -17,9 +17,9 @@ use Rattle.lab.specs.declared.refusal.Refusal.TheVariants.{NotText, Memory}
 use Rattle.lab.specs.declared.first_answer.FirstAnswer.{FirstAnswer}
 use Rattle.lab.specs.declared.first_answer.FirstAnswer.TheVariants as answer
 use Rattle.lab.specs.Answers.{GoesOn, IsPlace, IsTriedAt, IsTriedBy, Prints}
-use Rattle.lab.specs.Campaigns.{IsAudited, IsPlayed, IsSchedule, played}
+use Rattle.lab.specs.Campaigns.{IsAudited, IsPlayed, IsSchedule}
 use Rattle.lab.specs.Diagrams.{IsCampaignDrawn, IsRecordDrawn}
-use Rattle.lab.specs.Pages.{IsPage, IsRecordTold}
+use Rattle.lab.specs.Pages.{IsCampaignPaged, IsRecordTold}
 use Rattle.lab.specs.Retracing.{IsScheduleFor}
 use Rattle.streams.specs.Names.{shown}
 use Rattle.streams.specs.Reading.{AreBytes}
@@ -82,12 +82,12 @@ abbrev pub IsDrawnAs : Option (Option (List ℕ)) → Campaign → List ℕ → 
 IsDrawnAs known c picture = (bytes : List ℕ) × AreSecondBytes known bytes × IsRecordDrawn c bytes picture
 
 -- the page is that of the campaign, whose scenario this text tells, by the second file's schedule
-abbrev pub IsPagedBy : Option (Option (List ℕ)) → Scenario → List ℕ → List ℕ → Type 0
-IsPagedBy known s text page = (schedule : List (List Repeat)) × IsScheduleOf known schedule × IsPage text (Some schedule) (played s schedule) page
+abbrev pub IsPagedBy : Option (Option (List ℕ)) → Campaign → List ℕ → List ℕ → Type 0
+IsPagedBy known c text page = (schedule : List (List Repeat)) × IsScheduleOf known schedule × IsCampaignPaged c text schedule page
 
 -- that of the campaign as the second file tells it
-abbrev pub IsPagedAs : Option (Option (List ℕ)) → Scenario → List ℕ → List ℕ → Type 0
-IsPagedAs known s text page = (bytes : List ℕ) × AreSecondBytes known bytes × IsRecordTold s text bytes page
+abbrev pub IsPagedAs : Option (Option (List ℕ)) → Campaign → List ℕ → List ℕ → Type 0
+IsPagedAs known c text page = (bytes : List ℕ) × AreSecondBytes known bytes × IsRecordTold c text bytes page
 
 -- the lines are those of a schedule by which the campaign has the second file's chronicle
 abbrev pub IsRetracedBy : Option (Option (List ℕ)) → Scenario → List ℕ → Type 0
@@ -153,8 +153,8 @@ IsRefusedLater (answer.Muster s explained) known refusal = IsUnmustered refusal
 IsRefusedLater (answer.Audit c explained) known refusal = IsChronicleRefused c known refusal
 IsRefusedLater (answer.Draw c) known refusal = IsScheduleRefused known refusal
 IsRefusedLater (answer.DrawRecorded c) known refusal = IsChronicleRefused c known refusal
-IsRefusedLater (answer.Page s text) known refusal = IsScheduleRefused known refusal
-IsRefusedLater (answer.PageRecorded s text) known refusal = IsChronicleRefused (Oral s) known refusal
+IsRefusedLater (answer.Page c text) known refusal = IsScheduleRefused known refusal
+IsRefusedLater (answer.PageRecorded c text) known refusal = IsChronicleRefused c known refusal
 IsRefusedLater (answer.Retrace s) known refusal = IsChronicleRefused (Oral s) known refusal
 IsRefusedLater _ known refusal = ⊥
 

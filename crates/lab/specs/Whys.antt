@@ -78,7 +78,7 @@ abbrev pub role_behind : FirstAnswer → Role
 role_behind (answer.Play c account explained) = Schedule
 role_behind (answer.Audit c explained) = Chronicle c
 role_behind (answer.Draw c) = Schedule
-role_behind (answer.Page s text) = Schedule
+role_behind (answer.Page c text) = Schedule
 role_behind _ = Nothing
 
 -- the same of the file's name as it is given; of one past ASCII with a control character nothing is said

@@ -149,15 +149,15 @@ pub fn answer(alloc: Global, task: &Task, bytes: &[u8]) -> Result<FirstAnswer, R
             course: Course::Scheduled(_),
             ..
         } => {
-            let (scenario, text) = campaign_with_text(alloc, bytes)?;
-            Ok(FirstAnswer::Page(scenario, text))
+            let (campaign, text) = campaign_with_text(alloc, bytes)?;
+            Ok(FirstAnswer::Page(campaign, text))
         }
         Task::Page {
             course: Course::Recorded(_),
             ..
         } => {
-            let (scenario, text) = campaign_with_text(alloc, bytes)?;
-            Ok(FirstAnswer::PageRecorded(scenario, text))
+            let (campaign, text) = campaign_with_text(alloc, bytes)?;
+            Ok(FirstAnswer::PageRecorded(campaign, text))
         }
         Task::Retrace {
             accesses: Accesses::OfChronicle(_),

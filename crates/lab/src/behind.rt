@@ -66,18 +66,18 @@ pub(crate) fn draw_record<'a, R: Source>(
 /// The page of the campaign, whose scenario this text tells, by the schedule of the second file.
 pub(crate) fn page_by<'a, R: Source>(
     alloc: Global,
-    scenario: Scenario,
+    campaign: Campaign,
     text: String,
     reported: bool,
     file: &'a str,
     second: Option<R>,
 ) -> Result<Vec<u8>, Failure<'a>>
-    ensures told { IfOk result (λ page. IsPagedBy (option_map R.bytes second) scenario (string_bytes text) page.items) }
+    ensures told { IfOk result (λ page. IsPagedBy (option_map R.bytes second) campaign (string_bytes text) page.items) }
     ensures fault { IfErr result
-        (Stops (IsSomeAnd second R.fails) (IsToldLater reported file.entry.now (option_map R.bytes second) (Page scenario text)) file.entry.now) }
+        (Stops (IsSomeAnd second R.fails) (IsToldLater reported file.entry.now (option_map R.bytes second) (Page campaign text)) file.entry.now) }
 {
     let schedule = scheduled(alloc, reported, file, second)?;
-    match paged(alloc, text.as_str(), scenario, &schedule) {
+    match paged(alloc, text.as_str(), campaign, &schedule) {
         Ok(page) => Ok(page),
         Err(_) => Err(Failure::Memory),
     }
@@ -86,18 +86,18 @@ pub(crate) fn page_by<'a, R: Source>(
 /// The page of the campaign, whose scenario this text tells, as the chronicle in the second file tells it.
 pub(crate) fn page_record<'a, R: Source>(
     alloc: Global,
-    scenario: Scenario,
+    campaign: Campaign,
     text: String,
     reported: bool,
     file: &'a str,
     second: Option<R>,
 ) -> Result<Vec<u8>, Failure<'a>>
-    ensures told { IfOk result (λ page. IsPagedAs (option_map R.bytes second) scenario (string_bytes text) page.items) }
+    ensures told { IfOk result (λ page. IsPagedAs (option_map R.bytes second) campaign (string_bytes text) page.items) }
     ensures fault { IfErr result
-        (Stops (IsSomeAnd second R.fails) (IsToldLater reported file.entry.now (option_map R.bytes second) (PageRecorded scenario text)) file.entry.now) }
+        (Stops (IsSomeAnd second R.fails) (IsToldLater reported file.entry.now (option_map R.bytes second) (PageRecorded campaign text)) file.entry.now) }
 {
     let bytes = read_second(alloc, file, second)?;
-    match record_paged(alloc, text.as_str(), &scenario, bytes.as_slice()) {
+    match record_paged(alloc, text.as_str(), &campaign, bytes.as_slice()) {
         Ok(page) => Ok(page),
         Err(refusal) => {
             Err(later(

@@ -22,10 +22,10 @@ pub enum FirstAnswer {
     Draw(Campaign),
     /// A campaign to draw as the chronicle that the second file may be tells it.
     DrawRecorded(Campaign),
-    /// An oral campaign to tell as a page, by the schedule of the second file, and its scenario's text.
-    Page(Scenario, String),
-    /// An oral campaign to tell as a page, as the chronicle that the second file may be tells it, and its scenario's text.
-    PageRecorded(Scenario, String),
+    /// A campaign to tell as a page, by the schedule of the second file, and its scenario's text.
+    Page(Campaign, String),
+    /// A campaign to tell as a page, as the chronicle that the second file may be tells it, and its scenario's text.
+    PageRecorded(Campaign, String),
     /// An oral campaign of whose chronicle, which the second file may be, a schedule is to be told.
     Retrace(Scenario),
 }

@@ -1,27 +1,46 @@
 //! Campaigns as pages.
 ghost use Rattle.std.specs.Prelude.{◌≡◌, IfErr, IfOk, None, Some, option_map};
-ghost use Rattle.lab.specs.Campaigns.{played};
-ghost use Rattle.lab.specs.Pages.{IsPage, IsRecordTold};
+ghost use Rattle.lab.specs.Campaigns.{played, signed_played};
+ghost use Rattle.lab.specs.Pages.{IsCampaignPaged, IsPage, IsRecordTold};
 ghost use Rattle.lab.specs.Refusals.{RefusesChronicle, RefusesText};
 ghost use Rattle.retold.specs.Retold.{IsWhole};
-ghost use Rattle.scenario.specs.declared.messages.Campaign.TheVariants.{Oral};
+ghost use Rattle.scenario.specs.declared.messages.Campaign.TheVariants.{Oral, Signed};
+ghost use Rattle.signed_page.specs.Account.{signed_page_text};
 
 use crate::refusal::Refusal;
 use crate::texts::as_text;
 use campaign_page::page_text;
 use retold::{hearing, told_table};
 use round::Scenario;
+use scenario::Campaign;
+use signed::{SignedChronicle, play_signed};
+use signed_page::signed_page_text;
 use std::alloc::{AllocError, Global};
-use trace::sound_chronicle;
+use trace::{sound_chronicle, sound_signed_chronicle};
 use world::{Chronicle, Schedule, play};
 
-/// The oral campaign by this schedule, whose scenario this text tells, as a page of HTML.
+/// The campaign by this schedule, whose scenario this text tells, as a page of HTML.
 ///
 /// # Errors
 ///
 /// `AllocError` where memory is refused.
-#[tactic(auto, using(crate::proofs::CampaignLemmas::played_wholly, crate::proofs::PageLemmas::of_same))]
 pub fn paged(
+    alloc: Global,
+    text: &str,
+    campaign: Campaign,
+    schedule: &Schedule,
+) -> Result<Vec<u8>, AllocError>
+    ensures { IfOk result (λ page. IsCampaignPaged campaign text.now schedule.now page.items) }
+{
+    match campaign {
+        Campaign::Oral(scenario) => oral_paged(alloc, text, scenario, schedule),
+        Campaign::Signed(scenario) => signed_paged(alloc, text, scenario, schedule),
+    }
+}
+
+/// An oral one.
+#[tactic(auto, using(crate::proofs::CampaignLemmas::played_wholly, crate::proofs::PageLemmas::of_same))]
+fn oral_paged(
     alloc: Global,
     text: &str,
     scenario: Scenario,
@@ -34,24 +53,69 @@ pub fn paged(
     Ok(page_of(alloc, text, Some(schedule), &chronicle)?)
 }
 
-/// The oral campaign whose chronicle these bytes are, and whose scenario this text tells.
+/// A signed one.
+#[tactic(auto, using(crate::proofs::PageLemmas::of_signed))]
+fn signed_paged(
+    alloc: Global,
+    text: &str,
+    scenario: Scenario,
+    schedule: &Schedule,
+) -> Result<Vec<u8>, AllocError>
+    ensures { IfOk result (λ page. page.items ≡ signed_page_text text.now (Some schedule.now) (signed_played scenario schedule.now)) }
+{
+    let chronicle = play_signed(alloc, scenario, schedule)?;
+    Ok(signed_page_of(alloc, text, Some(schedule), &chronicle)?)
+}
+
+/// The campaign whose chronicle these bytes are, and whose scenario this text tells.
 ///
 /// # Errors
 ///
 /// The first line that is not the chronicle's, or want of memory.
-#[tactic(auto, using(crate::proofs::CampaignLemmas::told_wholly, crate::proofs::PageLemmas::of_same))]
 pub fn record_paged(
+    alloc: Global,
+    text: &str,
+    campaign: &Campaign,
+    bytes: &[u8],
+) -> Result<Vec<u8>, Refusal>
+    ensures told { IfOk result (λ page. IsRecordTold campaign.now text.now bytes.now page.items) }
+    ensures refused { IfErr result (RefusesText (RefusesChronicle campaign.now) bytes.now) }
+{
+    match campaign {
+        Campaign::Oral(scenario) => oral_record_paged(alloc, text, scenario, bytes),
+        Campaign::Signed(scenario) => signed_record_paged(alloc, text, scenario, bytes),
+    }
+}
+
+/// An oral one.
+#[tactic(auto, using(crate::proofs::CampaignLemmas::told_wholly, crate::proofs::PageLemmas::of_same))]
+fn oral_record_paged(
     alloc: Global,
     text: &str,
     scenario: &Scenario,
     bytes: &[u8],
 ) -> Result<Vec<u8>, Refusal>
-    ensures told { IfOk result (λ page. IsRecordTold scenario.now text.now bytes.now page.items) }
+    ensures told { IfOk result (λ page. IsRecordTold (Oral scenario.now) text.now bytes.now page.items) }
     ensures refused { IfErr result (RefusesText (RefusesChronicle (Oral scenario.now)) bytes.now) }
 {
     scenario.recall();
     let chronicle = sound_chronicle(alloc, scenario, as_text(bytes)?)?;
     Ok(page_of(alloc, text, None, &chronicle)?)
+}
+
+/// A signed one.
+#[tactic(auto, using(crate::proofs::PageLemmas::of_signed))]
+fn signed_record_paged(
+    alloc: Global,
+    text: &str,
+    scenario: &Scenario,
+    bytes: &[u8],
+) -> Result<Vec<u8>, Refusal>
+    ensures told { IfOk result (λ page. IsRecordTold (Signed scenario.now) text.now bytes.now page.items) }
+    ensures refused { IfErr result (RefusesText (RefusesChronicle (Signed scenario.now)) bytes.now) }
+{
+    let chronicle = sound_signed_chronicle(alloc, scenario, as_text(bytes)?)?;
+    Ok(signed_page_of(alloc, text, None, &chronicle)?)
 }
 
 /// The page of a chronicle, with the message table that its letters tell.
@@ -68,4 +132,16 @@ fn page_of(
     let told = hearing(alloc, chronicle)?;
     let table = told_table(&told, chronicle);
     Ok(page_text(alloc, scenario_text, schedule, &table, chronicle)?.into_bytes())
+}
+
+/// The page of a signed campaign's.
+fn signed_page_of(
+    alloc: Global,
+    scenario_text: &str,
+    schedule: Option<&Schedule>,
+    chronicle: &SignedChronicle,
+) -> Result<Vec<u8>, AllocError>
+    ensures { IfOk result (λ page. page.items ≡ signed_page_text scenario_text.now (option_map (λ s. s.now) schedule.entry) chronicle.now) }
+{
+    Ok(signed_page_text(alloc, scenario_text, schedule, chronicle)?.into_bytes())
 }

@@ -10,10 +10,9 @@ ghost use Rattle.scenario.specs.Told.{Tells};
 use crate::deciding::table_in;
 use crate::refusal::Refusal;
 use crate::strangers::know_each;
-use book::TableError;
 use command_line::Drawing;
-use drawing::{Form, Style, View, drawn};
-use retold::table;
+use drawing::{Form, Style, View, drawn, tree_drawn};
+use retold::{hearing, told_table};
 use round::Scenario;
 use std::alloc::{AllocError, Global};
 use world::{Schedule, play};
@@ -121,13 +120,9 @@ fn campaign_pictured(
         lines: Vec::new(alloc),
     };
     let chronicle = play(alloc, scenario, &schedule)?;
-    let text = table(alloc, &chronicle)?;
-    match drawn(alloc, text.as_str(), traitors, view, form, general) {
-        Ok(picture) => Ok(picture),
-        Err(TableError::Memory) => Err(AllocError),
-        // The table is one that `book` reads.
-        Err(TableError::At(_, _)) => unreachable!(),
-    }
+    let told = hearing(alloc, &chronicle)?;
+    let table = told_table(&told, &chronicle);
+    tree_drawn(alloc, &table, traitors, view, form, general)
 }
 
 /// The form of a drawing.

@@ -177,14 +177,14 @@ fn signed_played(
     with_signed_decisions(alloc, front, &chronicle, explained)
 }
 
-/// The oral campaign that the bytes tell, and their text.
-pub(crate) fn campaign_with_text(alloc: Global, bytes: &[u8]) -> Result<(Scenario, String), Refusal>
-    ensures told { IfOk result (λ both. Tells bytes.now both.0 × (string_bytes both.1 ≡ bytes.now)) }
-    ensures refused { IfErr result (RefusesText RefusesScenario bytes.now) }
+/// The campaign that the bytes tell, be it oral or signed, and their text.
+pub(crate) fn campaign_with_text(alloc: Global, bytes: &[u8]) -> Result<(Campaign, String), Refusal>
+    ensures told { IfOk result (λ both. TellsAny bytes.now both.0 × (string_bytes both.1 ≡ bytes.now)) }
+    ensures refused { IfErr result (RefusesText RefusesCampaign bytes.now) }
 {
-    let scenario = campaign(alloc, bytes)?;
+    let campaign = any_campaign(alloc, bytes)?;
     let text = String::from_str(alloc, as_text(bytes)?)?;
-    Ok((scenario, text))
+    Ok((campaign, text))
 }
 
 /// The text of an oral campaign's chronicle.

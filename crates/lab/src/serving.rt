@@ -145,11 +145,11 @@ where
         Ok(FirstAnswer::DrawRecorded(campaign)) => {
             draw_record(alloc, &campaign, reported, file, second)
         }
-        Ok(FirstAnswer::Page(scenario, text)) => {
-            page_by(alloc, scenario, text, reported, file, second)
+        Ok(FirstAnswer::Page(campaign, text)) => {
+            page_by(alloc, campaign, text, reported, file, second)
         }
-        Ok(FirstAnswer::PageRecorded(scenario, text)) => {
-            page_record(alloc, scenario, text, reported, file, second)
+        Ok(FirstAnswer::PageRecorded(campaign, text)) => {
+            page_record(alloc, campaign, text, reported, file, second)
         }
         Ok(FirstAnswer::Retrace(scenario)) => {
             retrace_of(alloc, &scenario, reported, file, second)

@@ -1,1 +1,2 @@
 pub mod Files
+mod StoryLemmas

@@ -4,7 +4,9 @@
 mod folder;
 mod naming;
 mod preparing;
+mod story;
 
 pub use folder::Folder;
 pub use naming::Untaken;
 pub use preparing::{reads_scenario, with_files};
+pub use story::with_story;

@@ -7,7 +7,7 @@ use Rattle.markup.specs.Escaped.{is_character}
 use Rattle.markup.specs.Grammar.{IsContent, IsElement, IsTag, IsText, alone, attributed, character, joined, nested, no_attributes, no_text, text, is_name}
 use Rattle.markup.specs.Tags.{attribute, element, empty}
 use Rattle.page.specs.Laws.{PagesAreElements, PartsAreContent}
-use Rattle.page.specs.Page.{cell, fold, head, head_start, heading, item, lines, list, look, page, paragraph, picture, picture_tag, preamble, row, shown, table, text_item}
+use Rattle.page.specs.Page.{begun_lines, cell, fold, head, head_start, heading, item, lines, list, look, page, paragraph, picture, picture_tag, preamble, row, shown, table, text_item}
 use Rattle.page.proofs.EncodedLaws.{shown_text}
 
 -- a character that is no markup, and no quotation mark
@@ -77,6 +77,10 @@ lines_content words =
     subst IsContent (sym (lines_parts (codes "<pre>") (shown words) (codes "</pre>") (codes "\n")))
     (fed (element (codes "pre") [] (codes "\n" ++ shown words)) (nested (codes "pre") [] (codes "\n" ++ shown words) (bare_tag (codes "pre") refl) (led (shown words) (text (shown words) (shown_text words)))))
 
+begun_lines_content : (words : List ℕ) → IsContent (begun_lines words)
+begun_lines_content words =
+    subst IsContent (sym (three_parts (codes "<pre>") (shown words) (codes "</pre>") (codes "\n"))) (fed (element (codes "pre") [] (shown words)) (worded (codes "pre") (shown words) refl (shown_text words)))
+
 fold_parts : (d s words e inside close feed : List ℕ)
     → ((d ++ feed ++ s) ++ words ++ (e ++ feed)) ++ inside ++ (close ++ feed) ≡ (d ++ (feed ++ (((s ++ words ++ e) ++ feed) ++ inside)) ++ close) ++ feed
 fold_parts d s words e inside close feed = simp append_assoc
@@ -139,6 +143,7 @@ proved_parts_are_content = record {
   heading = heading_content;
   paragraph = paragraph_content;
   lines = lines_content;
+  begun_lines = begun_lines_content;
   fold = fold_content;
   list = list_content;
   text_item = text_item_content;

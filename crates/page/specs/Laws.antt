@@ -2,7 +2,7 @@
 use Rattle.std.specs.Prelude.{ℕ, ◌≡◌, true, not, List, ◌++◌, codes}
 use Rattle.std.specs.List.{list_all}
 use Rattle.markup.specs.Grammar.{IsContent, IsElement, IsText}
-use Rattle.page.specs.Page.{cell, fold, head, heading, item, lines, list, page, paragraph, picture, row, shown, table, text_item}
+use Rattle.page.specs.Page.{begun_lines, cell, fold, head, heading, item, lines, list, page, paragraph, picture, row, shown, table, text_item}
 use Rattle.page.specs.Visible.{is_hidden, visible}
 
 -- a text of others is text without tags: no < > and ", and no & but that of a reference
@@ -19,6 +19,7 @@ pub record PartsAreContent : Type 0 where
   pub heading : (text : List ℕ) → IsContent (heading text)
   pub paragraph : (text : List ℕ) → IsContent (paragraph text)
   pub lines : (text : List ℕ) → IsContent (lines text)
+  pub begun_lines : (text : List ℕ) → IsContent (begun_lines text)
   pub fold : (summary parts : List ℕ) → IsContent parts → IsContent (fold summary parts)
   pub list : (items : List ℕ) → IsContent items → IsContent (list items)
   pub text_item : (text : List ℕ) → IsContent (text_item text)

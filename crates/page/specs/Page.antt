@@ -61,6 +61,10 @@ paragraph text = codes "<p>" ++ shown text ++ codes "</p>\n"
 abbrev pub lines : List ℕ → List ℕ
 lines text = codes "<pre>\n" ++ shown text ++ codes "</pre>\n"
 
+-- a text of which each line stands behind a line feed, the first of which is not shown
+abbrev pub begun_lines : List ℕ → List ℕ
+begun_lines text = codes "<pre>" ++ shown text ++ codes "</pre>\n"
+
 -- parts that are shown where a reader opens them, below a summary
 abbrev pub fold_start : List ℕ → List ℕ
 fold_start summary = codes "<details>\n<summary>" ++ shown summary ++ codes "</summary>\n"

@@ -1,6 +1,6 @@
 //! The parts of a page.
 ghost use Rattle.std.specs.Prelude.{◌≡◌, ◌++◌, string_bytes, OnOk};
-ghost use Rattle.page.specs.Page.{cell, fold_end, fold_start, head, head_start, heading, item_end, item_start, lines, list_end, list_start, paragraph, picture, picture_end, picture_start, picture_tag, row_end, row_start, table_end, table_start, text_item};
+ghost use Rattle.page.specs.Page.{begun_lines, cell, fold_end, fold_start, head, head_start, heading, item_end, item_start, lines, list_end, list_start, paragraph, picture, picture_end, picture_start, picture_tag, row_end, row_start, table_end, table_start, text_item};
 
 use crate::visible::put_shown;
 use std::alloc::AllocError;
@@ -32,6 +32,15 @@ pub fn put_lines(out: &mut String, text: &str) -> Result<(), AllocError>
     ensures { OnOk result (string_bytes out.new ≡ string_bytes out.old ++ lines text.now) }
 {
     out.push_str("<pre>\n")?;
+    put_shown(out, text)?;
+    out.push_str("</pre>\n")
+}
+
+/// Adds a text of which each line stands behind a line feed, as they are; the first line feed is not shown.
+pub fn put_begun_lines(out: &mut String, text: &str) -> Result<(), AllocError>
+    ensures { OnOk result (string_bytes out.new ≡ string_bytes out.old ++ begun_lines text.now) }
+{
+    out.push_str("<pre>")?;
     put_shown(out, text)?;
     out.push_str("</pre>\n")
 }

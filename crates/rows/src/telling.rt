@@ -5,7 +5,7 @@ use chance::seeded;
 use command_line::{Request, Task, TaskError, each, request};
 use desk::{serve, turned_down};
 use lab::{FileName, is_explained, reason, with_schedules};
-use neighbours::{Untaken, reads_scenario, with_files};
+use neighbours::{Untaken, reads_scenario, with_files, with_story};
 use std::alloc::{AllocError, Global};
 use std::fmt::Display;
 use std::io::ErrorKind;
@@ -199,7 +199,10 @@ fn completed<R: Threads + Wait + Sync + AllocGlobal>(
             text.as_slice(),
         )? {
             Some(lines) => Ok(turn_down(alloc, request, lines.as_str(), output)),
-            None => Ok(served(rt, request, Input::Bytes(text.as_slice()), second, output)),
+            None => {
+                let text = with_story(alloc, &request.task, own.as_slice(), text)?;
+                Ok(served(rt, request, Input::Bytes(text.as_slice()), second, output))
+            }
         },
         Err(Untaken::Told { lines, kind }) => {
             Ok(untaken(alloc, request, lines.as_str(), kind, output))

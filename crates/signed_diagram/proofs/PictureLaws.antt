@@ -19,11 +19,12 @@ use Rattle.diagram.specs.Layout.{column, fan_top, height, rows_top, top_of, widt
 use Rattle.diagram.specs.Shapes.{line, mark, text_at, title}
 use Rattle.diagram.specs.Svg.{campaign_words, heads, look}
 use Rattle.diagram.specs.Words.{kind, outline}
-use Rattle.diagram.proofs.SvgLaws.{accesses_content, alike_text, all, attributes, bare_tag, campaign_text, decisions_content, fed, feed, group_content, heads_content, kind_text, line_content, lives_content, look_content, many, mark_content, name, numbered, obeyed_text, outline_text, picture_is, round_text, small, stroke_content, svg_tag, text_content, title_content}
+use Rattle.diagram.proofs.SvgLaws.{accesses_content, alike_text, all, attributes, bare_tag, campaign_text, decisions_content, fed, feed, group_content, heads_content, kind_text, legend_of_content, line_content, lives_content, look_content, many, mark_content, name, numbered, obeyed_text, outline_text, picture_is, round_text, small, stroke_content, svg_tag, text_content, title_content}
 use Rattle.signed.specs.Chains.{Chain}
 use Rattle.signed_diagram.specs.Bands.{band, bands, drawn, inside, row, stroke_line}
 use Rattle.signed_diagram.specs.Foot.{bound_words, foot, verdict_lines}
 use Rattle.signed_diagram.specs.Laws.{SignedDiagramsAreElements}
+use Rattle.signed_diagram.specs.Legend.{differs_meaning, legend, missing_meaning, sent_meaning, wide_meaning}
 use Rattle.signed_diagram.specs.Strokes.{Drawn, bare, strokes_of}
 use Rattle.signed_diagram.specs.Svg.{head, headline, key, signed_svg, signed_words}
 use Rattle.signed_diagram.specs.Words.{chain_words, chains_words, count_words, differs_words, first_words, further_words, lead_words, row_words, sends_words, stroke_words, withheld_words, withholds_words}
@@ -152,17 +153,25 @@ verdict_content v =
     (joined a b (text_content (codes "name") 120 64 (alike_words v.alike) name (alike_text v.alike)) (text_content (codes "name") 120 84 (obeyed_words v.obeyed) name (obeyed_text v.obeyed)))
     (text_content (codes "name") 120 104 (bound_words v.bound) name (bound_text v.bound))
 
+legend_content : IsContent legend
+unfolding sent_meaning differs_meaning missing_meaning wide_meaning
+legend_content =
+    legend_of_content sent_meaning differs_meaning missing_meaning wide_meaning (bare_text sent_meaning refl) (bare_text differs_meaning refl)
+    (bare_text missing_meaning refl) (bare_text wide_meaning refl)
+
 foot_content : (c : Chronicle) (wide top : ℕ) → IsContent (foot c wide top)
 foot_content c wide top =
     let a : List ℕ = line (codes "rule") 16 0 wide 0 in
     let b : List ℕ = text_at (codes "round") 16 28 (codes "decisions") in
     let d : List ℕ = decided_all c.scenario c.decisions in
-    group_content 0 top (a ++ b ++ d ++ verdict_lines c.verdict)
+    group_content 0 top (a ++ b ++ d ++ verdict_lines c.verdict ++ legend)
+    (joined (a ++ b ++ d ++ verdict_lines c.verdict) legend
     (joined (a ++ b ++ d) (verdict_lines c.verdict)
     (joined (a ++ b) d
     (joined a b (rule_content wide) (text_content (codes "round") 16 28 (codes "decisions") (bare_text (codes "round") refl) (bare_text (codes "decisions") refl)))
     (decisions_content c.scenario c.decisions))
     (verdict_content c.verdict))
+    legend_content)
 
 abbrev key_words : List ℕ
 key_words =
@@ -197,7 +206,7 @@ proved_signed_diagrams_are_elements c =
     let bottom : ℕ = top_of s.generals plain c.accesses (s.bound + 1) in
     let wide : ℕ = width s.generals c.accesses in
     let w : ℕ = wide + 16 in
-    let h : ℕ = bottom + 124 in
+    let h : ℕ = bottom + 230 in
     let a : List ℕ = head s in
     let b : List ℕ = heads s c.accesses in
     let d : List ℕ = bands s.generals strokes plain c.accesses wide (s.bound + 1) in

@@ -1,9 +1,10 @@
--- What stands below the bands of a picture: the decisions and the verdict (TOPLAS 1982, IC1 and IC2).
+-- What stands below the bands of a picture: the decisions and the verdict (TOPLAS 1982, IC1 and IC2), and what the marks mean.
 use Rattle.std.specs.Prelude.{ℕ, Bool, true, false, List, ◌++◌, codes}
 use Rattle.world.specs.Chronicle.{Chronicle}
 use Rattle.world.specs.declared.verdict.Verdict.{Verdict}
 use Rattle.diagram.specs.Foot.{alike_words, decided_all, obeyed_words}
 use Rattle.diagram.specs.Shapes.{group_at, line, text_at}
+use Rattle.signed_diagram.specs.Legend.{legend}
 
 abbrev pub bound_words : Bool → List ℕ
 bound_words true = codes "The bound holds: there are few enough traitors."
@@ -21,4 +22,5 @@ foot c wide top =
     (line (codes "rule") 16 0 wide 0
     ++ text_at (codes "round") 16 28 (codes "decisions")
     ++ decided_all c.scenario c.decisions
-    ++ verdict_lines c.verdict)
+    ++ verdict_lines c.verdict
+    ++ legend)

@@ -38,7 +38,7 @@ svg_with strokes c =
     let s = c.scenario in
     let bottom = top_of s.generals (bare strokes) c.accesses (s.bound + 1) in
     let wide = width s.generals c.accesses in
-    picture (wide + 16) (bottom + 124)
+    picture (wide + 16) (bottom + 230)
     (head s
     ++ heads s c.accesses
     ++ bands s.generals strokes (bare strokes) c.accesses wide (s.bound + 1)

@@ -1,14 +1,15 @@
-//! What stands below the bands of a picture: the decisions and the verdict.
+//! What stands below the bands of a picture: the decisions, the verdict, and what the marks mean.
 ghost use Rattle.std.specs.Prelude.{◌≡◌, ◌++◌, string_bytes, OnOk};
 ghost use Rattle.signed_diagram.specs.Foot.{bound_words, foot, verdict_lines};
 
+use crate::legend::put_legend;
 use diagram::foot::{alike_words, obeyed_words, put_decisions};
 use diagram::shapes::{put_group_end, put_group_start, put_line, put_words};
 use signed::SignedChronicle;
 use std::alloc::AllocError;
 use world::Verdict;
 
-/// Adds the decisions and the verdict, at this height.
+/// Adds the decisions, the verdict and what the marks mean, at this height.
 pub(crate) fn put_foot(
     out: &mut String,
     chronicle: &SignedChronicle,
@@ -23,6 +24,7 @@ pub(crate) fn put_foot(
     put_words(out, "round", 16, 28, "decisions")?;
     put_decisions(out, scenario, chronicle.decisions())?;
     put_verdict(out, chronicle.verdict())?;
+    put_legend(out)?;
     put_group_end(out)
 }
 

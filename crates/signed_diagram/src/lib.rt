@@ -6,6 +6,7 @@ mod bands;
 mod foot;
 mod kept;
 mod laws;
+mod legend;
 mod owed;
 mod signed_order;
 mod stroke;

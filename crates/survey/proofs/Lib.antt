@@ -4,3 +4,4 @@ pub mod Ranges
 pub mod Choosing
 pub mod Gathered
 pub mod LineLemmas
+pub mod Keeping

@@ -1,6 +1,8 @@
 -- Lists that are gathered number by number.
-use Rattle.std.proofs.Common.{ℕ, ◌+◌, ◌-◌, ◌<◌, ◌≤◌, ◌≡◌, List, [], ◌∷◌, ◌++◌, refl, sym, ap, ◌∙◌, arith, add-one}
+use Rattle.std.proofs.Common.{ℕ, Bool, cond, ◌+◌, ◌-◌, ◌<◌, ◌≤◌, ◌≡◌, List, [], ◌∷◌, ◌++◌, refl, sym, ap, ◌∙◌, arith, add-one}
+use Rattle.std.specs.Prelude.{count_by}
 use Rattle.std.specs.List.{AllZip, flat_map, range_with_len}
+use Rattle.std.proofs.lemmas.List.Sums.{sum_by-append}
 use Rattle.std.proofs.lemmas.List.{flat_map_more}
 use Rattle.book.proofs.Gathering.{range_more}
 use Rattle.label.proofs.Ranks.{range_push}
@@ -9,6 +11,13 @@ use Rattle.rayon.proofs.ListFacts.{AllZip-append}
 -- what one number more adds
 pub range_pieces : {A : Type 0} (piece : ℕ → List A) (n : ℕ) → flat_map piece (range_with_len 0 n) ++ piece n ≡ flat_map piece (range_with_len 0 (n + 1))
 range_pieces piece n = flat_map_more piece [] (range_with_len 0 n) n ∙ ap (flat_map piece) (sym (range_more n))
+
+-- one number more that is counted, or is not
+pub count_range : (p : ℕ → Bool) (n : ℕ) → count_by p (range_with_len 0 (n + 1)) ≡ count_by p (range_with_len 0 n) + cond (p n) 1 0
+count_range p n =
+    let whole = ap (count_by p) (range_more n) in
+    let parts = sum_by-append (λ x. cond (p x) 1 0) (range_with_len 0 n) (n ∷ []) in
+    whole ∙ (parts ∙ ap (λ x. count_by p (range_with_len 0 n) + x) (omega arith))
 
 -- the numbers from a up to b, and b
 range_last : (a b : ℕ) → a ≤ b → range_with_len a (b + 1 - a) ≡ range_with_len a (b - a) ++ b ∷ []

@@ -1,10 +1,13 @@
 -- What a campaign comes to: the verdict of the chronicle that `play` gives of it, with no schedule.
-use Rattle.std.specs.Prelude.{ℕ, ◌≡◌, List, [], length, Err}
+use Rattle.std.specs.Prelude.{ℕ, ◌≡◌, ◌≢◌, ◌≤◌, ◌<◌, List, [], count_by, Err}
+use Rattle.std.specs.List.{range_with_len}
 use Rattle.toml.specs.Parse.{parse_document}
 use Rattle.scenario.specs.Told.{ReadsAny, TellsAny}
 use Rattle.scenario.specs.declared.fault.ScenarioError.{ScenarioError}
+use Rattle.scenario.specs.declared.fault.ScenarioError.TheVariants.{Memory}
 use Rattle.scenario.specs.declared.messages.Campaign.{Campaign}
 use Rattle.scenario.specs.declared.messages.Campaign.TheVariants.{Oral, Signed}
+use Rattle.round.specs.Scenario.{Scenario, is_traitor}
 use Rattle.signed.specs.Chronicle.{signed_chronicle_of}
 use Rattle.signed.specs.Kind.{played}
 use Rattle.world.specs.Chronicle.{chronicle_of}
@@ -14,9 +17,7 @@ use Rattle.world.specs.World.{opening, run}
 use Rattle.world.specs.declared.verdict.Verdict.{Verdict}
 use Rattle.survey.specs.declared.finding.Finding.{Finding}
 use Rattle.survey.specs.Family.{Family}
-use Rattle.survey.specs.Plot.{Plot}
-use Rattle.survey.specs.Plotting.{plot_of}
-use Rattle.survey.specs.Wording.{plot_text}
+use Rattle.survey.specs.Wording.{campaign_text}
 
 -- the verdict on a campaign by the empty schedule
 abbrev pub verdict_in : Campaign → Verdict
@@ -34,14 +35,35 @@ pub record IsJudged (text : List ℕ) (v : Verdict) : Type 0 where
 abbrev pub IsRefused : List ℕ → ScenarioError → Type 0
 IsRefused text e = ReadsAny (parse_document text) (Err e)
 
--- what is found of a campaign by this seed: its numbers, and the verdict on what its text tells
-pub record IsFound (p : Plot) (by : ℕ) (found : Finding) : Type 0 where
+abbrev pub scenario_in : Campaign → Scenario
+scenario_in (Oral s) = s
+scenario_in (Signed s) = s
+
+abbrev pub traitors_in : Scenario → ℕ
+traitors_in s = count_by (is_traitor s) (range_with_len 0 s.generals)
+
+-- what is found by this seed of the campaign that a text tells: its numbers, and the verdict on it; where its bound holds all is well
+pub record IsFound (text : List ℕ) (by : ℕ) (found : Finding) : Type 0 where
+  pub campaign : Campaign
+  pub told : TellsAny text campaign
   pub seed : found.seed ≡ by
-  pub generals : found.generals ≡ p.generals
-  pub bound : found.bound ≡ p.bound
-  pub traitors : found.traitors ≡ length p.traitors
-  pub judged : IsJudged (plot_text p) found.verdict
+  pub generals : found.generals ≡ (scenario_in campaign).generals
+  pub bound : found.bound ≡ (scenario_in campaign).bound
+  pub traitors : found.traitors ≡ traitors_in (scenario_in campaign)
+  pub verdict : found.verdict ≡ verdict_in campaign
+  pub well : IsWellUnderBound found.verdict
 
 -- of the campaign of a family that the seed gives
 abbrev pub IsFindingOf : Family → ℕ → Finding → Type 0
-IsFindingOf f seed found = IsFound (plot_of f seed) seed found
+IsFindingOf f seed found = IsFound (campaign_text f seed) seed found
+
+-- its text is refused so, but for want of memory
+abbrev pub IsRefusedBy : Family → ℕ → ScenarioError → Type 0
+IsRefusedBy f seed e = e ≢ Memory → IsRefused (campaign_text f seed) e
+
+-- that of one of the seeds from the first up to the end, without that
+pub record IsRefusedIn (f : Family) (first end : ℕ) (e : ScenarioError) : Type 0 where
+  pub seed : ℕ
+  pub behind : first ≤ seed
+  pub before : seed < end
+  pub refused : IsRefused (campaign_text f seed) e

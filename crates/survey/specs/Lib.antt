@@ -7,3 +7,4 @@ pub mod Judging
 pub mod Sums
 pub mod Lines
 pub mod Reading
+pub mod Laws

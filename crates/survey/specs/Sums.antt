@@ -1,5 +1,6 @@
 -- Sums of what campaigns come to (own).
-use Rattle.std.specs.Prelude.{ℕ, ◌≡◌, ◌+◌, min, Bool, true, false, not, cond, List, [], ◌∷◌, ◌++◌, length, count_by, Option, None, Some}
+use Rattle.std.specs.Prelude.{ℕ, ◌≡◌, ◌+◌, min, Bool, true, false, ◌&&◌, not, cond, List, [], ◌∷◌, ◌++◌, length, count_by, Option, None, Some}
+use Rattle.world.specs.declared.verdict.Verdict.{Verdict}
 use Rattle.survey.specs.declared.finding.Finding.{Finding}
 use Rattle.survey.specs.declared.sums.Outcome.{Outcome}
 use Rattle.survey.specs.declared.sums.Outcome.TheVariants.{Kept, Broken, Disobeyed}
@@ -10,6 +11,10 @@ use Rattle.survey.specs.declared.sums.Tally.{Tally}
 abbrev pub is_denied : Option Bool → Bool
 is_denied None = false
 is_denied (Some b) = not b
+
+-- the loyal lieutenants decide alike, and as a loyal commander has ordered (TOPLAS 1982, IC1 and IC2)
+abbrev pub is_sound : Verdict → Bool
+is_sound v = v.alike && not (is_denied v.obeyed)
 
 abbrev pub has : Outcome → Finding → Bool
 has Kept f = f.verdict.bound

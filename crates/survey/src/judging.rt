@@ -2,16 +2,13 @@
 ghost use Rattle.std.specs.Prelude.{◌≡◌, ◌≢◌, [], IfOk, IfErr};
 ghost use Rattle.scenario.specs.declared.messages.Campaign.TheVariants.{Oral, Signed};
 ghost use Rattle.scenario.specs.declared.fault.ScenarioError.TheVariants.{Memory};
-ghost use Rattle.survey.specs.Judging.{IsFindingOf, IsFound, IsJudged, IsRefused, verdict_in};
-ghost use Rattle.survey.specs.Plotting.{plot_of};
-ghost use Rattle.survey.specs.Wording.{campaign_text, plot_text};
+ghost use Rattle.survey.specs.Judging.{IsFindingOf, IsFound, IsJudged, IsRefused, scenario_in, traitors_in, verdict_in};
+ghost use Rattle.survey.specs.Wording.{campaign_text};
 ghost use Rattle.world.specs.Promises.{IsWellUnderBound};
 
 use crate::family::Family;
 use crate::finding::Finding;
-use crate::plot::Plot;
-use crate::plotting::plot_of;
-use crate::wording::plot_text;
+use crate::wording::campaign_text;
 use round::Scenario;
 use scenario::{Campaign, ScenarioError, read_any};
 use signed::play_signed;
@@ -69,23 +66,50 @@ pub fn verdict_on(alloc: Global, text: &str) -> Result<Verdict, ScenarioError>
     Ok(verdict_in(alloc, campaign)?)
 }
 
-/// What this campaign comes to, which is said to be that of the seed.
+/// The scenario of a campaign.
+fn scenario_in(campaign: &Campaign) -> &Scenario
+    ensures { result.now ≡ scenario_in campaign.now }
+{
+    match campaign {
+        Campaign::Oral(scenario) => scenario,
+        Campaign::Signed(scenario) => scenario,
+    }
+}
+
+/// How many traitors the scenario has.
+#[tactic(auto, using(crate::proofs::Ranges::count_range))]
+fn traitors_in(scenario: &Scenario) -> u64
+    ensures { result ≡ traitors_in scenario.now }
+{
+    let mut count = 0;
+    for general in 0..scenario.generals() {
+        if scenario.is_traitor(general) {
+            count += 1;
+        }
+    }
+    count
+}
+
+/// What the campaign of a text comes to, which is said to be that of the seed.
 ///
 /// # Errors
 ///
-/// The first fault of its text, or want of memory.
-pub fn found(alloc: Global, plot: &Plot, seed: u64) -> Result<Finding, ScenarioError>
-    ensures found { IfOk result (IsFound plot.now seed) }
-    ensures refused { IfErr result (λ e. e ≢ Memory → IsRefused (plot_text plot.now) e) }
+/// The first fault of the text, or want of memory.
+pub fn found(alloc: Global, text: &str, seed: u64) -> Result<Finding, ScenarioError>
+    ensures found { IfOk result (IsFound text.now seed) }
+    ensures refused { IfErr result (λ e. e ≢ Memory → IsRefused text.now e) }
 {
-    let text = plot_text(alloc, plot)?;
-    let verdict = verdict_on(alloc, text.as_str())?;
+    let campaign = read_any(alloc, text)?;
+    let scenario = scenario_in(&campaign);
+    let generals = scenario.generals();
+    let bound = scenario.bound();
+    let traitors = traitors_in(scenario);
     Ok(Finding {
         seed,
-        generals: plot.generals,
-        bound: plot.bound,
-        traitors: plot.traitors.len() as u64,
-        verdict,
+        generals,
+        bound,
+        traitors,
+        verdict: verdict_in(alloc, campaign)?,
     })
 }
 
@@ -98,6 +122,6 @@ pub fn judged(alloc: Global, family: &Family, seed: u64) -> Result<Finding, Scen
     ensures found { IfOk result (IsFindingOf family.now seed) }
     ensures refused { IfErr result (λ e. e ≢ Memory → IsRefused (campaign_text family.now seed) e) }
 {
-    let plot = plot_of(alloc, family, seed)?;
-    found(alloc, &plot, seed)
+    let text = campaign_text(alloc, family, seed)?;
+    found(alloc, text.as_str(), seed)
 }

@@ -1,7 +1,14 @@
 //! Laws of surveys: each function does nothing, and its contract is the law.
+ghost use Rattle.survey.specs.Laws.{KeptAreSound};
 ghost use Rattle.survey.specs.Sums.{SumsOfParts};
 
 /// The sums of two parts of a survey are those of the whole.
 pub fn sums_of_parts()
     ensures { SumsOfParts }
+{}
+
+/// In no campaign that a seed gives is the bound kept while the loyal lieutenants decide unlike, or not as a loyal commander has
+/// ordered.
+pub fn kept_are_sound()
+    ensures { KeptAreSound }
 {}

@@ -1,9 +1,10 @@
 //! Sums of what campaigns come to, counted.
 ghost use Rattle.std.specs.Prelude.{◌≡◌, count_by};
-ghost use Rattle.survey.specs.Sums.{has, is_denied, least, lesser, sums_of, tally_of};
+ghost use Rattle.survey.specs.Sums.{has, is_denied, is_sound, least, lesser, sums_of, tally_of};
 
 use crate::finding::Finding;
 use crate::sums::{Outcome, Sums, Tally};
+use world::Verdict;
 
 /// Whether the campaign has the outcome.
 pub fn has(outcome: Outcome, finding: &Finding) -> bool
@@ -25,6 +26,13 @@ fn is_denied(answer: Option<bool>) -> bool
         None => false,
         Some(answer) => !answer,
     }
+}
+
+/// Whether the loyal lieutenants decide alike, and as a loyal commander has ordered.
+pub fn is_sound(verdict: Verdict) -> bool
+    ensures { result ≡ is_sound verdict }
+{
+    verdict.alike && !is_denied(verdict.obeyed)
 }
 
 /// How many of the campaigns have the outcome.

@@ -1,8 +1,9 @@
 //! The campaigns of many seeds.
-ghost use Rattle.std.specs.Prelude.{IfOk};
+ghost use Rattle.std.specs.Prelude.{◌≢◌, IfErr, IfOk};
 ghost use Rattle.std.specs.List.{AllZip};
 ghost use Rattle.rayon.specs.Numbers.{nat_range};
-ghost use Rattle.survey.specs.Judging.{IsFindingOf};
+ghost use Rattle.scenario.specs.declared.fault.ScenarioError.TheVariants.{Memory};
+ghost use Rattle.survey.specs.Judging.{IsFindingOf, IsRefusedBy, IsRefusedIn};
 
 use crate::family::Family;
 use crate::finding::Finding;
@@ -11,6 +12,9 @@ use rayon::prelude::*;
 use scenario::ScenarioError;
 use std::alloc::{AllocError, Global};
 use std::thread::Threads;
+
+/// How many campaigns are worth a thread of their own: one of them takes 8 us to some milliseconds.
+const LEAST_PIECE: usize = 32;
 
 /// What the campaigns of the family come to that the seeds give from `first` up to `end`, without that, one after the other.
 ///
@@ -23,7 +27,8 @@ pub fn survey_in_turn(
     first: u64,
     end: u64,
 ) -> Result<Vec<Finding>, ScenarioError>
-    ensures { IfOk result (λ findings. AllZip (IsFindingOf family.now) (nat_range first end) findings.items) }
+    ensures found { IfOk result (λ findings. AllZip (IsFindingOf family.now) (nat_range first end) findings.items) }
+    ensures refused { IfErr result (λ e. e ≢ Memory → IsRefusedIn family.now first end e) }
 {
     let mut findings = Vec::new(alloc);
     for seed in first..end {
@@ -40,15 +45,17 @@ fn gathered<R: Threads + Sync>(
     first: u64,
     end: u64,
 ) -> Result<Result<Vec<Finding>, ScenarioError>, AllocError>
-    ensures { IfOk result (λ all. IfOk all (λ findings. AllZip (IsFindingOf family.now) (nat_range first end) findings.items)) }
+    ensures found { IfOk result (λ all. IfOk all (λ findings. AllZip (IsFindingOf family.now) (nat_range first end) findings.items)) }
+    ensures refused { IfOk result (λ all. IfErr all (λ e. e ≢ Memory → IsRefusedIn family.now first end e)) }
 {
     (first..end)
         .into_par_iter()
         .map(
             |seed: u64| -> Result<Finding, ScenarioError>
-                ensures { IfOk result (IsFindingOf family.entry.now seed) }
+                ensures { IfOk result (IsFindingOf family.entry.now seed) × IfErr result (IsRefusedBy family.entry.now seed) }
             { judged(alloc, family, seed) },
         )
+        .with_min_len(LEAST_PIECE)
         .collect(rt, alloc)
 }
 
@@ -65,7 +72,8 @@ pub fn survey<R: Threads + Sync>(
     first: u64,
     end: u64,
 ) -> Result<Vec<Finding>, ScenarioError>
-    ensures { IfOk result (λ findings. AllZip (IsFindingOf family.now) (nat_range first end) findings.items) }
+    ensures found { IfOk result (λ findings. AllZip (IsFindingOf family.now) (nat_range first end) findings.items) }
+    ensures refused { IfErr result (λ e. e ≢ Memory → IsRefusedIn family.now first end e) }
 {
     gathered(rt, alloc, family, first, end)?
 }

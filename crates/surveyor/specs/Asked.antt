@@ -1,7 +1,7 @@
 -- What may be asked of a survey (own).
 use Rattle.std.specs.Prelude.{◌≤◌, ◌<◌, ◌-◌, ◌^◌, ⊤, IfSome}
 use Rattle.surveyor.specs.declared.asked.Asked.{Asked}
-use Rattle.surveyor.specs.declared.asked.Asked.TheVariants.{Survey as Surveys, Sums}
+use Rattle.surveyor.specs.declared.asked.Asked.TheVariants.{Survey as Surveys, Break, Merge}
 use Rattle.surveyor.specs.declared.asked.Survey.{Survey}
 
 -- spans with numbers in them, of 2 to 13 generals; a patience of 1 to 4,096 steps; seeds with one behind the last
@@ -17,4 +17,5 @@ pub record IsSurvey (s : Survey) : Type 0 where
 
 abbrev pub IsAsked : Asked → Type 0
 IsAsked (Surveys s) = IsSurvey s
-IsAsked (Sums names) = ⊤
+IsAsked (Break s is_table) = IsSurvey s
+IsAsked (Merge m) = ⊤

@@ -1,6 +1,7 @@
 //! What the words ask for.
-ghost use Rattle.std.specs.Prelude.{◌≤◌, ◌<◌, IfOk};
+ghost use Rattle.std.specs.Prelude.{◌≡◌, ◌≤◌, IfOk, IfSome, option_map};
 ghost use Rattle.surveyor.specs.Asked.{IsSurvey, IsAsked};
+ghost use Rattle.surveyor.specs.Words.{manner_named, plain_manner};
 
 use crate::numbers::{patience, seeds, span};
 use clap::error::ErrorKind;
@@ -14,8 +15,34 @@ use survey::{Manner, Span};
 pub enum Asked {
     /// The campaigns that the seeds of a survey give.
     Survey(Survey),
-    /// The sums of what files tell.
-    Sums(Vec<String>),
+    /// What breaks agreement, for each number of generals and each bound; as a table alone, or with the campaigns.
+    Break(Survey, bool),
+    /// What files tell.
+    Merge(Merge),
+}
+
+/// What is printed of campaigns.
+#[derive(Clone, Copy, PartialEq, Eq)]
+pub enum Shape {
+    /// Their sums.
+    Sums,
+    /// A line for each campaign.
+    Lines,
+    /// Their sums by their numbers.
+    Table,
+    /// The same as a picture.
+    Picture,
+    /// The least in which agreement is broken, of which nothing more can be taken out.
+    Least,
+}
+
+/// Files with lines of campaigns, and what is told of them.
+#[derive(Drop)]
+pub struct Merge {
+    pub names: Vec<String>,
+    /// The first and the last seed, if they are said.
+    pub seeds: Option<(u64, u64)>,
+    pub shape: Shape,
 }
 
 /// Which campaigns, and what is told of them.
@@ -30,8 +57,7 @@ pub struct Survey {
     pub adversary: String,
     pub first: u64,
     pub last: u64,
-    /// A line for each campaign, in place of sums.
-    pub lines: bool,
+    pub shape: Shape,
     /// The folder for campaigns in which agreement is broken.
     pub keep: Option<String>,
 }
@@ -68,6 +94,14 @@ const RULE: &str = "--rule takes majority or median";
 
 const SIGNED: &str = "signed messages have no rule";
 
+const SHAPE: &str = "one of --lines, --table, --svg, --shrink and --break is printed";
+
+const BREAK: &str = "--break is printed, or with --table as a table alone";
+
+const MERGE: &str = "--sum plays nothing: beside it stand --seeds, --table and --svg alone";
+
+const KEEP: &str = "--break keeps nothing: what it prints can be sent to a file";
+
 /// An option with a value.
 fn option<'a>(alloc: Global, name: &'a str, value: &'a str, help: &'a str) -> Arg<'a> {
     Arg::new(alloc, name)
@@ -84,11 +118,9 @@ fn switch<'a>(alloc: Global, name: &'a str, help: &'a str) -> Arg<'a> {
         .help(help)
 }
 
-/// What may be asked for, as `clap` is told of it.
-fn command<'a>(alloc: Global) -> Result<Command<'a>, AllocError> {
-    let command = Command::new(alloc, "survey")
-        .no_binary_name(true)
-        .bin_name("byzlab survey")?
+/// The options that say which campaigns there are, added to a command.
+fn with_family<'a>(alloc: Global, command: Command<'a>) -> Result<Command<'a>, AllocError> {
+    command
         .arg(option(
             alloc,
             "generals",
@@ -105,13 +137,13 @@ fn command<'a>(alloc: Global) -> Result<Command<'a>, AllocError> {
             alloc,
             "traitors",
             "N..M",
-            "How many traitors there are [default: 1]",
+            "How many traitors there are [default: 1; with --break: 1..13]",
         ))?
         .arg(option(
             alloc,
             "seeds",
             "N..M",
-            "The seeds, each of which gives a campaign [default: 1..1000]",
+            "The seeds, each of which gives a campaign, 10000000 at most [default: 1..1000]",
         ))?
         .arg(option(
             alloc,
@@ -125,35 +157,67 @@ fn command<'a>(alloc: Global) -> Result<Command<'a>, AllocError> {
             "STEPS",
             "After how many steps a traitor is no longer waited for, 1 to 4096",
         ))?
-        .arg(switch(alloc, "signed", "Messages are signed"))?;
-    let command = command
+        .arg(switch(alloc, "signed", "Messages are signed"))?
         .arg(option(
             alloc,
             "adversary",
             "WHAT",
             "What traitors do: lies, silent, collude, or a file of assembly [default: lies]",
-        ))?
+        ))
+}
+
+/// The options that say what is printed, added to a command.
+fn with_shapes<'a>(alloc: Global, command: Command<'a>) -> Result<Command<'a>, AllocError> {
+    command
         .arg(switch(
             alloc,
             "lines",
             "Prints an object of JSON for each campaign, in place of sums",
         ))?
+        .arg(switch(
+            alloc,
+            "table",
+            "Prints the sums for each number of generals, bound and traitors",
+        ))?
+        .arg(switch(
+            alloc,
+            "svg",
+            "Prints a picture: the share of broken campaigns over the number of traitors",
+        ))?
+        .arg(switch(
+            alloc,
+            "shrink",
+            "Prints the least broken campaign, of which nothing more can be taken out",
+        ))?
+        .arg(switch(
+            alloc,
+            "break",
+            "Prints, for each number of generals and bound, the least campaign found with the fewest traitors who break it",
+        ))?
         .arg(option(
             alloc,
             "keep",
             "DIR",
-            "Writes each campaign in which agreement is broken to DIR/SEED.toml",
+            "Writes each broken campaign to DIR/SEED.toml",
         ))?
         .arg(
             option(
                 alloc,
                 "sum",
                 "FILE",
-                "The sums of the lines of these files, and nothing is played",
+                "Sums the lines of these files, and names the seeds that lack or are double; nothing is played",
             )
             .num_args(1..)
             .action(ArgAction::Append),
-        )?;
+        )
+}
+
+/// What may be asked for, as `clap` is told of it.
+fn command<'a>(alloc: Global) -> Result<Command<'a>, AllocError> {
+    let command = Command::new(alloc, "survey")
+        .no_binary_name(true)
+        .bin_name("byzlab survey")?;
+    let command = with_shapes(alloc, with_family(alloc, command)?)?;
     Ok(command.about("Plays many campaigns of a family, and counts how they come out"))
 }
 
@@ -162,24 +226,87 @@ fn value<'a>(found: &ArgMatches<'a>, name: &str, without: &'a str) -> &'a str {
     found.get_str(name).unwrap_or(without)
 }
 
-/// How messages are sent.
-fn manner(found: &ArgMatches) -> Result<Manner, &'static str> {
-    let rule = found.get_str("rule");
-    if found.get_flag("signed") {
-        return match rule {
-            None => Ok(Manner::Signed),
-            Some(_) => Err(SIGNED),
-        };
+/// How messages are sent, by the words of `--rule` and `--signed`.
+fn manner_named(rule: Option<&str>, is_signed: bool) -> Option<Manner>
+    ensures { result ≡ manner_named (option_map (λ word. word.now) rule.entry) is_signed }
+{
+    let Some(rule) = rule else {
+        return Some(plain_manner(is_signed));
+    };
+    if is_signed {
+        return None;
     }
-    match rule {
-        None | Some("majority") => Ok(Manner::Oral(Rule::Majority)),
-        Some("median") => Ok(Manner::Oral(Rule::Median)),
-        Some(_) => Err(RULE),
+    if rule.as_bytes() == b"majority".as_slice() {
+        return Some(Manner::Oral(Rule::Majority));
+    }
+    if rule.as_bytes() == b"median".as_slice() {
+        return Some(Manner::Oral(Rule::Median));
+    }
+    None
+}
+
+/// How messages are sent where no rule is named.
+fn plain_manner(is_signed: bool) -> Manner
+    ensures { result ≡ plain_manner is_signed }
+{
+    if is_signed {
+        Manner::Signed
+    } else {
+        Manner::Oral(Rule::Majority)
     }
 }
 
-/// The survey that is asked for.
-fn survey_of(alloc: Global, found: &ArgMatches) -> Result<Survey, AskedError>
+/// How messages are sent.
+fn manner(found: &ArgMatches) -> Result<Manner, &'static str> {
+    let is_signed = found.get_flag("signed");
+    match manner_named(found.get_str("rule"), is_signed) {
+        Some(manner) => Ok(manner),
+        None if is_signed => Err(SIGNED),
+        None => Err(RULE),
+    }
+}
+
+/// What is to be printed of campaigns; at most one of its words stands there.
+fn printed(found: &ArgMatches) -> Result<Shape, &'static str> {
+    let words = (
+        found.get_flag("lines"),
+        found.get_flag("table"),
+        found.get_flag("svg"),
+        found.get_flag("shrink"),
+    );
+    match words {
+        (false, false, false, false) => Ok(Shape::Sums),
+        (true, false, false, false) => Ok(Shape::Lines),
+        (false, true, false, false) => Ok(Shape::Table),
+        (false, false, true, false) => Ok(Shape::Picture),
+        (false, false, false, true) => Ok(Shape::Least),
+        _ => Err(SHAPE),
+    }
+}
+
+/// For how many steps a traitor is waited for, if it is said.
+fn patience_of(found: &ArgMatches) -> Result<Option<u32>, AskedError>
+    ensures { IfOk result (λ p. IfSome p (λ steps. (1 ≤ steps) × (steps ≤ 4096))) }
+{
+    match found.get_str("patience") {
+        None => Ok(None),
+        Some(word) => match patience(word) {
+            Some(steps) => Ok(Some(steps)),
+            None => Err(AskedError::Value(PATIENCE)),
+        },
+    }
+}
+
+/// A text of its own of the value of an option, if it is there.
+fn owned(alloc: Global, found: &ArgMatches, name: &str) -> Result<Option<String>, AllocError> {
+    match found.get_str(name) {
+        None => Ok(None),
+        Some(word) => Ok(Some(String::from_str(alloc, word)?)),
+    }
+}
+
+/// The survey that is asked for, where so many traitors stand for none that are said.
+fn survey_of(alloc: Global, found: &ArgMatches, some: &str) -> Result<Survey, AskedError>
     ensures { IfOk result IsSurvey }
 {
     let generals = span(value(found, "generals", "4"))
@@ -188,36 +315,91 @@ fn survey_of(alloc: Global, found: &ArgMatches) -> Result<Survey, AskedError>
     let bound = span(value(found, "bound", "1"))
         .filter(|span| span.high <= 4)
         .ok_or(AskedError::Value(BOUND))?;
-    let traitors = span(value(found, "traitors", "1")).ok_or(AskedError::Value(TRAITORS))?;
+    let traitors = span(value(found, "traitors", some)).ok_or(AskedError::Value(TRAITORS))?;
     let seeds = seeds(value(found, "seeds", "1..1000")).ok_or(AskedError::Value(SEEDS))?;
-    let patience = match found.get_str("patience") {
-        None => None,
-        Some(word) => Some(patience(word).ok_or(AskedError::Value(PATIENCE))?),
-    };
     Ok(Survey {
         generals,
         bound,
         traitors,
         manner: manner(found).map_err(AskedError::Value)?,
-        patience,
+        patience: patience_of(found)?,
         adversary: String::from_str(alloc, value(found, "adversary", "lies"))?,
         first: seeds.0,
         last: seeds.1,
-        lines: found.get_flag("lines"),
-        keep: match found.get_str("keep") {
-            None => None,
-            Some(name) => Some(String::from_str(alloc, name)?),
-        },
+        shape: printed(found).map_err(AskedError::Value)?,
+        keep: owned(alloc, found, "keep")?,
     })
 }
 
-/// The names of the files whose lines are to be summed.
+/// The survey of what breaks agreement that is asked for.
+fn break_of(alloc: Global, found: &ArgMatches) -> Result<Asked, AskedError>
+    ensures { IfOk result IsAsked }
+{
+    let survey = survey_of(alloc, found, "1..13")?;
+    let is_table = match survey.shape {
+        Shape::Sums => false,
+        Shape::Table => true,
+        Shape::Lines | Shape::Picture | Shape::Least => return Err(AskedError::Value(BREAK)),
+    };
+    if survey.keep.is_some() {
+        return Err(AskedError::Value(KEEP));
+    }
+    Ok(Asked::Break(survey, is_table))
+}
+
+/// Whether a word stands there that speaks of campaigns to be played.
+fn does_play(found: &ArgMatches) -> bool {
+    let names = [
+        "generals",
+        "bound",
+        "traitors",
+        "rule",
+        "patience",
+        "adversary",
+        "keep",
+    ];
+    names.iter().any(|name| found.get_str(name).is_some())
+        || found.get_flag("signed")
+        || found.get_flag("break")
+}
+
+/// The names of files.
 fn files(alloc: Global, names: &[&str]) -> Result<Vec<String>, AllocError> {
     let mut files = Vec::new(alloc);
     for name in names {
         files.push(String::from_str(alloc, name)?)?;
     }
     Ok(files)
+}
+
+/// What is to be told of these files.
+fn merge_of(alloc: Global, found: &ArgMatches, names: &[&str]) -> Result<Merge, AskedError> {
+    let shape = printed(found).map_err(AskedError::Value)?;
+    if does_play(found) || shape == Shape::Lines || shape == Shape::Least {
+        return Err(AskedError::Value(MERGE));
+    }
+    let seeds = match found.get_str("seeds") {
+        None => None,
+        Some(word) => Some(seeds(word).ok_or(AskedError::Value(SEEDS))?),
+    };
+    Ok(Merge {
+        names: files(alloc, names)?,
+        seeds,
+        shape,
+    })
+}
+
+/// What the words ask for that `clap` has found.
+fn meant(alloc: Global, found: &ArgMatches) -> Result<Asked, AskedError>
+    ensures { IfOk result IsAsked }
+{
+    if let Some(names) = found.get_strs("sum") {
+        return Ok(Asked::Merge(merge_of(alloc, found, names)?));
+    }
+    if found.get_flag("break") {
+        return break_of(alloc, found);
+    }
+    Ok(Asked::Survey(survey_of(alloc, found, "1")?))
 }
 
 /// What the words behind the program's name ask for.
@@ -230,12 +412,7 @@ pub fn request(alloc: Global, words: &[&str]) -> Result<Asked, AskedError>
 {
     let command = command(alloc)?;
     match command.try_get_matches_from(words) {
-        Ok(found) => {
-            if let Some(names) = found.get_strs("sum") {
-                return Ok(Asked::Sums(files(alloc, names)?));
-            }
-            Ok(Asked::Survey(survey_of(alloc, &found)?))
-        }
+        Ok(found) => meant(alloc, &found),
         Err(error) if error.kind() == ErrorKind::OutOfMemory => Err(AskedError::Memory),
         Err(error) => Err(AskedError::Words(error)),
     }

@@ -1,6 +1,7 @@
 //! The family that is asked for.
 ghost use Rattle.std.specs.Prelude.{◌≡◌, IfOk};
 ghost use Rattle.surveyor.specs.Asked.{IsSurvey};
+ghost use Rattle.surveyor.specs.Words.{IsFamilyOf, IsNamed};
 
 use crate::asked::Survey;
 use crate::telling::Fault;
@@ -10,6 +11,7 @@ use std::alloc::Global;
 use std::fs::read_to_string;
 use std::io::ErrorKind;
 use survey::{Adversary, Family};
+use verify::{VerifyError, verify};
 
 /// The family of a survey. A file of assembly is read for it.
 ///
@@ -18,6 +20,7 @@ use survey::{Adversary, Family};
 /// The file is not read, or refused.
 pub fn family_of(rt: &HostRuntime, survey: &Survey) -> Result<Family, Fault>
     requires { IsSurvey survey.now }
+    ensures { IfOk result (IsFamilyOf survey.now) }
 {
     let adversary = adversary_of(rt, survey.adversary.as_str())?;
     Ok(Family::new(
@@ -31,7 +34,9 @@ pub fn family_of(rt: &HostRuntime, survey: &Survey) -> Result<Family, Fault>
 }
 
 /// What the traitors do whom a word names.
-fn adversary_of(rt: &HostRuntime, word: &str) -> Result<Adversary, Fault> {
+fn adversary_of(rt: &HostRuntime, word: &str) -> Result<Adversary, Fault>
+    ensures { IfOk result (IsNamed word.now) }
+{
     match word {
         "lies" => Ok(Adversary::Lies),
         "silent" => Ok(Adversary::Silent),
@@ -40,7 +45,7 @@ fn adversary_of(rt: &HostRuntime, word: &str) -> Result<Adversary, Fault> {
     }
 }
 
-/// The bytecode of a file of assembly, in hex.
+/// The bytecode of a file of assembly, in hex. The verifier must accept it.
 fn hex_of(rt: &HostRuntime, name: &str) -> Result<String, Fault> {
     let alloc = rt.alloc();
     let text = match read_to_string(rt, name) {
@@ -53,5 +58,19 @@ fn hex_of(rt: &HostRuntime, name: &str) -> Result<String, Fault> {
         Err(error) => return Err(Fault::Refused(format!(in alloc; "refused {error}")?)),
     };
     let bytes = encode(alloc, &program)?;
-    Ok(hex::encode(alloc, bytes.as_slice())?)
+    match verify(alloc, program) {
+        Ok(_) => Ok(hex::encode(alloc, bytes.as_slice())?),
+        Err(refused) => Err(unsound(alloc, refused.fault)),
+    }
+}
+
+/// That a program is refused.
+fn unsound(alloc: Global, fault: VerifyError) -> Fault {
+    match fault {
+        VerifyError::Memory => Fault::Memory,
+        fault => match format!(in alloc; "refused {fault}") {
+            Ok(line) => Fault::Refused(line),
+            Err(_) => Fault::Memory,
+        },
+    }
 }

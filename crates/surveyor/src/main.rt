@@ -3,15 +3,19 @@
 #![tactic(auto)]
 
 mod asked;
-mod counts;
 mod family;
 mod keeping;
 mod numbers;
+mod pieces;
+mod printing;
+mod progress;
+mod shrinking;
 mod summing;
 mod surveying;
 mod telling;
 
 use asked::{Asked, AskedError, request};
+use shrinking::broken;
 use std::process::ExitCode;
 use std::thread::Threads;
 use std::{env, io};
@@ -37,7 +41,8 @@ fn called<T: Threads + Sync>(rt: &HostRuntime, threads: &T) -> Result<u8, Fault>
     }
     match request(alloc, texts.as_slice()) {
         Ok(Asked::Survey(survey)) => surveyed(rt, threads, &survey),
-        Ok(Asked::Sums(names)) => summed(rt, names.as_slice()),
+        Ok(Asked::Break(survey, is_table)) => broken(rt, threads, &survey, is_table),
+        Ok(Asked::Merge(merge)) => summed(rt, &merge),
         Err(AskedError::Words(error)) => Ok(unasked(rt, error)?),
         Err(AskedError::Value(why)) => {
             let _ = rt.eprintln(format_args!("error: {why}"));

@@ -1,5 +1,7 @@
 //! Numbers and spans of them, as words say them.
-ghost use Rattle.std.specs.Prelude.{◌≤◌, ◌<◌, ◌-◌, ◌^◌, IfSome};
+ghost use Rattle.std.specs.Prelude.{◌≡◌, ◌≤◌, ◌<◌, ◌-◌, ◌^◌, IfSome, Some};
+ghost use Rattle.surveyor.specs.Numbers.{AreTold, IsTold};
+ghost use Rattle.text.specs.Number.{decimal_of};
 
 use survey::Span;
 use text::decimal;
@@ -7,7 +9,8 @@ use text::decimal;
 /// A number below the limit.
 fn below(limit: u128, word: &str) -> Option<u64>
     requires { limit ≤ 2 ^ 64 }
-    ensures { IfSome result (λ number. number < limit) }
+    ensures inside { IfSome result (λ number. number < limit) }
+    ensures told { IfSome result (λ number. decimal_of word.now ≡ Some number) }
 {
     let number = decimal(word.as_bytes())?;
     if number < limit {
@@ -17,22 +20,36 @@ fn below(limit: u128, word: &str) -> Option<u64>
     }
 }
 
+/// Two numbers below the limit, of which the first is not the greater.
+fn both(limit: u128, low: &str, high: &str) -> Option<(u64, u64)>
+    requires { limit ≤ 2 ^ 64 }
+    ensures ordered { IfSome result (λ r. r.0 ≤ r.1) }
+    ensures inside { IfSome result (λ r. r.1 < limit) }
+    ensures told { IfSome result (λ r. AreTold low.now high.now r.0 r.1) }
+{
+    let low = below(limit, low)?;
+    let high = below(limit, high)?;
+    if low <= high { Some((low, high)) } else { None }
+}
+
 /// The first and the last number of `A..B`, or of `A` alone, both of them below the limit.
 fn ends(limit: u128, word: &str) -> Option<(u64, u64)>
     requires { limit ≤ 2 ^ 64 }
     ensures ordered { IfSome result (λ r. r.0 ≤ r.1) }
     ensures inside { IfSome result (λ r. r.1 < limit) }
+    ensures told { IfSome result (λ r. IsTold word.now r.0 r.1) }
 {
-    let (low, high) = word.split_once("..").unwrap_or((word, word));
-    let low = below(limit, low)?;
-    let high = below(limit, high)?;
-    if low <= high { Some((low, high)) } else { None }
+    match word.split_once("..") {
+        Some((low, high)) => both(limit, low, high),
+        None => both(limit, word, word),
+    }
 }
 
 /// A span of numbers up to 13.
 pub fn span(word: &str) -> Option<Span>
     ensures ordered { IfSome result (λ s. s.low ≤ s.high) }
     ensures inside { IfSome result (λ s. s.high < 14) }
+    ensures told { IfSome result (λ s. IsTold word.now s.low s.high) }
 {
     let (low, high) = ends(14, word)?;
     Some(Span {
@@ -45,6 +62,7 @@ pub fn span(word: &str) -> Option<Span>
 pub fn seeds(word: &str) -> Option<(u64, u64)>
     ensures ordered { IfSome result (λ r. r.0 ≤ r.1) }
     ensures inside { IfSome result (λ r. r.1 < 2 ^ 64 - 1) }
+    ensures told { IfSome result (λ r. IsTold word.now r.0 r.1) }
 {
     let (first, last) = ends(18_446_744_073_709_551_615, word)?;
     if last - first < 10_000_000 {
@@ -58,6 +76,7 @@ pub fn seeds(word: &str) -> Option<(u64, u64)>
 pub fn patience(word: &str) -> Option<u32>
     ensures least { IfSome result (λ steps. 1 ≤ steps) }
     ensures most { IfSome result (λ steps. steps ≤ 4096) }
+    ensures told { IfSome result (λ steps. decimal_of word.now ≡ Some steps) }
 {
     let steps = below(4097, word)?;
     if steps == 0 { None } else { Some(steps as u32) }

@@ -1,18 +1,17 @@
 //! The campaigns of a survey.
 ghost use Rattle.surveyor.specs.Asked.{IsSurvey};
 
-use crate::asked::Survey;
-use crate::counts::sums_text;
+use crate::asked::{Shape, Survey};
 use crate::family::family_of;
-use crate::keeping::keep;
+use crate::keeping::{keep, try_folder};
+use crate::pieces::{at_once, refused};
+use crate::printing::{print, summary};
+use crate::progress::tell_progress;
+use crate::shrinking::shrunken;
 use crate::telling::Fault;
-use std::alloc::Global;
-use std::io::{IsTerminal, Write};
 use std::thread::Threads;
-use survey::{Family, Finding, campaign_text, put_line, sums_of, survey};
-
-/// How many campaigns are played between two looks at what they come to.
-const AT_ONCE: u64 = 16_384;
+use survey::{Family, Finding, campaign_text, is_sound, survey};
+use survey_tables::lines_text;
 
 /// Plays the campaigns of a survey, and prints what is asked for. The result is the exit status.
 ///
@@ -26,77 +25,85 @@ pub fn surveyed<T: Threads + Sync>(
 ) -> Result<u8, Fault>
     requires { IsSurvey asked.now }
 {
-    let alloc = rt.alloc();
     let family = family_of(rt, asked)?;
+    if let Some(folder) = &asked.keep {
+        try_folder(rt, folder.as_str())?;
+    }
+    if asked.shape == Shape::Least {
+        return shrunken(rt, threads, asked, &family);
+    }
+    played(rt, threads, asked, &family)
+}
+
+/// Plays the campaigns, and prints their lines or what they come to.
+fn played<T: Threads + Sync>(
+    rt: &HostRuntime,
+    threads: &T,
+    asked: &Survey,
+    family: &Family,
+) -> Result<u8, Fault>
+    requires { IsSurvey asked.now }
+{
+    let alloc = rt.alloc();
     let end = asked.last + 1;
-    let is_watched = rt.stderr().is_terminal();
+    let many = at_once(asked.generals.high);
     let mut all: Vec<Finding> = Vec::new(alloc);
     let mut next = asked.first;
-    for _ in 0..(end - asked.first) / AT_ONCE + 1 {
-        let until = next.saturating_add(AT_ONCE).min(end);
-        let found = match survey(threads, alloc, &family, next, until) {
-            Ok(found) => found,
-            Err(error) => return Err(refused(next, error)),
-        };
-        put(rt, asked, &family, found.as_slice())?;
-        for finding in &found {
-            all.push(*finding)?;
-        }
-        next = until;
-        if is_watched {
-            let done = all.len();
-            let mut stderr = rt.stderr();
-            let _ = write!(stderr, "\r{done} campaigns");
+    let mut broken: u64 = 0;
+    for _ in 0..(end - asked.first) / many + 1 {
+        if next < end {
+            let until = next.saturating_add(many).min(end);
+            let found = match survey(threads, alloc, family, next, until) {
+                Ok(found) => found,
+                Err(error) => return Err(refused(next, until, error)),
+            };
+            put(rt, asked, family, found.as_slice())?;
+            broken = broken.saturating_add(broken_in(found.as_slice()));
+            add(asked, &mut all, found.as_slice())?;
+            next = until;
+            tell_progress(rt, asked.first, next.saturating_sub(1), asked.last, broken)?;
         }
     }
-    if is_watched {
-        let _ = rt.eprintln("");
-    }
-    conclude(rt, asked, all.as_slice())?;
+    print(rt, summary(alloc, asked.shape, all.as_slice())?.as_str())?;
     Ok(0)
 }
 
-/// That one of the campaigns from a seed on is refused.
-fn refused(first: u64, error: scenario::ScenarioError) -> Fault {
-    match error {
-        scenario::ScenarioError::Memory => Fault::Memory,
-        error => Fault::Campaign(first, error),
+/// In how many of the campaigns agreement is broken, or the order disobeyed.
+fn broken_in(found: &[Finding]) -> u64 {
+    let mut broken: u64 = 0;
+    for finding in found {
+        if !is_sound(finding.verdict) {
+            broken = broken.saturating_add(1);
+        }
     }
+    broken
 }
 
-/// Prints the lines of these campaigns, where lines are asked for, and keeps those in which agreement is broken.
+/// Adds campaigns to those that are summed, unless lines are printed alone.
+fn add(asked: &Survey, all: &mut Vec<Finding>, found: &[Finding]) -> Result<(), Fault> {
+    if asked.shape == Shape::Lines {
+        return Ok(());
+    }
+    for finding in found {
+        all.push(*finding)?;
+    }
+    Ok(())
+}
+
+/// Prints the lines of these campaigns, where lines are asked for, and keeps those in which agreement is
+/// broken, or the order disobeyed.
 fn put(rt: &HostRuntime, asked: &Survey, family: &Family, found: &[Finding]) -> Result<(), Fault> {
     let alloc = rt.alloc();
-    if asked.lines {
-        let mut lines = String::new(alloc);
-        for finding in found {
-            put_line(&mut lines, finding)?;
-        }
-        print(rt, lines.as_str())?;
+    if asked.shape == Shape::Lines {
+        print(rt, lines_text(alloc, found)?.as_str())?;
     }
     if let Some(folder) = &asked.keep {
         for finding in found {
-            if !finding.verdict.alike {
+            if !is_sound(finding.verdict) {
                 let text = campaign_text(alloc, family, finding.seed)?;
                 keep(rt, folder.as_str(), finding.seed, text.as_str())?;
             }
         }
     }
     Ok(())
-}
-
-/// Prints the sums, where no lines are asked for.
-fn conclude(rt: &HostRuntime, asked: &Survey, all: &[Finding]) -> Result<(), Fault> {
-    if asked.lines {
-        return Ok(());
-    }
-    let text = sums_text(rt.alloc(), &sums_of(all))?;
-    print(rt, text.as_str())
-}
-
-/// Prints a text.
-fn print(rt: &HostRuntime, text: &str) -> Result<(), Fault> {
-    let mut stdout = rt.stdout();
-    stdout.write_all(text.as_bytes())?;
-    Ok(stdout.flush()?)
 }

@@ -12,8 +12,8 @@ pub enum Fault {
     Unwritten(Option<String>),
     /// The text of a program or a line is refused, as this line says.
     Refused(String),
-    /// The campaign of a seed is refused.
-    Campaign(u64, ScenarioError),
+    /// The campaign of one of the seeds from the first to the last is refused.
+    Campaign(u64, u64, ScenarioError),
     /// The words are not UTF-8.
     Words,
     /// Want of memory.
@@ -49,8 +49,8 @@ pub fn tell(rt: &HostRuntime, fault: Fault) -> u8 {
         Fault::Unwritten(Some(name)) => (rt.eprintln(format_args!("fault write {name}")), 1),
         Fault::Unwritten(None) => (rt.eprintln("fault write"), 1),
         Fault::Refused(line) => (rt.eprintln(line), 1),
-        Fault::Campaign(seed, error) => (
-            rt.eprintln(format_args!("refused {error} (seed {seed})")),
+        Fault::Campaign(first, last, error) => (
+            rt.eprintln(format_args!("refused {error} (of seeds {first}..{last})")),
             1,
         ),
         Fault::Words => (rt.eprintln("error: the words are not UTF-8"), 2),

@@ -27,7 +27,7 @@ returns g c =
     (chained start (one ++ time ++ two) three _ _
     (chained start (one ++ time) two _ _
     (chained start one time _ _ c.in_ok-put_scenario.ensures c.in_ok-put_schedule.ensures)
-    c.in_ok-put_programs.ensures)
+    c.in_ok-put_programs_of.ensures)
     c.in_ok-put_diagram.ensures)
     c.in_ok-put_lieutenants.ensures)
     c.in_ok-put_accesses.ensures)

@@ -158,40 +158,40 @@ returns-in-Ok-DrawRecorded-clause-fault g c =
 pub returns-in-Ok-Page-clause-answer : goal.returns-in-Ok-Page-clause-answer
 returns-in-Ok-Page-clause-answer g c =
     let both : Files = files g.R.Source.bytes c.args.first c.args.second in
-    let is : c.in-Ok-Page.field-0 ≡ Page c.in-Ok-Page.scenario c.in-Ok-Page.text = c.in-Ok-Page.field-0-is in
-    let comes : ComesTo c.args.task.now c.in_ok-bytes.bytes.items (Page c.in-Ok-Page.scenario c.in-Ok-Page.text) = rw (c.as_slice.ensures.value, is) at c.in-Ok-Page.ensures.answered in
+    let is : c.in-Ok-Page.field-0 ≡ Page c.in-Ok-Page.campaign c.in-Ok-Page.text = c.in-Ok-Page.field-0-is in
+    let comes : ComesTo c.args.task.now c.in_ok-bytes.bytes.items (Page c.in-Ok-Page.campaign c.in-Ok-Page.text) = rw (c.as_slice.ensures.value, is) at c.in-Ok-Page.ensures.answered in
     IfOk-weaker c.page_by.result _ _
-    (λ page by. answered_paged c.args.task.now both c.in_ok-bytes.bytes.items page.items c.in-Ok-Page.scenario c.in-Ok-Page.text c.in_ok-bytes.ensures.whole comes by)
+    (λ page by. answered_paged c.args.task.now both c.in_ok-bytes.bytes.items page.items c.in-Ok-Page.campaign c.in-Ok-Page.text c.in_ok-bytes.ensures.whole comes by)
     c.page_by.ensures.told
 
 pub returns-in-Ok-Page-clause-fault : goal.returns-in-Ok-Page-clause-fault
 returns-in-Ok-Page-clause-fault g c =
     let both : Files = files g.R.Source.bytes c.args.first c.args.second in
-    let is : c.in-Ok-Page.field-0 ≡ Page c.in-Ok-Page.scenario c.in-Ok-Page.text = c.in-Ok-Page.field-0-is in
-    let comes : ComesTo c.args.task.now c.in_ok-bytes.bytes.items (Page c.in-Ok-Page.scenario c.in-Ok-Page.text) = rw (c.as_slice.ensures.value, is) at c.in-Ok-Page.ensures.answered in
+    let is : c.in-Ok-Page.field-0 ≡ Page c.in-Ok-Page.campaign c.in-Ok-Page.text = c.in-Ok-Page.field-0-is in
+    let comes : ComesTo c.args.task.now c.in_ok-bytes.bytes.items (Page c.in-Ok-Page.campaign c.in-Ok-Page.text) = rw (c.as_slice.ensures.value, is) at c.in-Ok-Page.ensures.answered in
     IfErr-weaker c.page_by.result _ _
     (λ fault why.
-    prevented_later c.args.task.now both _ _ c.in_ok-bytes.bytes.items c.unwrap_or-file.result.now (Page c.in-Ok-Page.scenario c.in-Ok-Page.text) c.is_explained-reported.result fault c.in_ok-bytes.ensures.whole comes
+    prevented_later c.args.task.now both _ _ c.in_ok-bytes.bytes.items c.unwrap_or-file.result.now (Page c.in-Ok-Page.campaign c.in-Ok-Page.text) c.is_explained-reported.result fault c.in_ok-bytes.ensures.whole comes
     (second_named c.args.task.now c.second.result c.unwrap_or-file.result _ c.second.ensures c.unwrap_or-file.ensures refl) c.is_explained-reported.ensures why)
     c.page_by.ensures.fault
 
 pub returns-in-Ok-PageRecorded-clause-answer : goal.returns-in-Ok-PageRecorded-clause-answer
 returns-in-Ok-PageRecorded-clause-answer g c =
     let both : Files = files g.R.Source.bytes c.args.first c.args.second in
-    let is : c.in-Ok-PageRecorded.field-0 ≡ PageRecorded c.in-Ok-PageRecorded.scenario c.in-Ok-PageRecorded.text = c.in-Ok-PageRecorded.field-0-is in
-    let comes : ComesTo c.args.task.now c.in_ok-bytes.bytes.items (PageRecorded c.in-Ok-PageRecorded.scenario c.in-Ok-PageRecorded.text) = rw (c.as_slice.ensures.value, is) at c.in-Ok-PageRecorded.ensures.answered in
+    let is : c.in-Ok-PageRecorded.field-0 ≡ PageRecorded c.in-Ok-PageRecorded.campaign c.in-Ok-PageRecorded.text = c.in-Ok-PageRecorded.field-0-is in
+    let comes : ComesTo c.args.task.now c.in_ok-bytes.bytes.items (PageRecorded c.in-Ok-PageRecorded.campaign c.in-Ok-PageRecorded.text) = rw (c.as_slice.ensures.value, is) at c.in-Ok-PageRecorded.ensures.answered in
     IfOk-weaker c.page_record.result _ _
-    (λ page by. answered_page_recorded c.args.task.now both c.in_ok-bytes.bytes.items page.items c.in-Ok-PageRecorded.scenario c.in-Ok-PageRecorded.text c.in_ok-bytes.ensures.whole comes by)
+    (λ page by. answered_page_recorded c.args.task.now both c.in_ok-bytes.bytes.items page.items c.in-Ok-PageRecorded.campaign c.in-Ok-PageRecorded.text c.in_ok-bytes.ensures.whole comes by)
     c.page_record.ensures.told
 
 pub returns-in-Ok-PageRecorded-clause-fault : goal.returns-in-Ok-PageRecorded-clause-fault
 returns-in-Ok-PageRecorded-clause-fault g c =
     let both : Files = files g.R.Source.bytes c.args.first c.args.second in
-    let is : c.in-Ok-PageRecorded.field-0 ≡ PageRecorded c.in-Ok-PageRecorded.scenario c.in-Ok-PageRecorded.text = c.in-Ok-PageRecorded.field-0-is in
-    let comes : ComesTo c.args.task.now c.in_ok-bytes.bytes.items (PageRecorded c.in-Ok-PageRecorded.scenario c.in-Ok-PageRecorded.text) = rw (c.as_slice.ensures.value, is) at c.in-Ok-PageRecorded.ensures.answered in
+    let is : c.in-Ok-PageRecorded.field-0 ≡ PageRecorded c.in-Ok-PageRecorded.campaign c.in-Ok-PageRecorded.text = c.in-Ok-PageRecorded.field-0-is in
+    let comes : ComesTo c.args.task.now c.in_ok-bytes.bytes.items (PageRecorded c.in-Ok-PageRecorded.campaign c.in-Ok-PageRecorded.text) = rw (c.as_slice.ensures.value, is) at c.in-Ok-PageRecorded.ensures.answered in
     IfErr-weaker c.page_record.result _ _
     (λ fault why.
-    prevented_later c.args.task.now both _ _ c.in_ok-bytes.bytes.items c.unwrap_or-file.result.now (PageRecorded c.in-Ok-PageRecorded.scenario c.in-Ok-PageRecorded.text) c.is_explained-reported.result fault c.in_ok-bytes.ensures.whole comes
+    prevented_later c.args.task.now both _ _ c.in_ok-bytes.bytes.items c.unwrap_or-file.result.now (PageRecorded c.in-Ok-PageRecorded.campaign c.in-Ok-PageRecorded.text) c.is_explained-reported.result fault c.in_ok-bytes.ensures.whole comes
     (second_named c.args.task.now c.second.result c.unwrap_or-file.result _ c.second.ensures c.unwrap_or-file.ensures refl) c.is_explained-reported.ensures why)
     c.page_record.ensures.fault
 

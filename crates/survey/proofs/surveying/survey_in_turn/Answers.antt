@@ -15,7 +15,7 @@ loop-seed-preserved c =
     zip_on (IsFindingOf c.args.family.now) c.args.first c.loop-seed.seed (min c.loop-seed.seed c.args.end - c.args.first) (min (c.loop-seed.seed + 1) c.args.end - c.args.first)
     c.loop-seed.findings.items c.in_ok-judged.field-0 c.push.new.self.items (omega arith) (omega arith) (omega arith) c.loop-seed.invariant c.in_ok-judged.ensures.found c.in_ok-push.ensures.items
 
-pub returns : goal.returns
-returns c =
+pub returns-clause-found : goal.returns-clause-found
+returns-clause-found c =
     let all : min c.loop-seed.seed c.args.end - c.args.first ≡ c.args.end - c.args.first = omega arith in
     rw all at c.loop-seed.invariant

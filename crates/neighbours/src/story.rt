@@ -1,0 +1,51 @@
+//! The story at a scenario's head, which a page shows.
+ghost use Rattle.std.specs.Prelude.{◌≡◌, ◌++◌, IfOk, OnOk};
+ghost use Rattle.neighbours.specs.Story.{is_page, story, story_on, with_story};
+
+use command_line::Task;
+use std::alloc::{AllocError, Global};
+
+/// The bytes that are read of a scenario of these own bytes, in which the files stand that it names: for a page, its
+/// story comes before, which the text with the files has not.
+///
+/// # Errors
+///
+/// `AllocError` where memory is refused.
+pub fn with_story(
+    alloc: Global,
+    task: &Task,
+    own: &[u8],
+    bytes: Vec<u8>,
+) -> Result<Vec<u8>, AllocError>
+    ensures { IfOk result (λ text. text.items ≡ with_story task.now own.now bytes.items) }
+{
+    if !is_page(task) || bytes.as_slice() == own {
+        return Ok(bytes);
+    }
+    let mut text = story(alloc, own)?;
+    text.extend_from_slice(bytes.as_slice())?;
+    Ok(text)
+}
+
+/// Whether the task makes a page.
+fn is_page(task: &Task) -> bool
+    ensures { result ≡ is_page task.now }
+{
+    matches!(task, Task::Page { .. })
+}
+
+/// The comments and empty lines at the head of a scenario.
+fn story(alloc: Global, bytes: &[u8]) -> Result<Vec<u8>, AllocError>
+    ensures { IfOk result (λ text. text.items ≡ story bytes.now) }
+{
+    let mut text = Vec::new(alloc);
+    let mut within = false;
+    for byte in bytes {
+        if !within && *byte != b'#' && *byte != b'\n' {
+            return Ok(text);
+        }
+        text.push(*byte)?;
+        within = *byte != b'\n';
+    }
+    Ok(text)
+}

@@ -1,0 +1,48 @@
+-- The results of many seeds.
+use Rattle.std.proofs.Common.{ℕ, zero, suc, ◌+◌, ◌-◌, ◌<◌, ◌≤◌, ◌≡◌, List, [], ◌∷◌, length, get_or, map, subst, sym, arith, Ok, Err, Option, None, Some, Vec, ◌⊎◌}
+use Rattle.std.specs.Prelude.{IfOk, MatchOption, MatchResult}
+use Rattle.std.specs.Global.{Global}
+use Rattle.std.specs.declared.result.Result.{Result}
+use Rattle.std.specs.List.{All, AllZip, Contains, range_with_len}
+use Rattle.std.proofs.lemmas.List.Elements.{All-head, All-tail}
+use Rattle.scenario.specs.declared.fault.ScenarioError.{ScenarioError}
+use Rattle.survey.specs.Family.{Family}
+use Rattle.survey.specs.Plotting.{plot_of}
+use Rattle.shrink.specs.declared.breach.Breach.{Breach}
+use Rattle.shrink.specs.Shrinking.{ComesWell}
+use Rattle.shrink.specs.Breaches.{AreAllSound, IsLeastBreach, IsShrunk}
+
+-- what holds of a number and of its result, if it is good
+abbrev pub Gives : (ℕ → Option Breach → Type 0) → ℕ → Result (Option Breach) ScenarioError → Type 0
+Gives R seed r = IfOk r (R seed)
+
+all_good : (R : ℕ → Option Breach → Type 0) (seeds : List ℕ) (found : List (Option Breach)) → AllZip (Gives R) seeds (map Ok found) → AllZip R seeds found
+all_good R [] [] h = tt
+all_good R [] (f ∷ fs) h = absurd h
+all_good R (s ∷ seeds) [] h = absurd h
+all_good R (s ∷ seeds) (f ∷ fs) h = (h.0, all_good R seeds fs h.1)
+
+-- where all are good, so it is with all
+pub all_found : (R : ℕ → Option Breach → Type 0) (seeds : List ℕ) (rs : List (Result (Option Breach) ScenarioError)) (v : Result (Vec (Option Breach) Global) ScenarioError) → AllZip (Gives R) seeds rs
+    → MatchResult v (λ c. (found : List (Option Breach)) × (rs ≡ map Ok found) × (c.items ≡ found)) (λ e. Contains rs (Err e)) → IfOk v (λ c. AllZip R seeds c.items)
+all_found R seeds rs (Ok c) h m = subst (AllZip R seeds) (sym m.2) (all_good R seeds m.0 (subst (AllZip (Gives R) seeds) m.1 h))
+all_found R seeds rs (Err e) h m = tt
+
+-- where nothing is left of any of them, agreement is broken in none
+sound_one : (f : Family) (seed : ℕ) (o : Option Breach) → o ≡ None → IsShrunk f seed o → ComesWell (plot_of f seed)
+sound_one f seed None e h = h
+sound_one f seed (Some b) e h = absurd (cc)
+
+all_sound : (f : Family) (a n : ℕ) (all : List (Option Breach)) → AllZip (IsShrunk f) (range_with_len a n) all → All (λ o. o ≡ None) all → (seed : ℕ) → a ≤ seed → seed < a + n → ComesWell (plot_of f seed)
+all_sound f a zero all h none seed low high = absurd (omega arith)
+all_sound f a (suc n) [] h none seed low high = absurd h
+all_sound f a (suc n) (o ∷ os) h none seed low high = ⊎_elim
+    (λ e. subst (λ x. ComesWell (plot_of f x)) e (sound_one f a o (All-head (λ o. o ≡ None) o os none) h.0))
+    (λ lt. all_sound f (a + 1) n os h.1 (All-tail (λ o. o ≡ None) o os none) seed (omega arith) (omega arith))
+    (first_or_later a seed low)
+  where
+    first_or_later : (a seed : ℕ) → a ≤ seed → (a ≡ seed) ⊎ (a < seed)
+    first_or_later a seed low = grind arith
+
+pub none_broken : (f : Family) (first end : ℕ) → IsLeastBreach f first end None → AreAllSound f first end
+none_broken f first end h = λ seed low high. all_sound f first (end - first) h.all h.shrunk h.least seed low (omega arith)

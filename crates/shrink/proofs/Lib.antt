@@ -1,0 +1,3 @@
+pub mod Lessening
+pub mod Ranks
+pub mod Found

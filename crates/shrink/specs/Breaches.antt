@@ -1,0 +1,71 @@
+-- The least of the campaigns that are left of many (own).
+use Rattle.std.specs.Prelude.{ℕ, ◌≡◌, ◌<◌, ◌≤◌, ◌==◌, nat_lt, Bool, true, false, cond, ◌&&◌, ◌||◌, List, length, sum_by, Option, None, Some, IfSome, MatchOption}
+use Rattle.std.specs.List.{All, AllZip, Contains}
+use Rattle.rayon.specs.Numbers.{nat_range}
+use Rattle.survey.specs.declared.span.Span.{Span}
+use Rattle.survey.specs.Family.{Family}
+use Rattle.survey.specs.Plot.{Plot, Traitor}
+use Rattle.survey.specs.Plotting.{plot_of}
+use Rattle.shrink.specs.declared.breach.Breach.{Breach}
+use Rattle.shrink.specs.declared.breach.Breaking.{Breaking}
+use Rattle.shrink.specs.Shrinking.{ComesWell, IsLeast, IsPartOf}
+
+-- how many statements the traitors have
+abbrev pub statements : Plot → ℕ
+statements p = sum_by (λ (t : Traitor). length t.lies) p.traitors
+
+-- one is less than another: by its traitors, then its statements, then its seed
+abbrev pub is_below : ℕ → ℕ → ℕ → ℕ → ℕ → ℕ → Bool
+is_below a b c d e f = nat_lt a d || (a == d && (nat_lt b e || (b == e && nat_lt c f)))
+
+abbrev pub is_before : Breach → Breach → Bool
+is_before a b = is_below (length a.plot.traitors) (statements a.plot) a.seed (length b.plot.traitors) (statements b.plot) b.seed
+
+-- what is left of the campaign that a seed gives
+pub record IsBreachOf (f : Family) (by : ℕ) (b : Breach) : Type 0 where
+  pub seed : b.seed ≡ by
+  pub least : IsLeast b.plot
+  pub part : IsPartOf (plot_of f by) b.plot
+
+-- the same, or that nothing is broken in it
+abbrev pub IsShrunk : Family → ℕ → Option Breach → Type 0
+IsShrunk f seed found = MatchOption found (ComesWell (plot_of f seed)) (IsBreachOf f seed)
+
+-- one of these, before which none comes; none where there is none
+abbrev pub IsLeastOf : List (Option Breach) → Option Breach → Type 0
+IsLeastOf all None = All (λ o. o ≡ None) all
+IsLeastOf all (Some b) = Contains all (Some b) × All (λ o. IfSome o (λ c. is_before c b ≡ false)) all
+
+-- the first of two, unless the second is less
+abbrev pub better : Option Breach → Option Breach → Option Breach
+better None second = second
+better (Some a) None = Some a
+better (Some a) (Some b) = cond (is_before b a) (Some b) (Some a)
+
+-- the least of what is left of the seeds' campaigns
+pub record IsLeastBreach (f : Family) (first end : ℕ) (found : Option Breach) : Type 0 where
+  pub all : List (Option Breach)
+  pub shrunk : AllZip (IsShrunk f) (nat_range first end) all
+  pub least : IsLeastOf all found
+
+-- the family's campaigns of so many generals who provide for so many traitors and have so many
+abbrev pub only : ℕ → Span
+only n = record { low = n; high = n }
+
+abbrev pub narrowed : Family → ℕ → ℕ → ℕ → Family
+narrowed f n m t = record f { generals = only n; bound = only m; traitors = only t }
+
+-- none of the campaigns of these seeds is broken
+abbrev pub AreAllSound : Family → ℕ → ℕ → Type 0
+AreAllSound f first end = (seed : ℕ) → first ≤ seed → seed < end → ComesWell (plot_of f seed)
+
+-- fewer traitors of the span break it in none, these in the one of which this is left
+pub record IsBreaking (f : Family) (n m : ℕ) (span : Span) (first end : ℕ) (b : Breaking) : Type 0 where
+  pub within : span.low ≤ b.traitors
+  pub inside : b.traitors ≤ span.high
+  pub least : IsLeastBreach (narrowed f n m b.traitors) first end (Some b.breach)
+  pub fewer : (t : ℕ) → span.low ≤ t → t < b.traitors → AreAllSound (narrowed f n m t) first end
+
+-- no number of traitors of the span breaks it
+abbrev pub NoneBreaks : Family → ℕ → ℕ → Span → ℕ → ℕ → Type 0
+NoneBreaks f n m span first end = (t : ℕ) → span.low ≤ t → t ≤ span.high → AreAllSound (narrowed f n m t) first end

@@ -1,0 +1,153 @@
+//! Campaigns with a traitor or a statement less.
+ghost use Rattle.std.specs.Prelude.{◌≡◌, ◌<◌, IfOk, IfSome, IfNone, length};
+ghost use Rattle.shrink.specs.Shrinking.{AllLiesAreNeeded, Comes, IsBroken, IsPartOf, IsStillBroken, LiesAreNeeded, TraitorsAreNeeded, traitor_at, without_lie, without_traitor};
+
+use crate::copying::copied;
+use scenario::ScenarioError;
+use std::alloc::{AllocError, Global};
+use survey::{Plot, is_sound, plot_text, verdict_on};
+
+/// The campaign in which the traitor at this place is loyal.
+fn without_traitor(alloc: Global, plot: &Plot, place: usize) -> Result<Plot, AllocError>
+    requires { place < length plot.now.traitors }
+    ensures { IfOk result (λ less. less ≡ without_traitor plot.now place) }
+{
+    let mut less = copied(alloc, plot)?;
+    let _ = less.traitors.remove(place);
+    Ok(less)
+}
+
+/// The campaign in which he does not say one of his statements.
+fn without_lie(alloc: Global, plot: &Plot, place: usize, index: usize) -> Result<Plot, AllocError>
+    requires place { place < length plot.now.traitors }
+    requires index { index < length (traitor_at plot.now place).lies }
+    ensures { IfOk result (λ less. less ≡ without_lie plot.now place index) }
+{
+    let mut less = copied(alloc, plot)?;
+    let _ = less.traitors[place].lies.remove(index);
+    Ok(less)
+}
+
+/// Whether the loyal lieutenants of the campaign decide alike, and as a loyal commander has ordered.
+pub(crate) fn comes_well(alloc: Global, plot: &Plot) -> Result<bool, ScenarioError>
+    ensures { IfOk result (λ well. Comes well plot.now) }
+{
+    let text = plot_text(alloc, plot)?;
+    let verdict = verdict_on(alloc, text.as_str())?;
+    Ok(is_sound(verdict))
+}
+
+/// The campaign without the first traitor without whom it is still broken.
+fn fewer_traitors(alloc: Global, plot: &Plot) -> Result<Option<Plot>, ScenarioError>
+    ensures some { IfOk result (λ less. IfSome less (IsStillBroken plot.now)) }
+    ensures none { IfOk result (λ less. IfNone less (TraitorsAreNeeded plot.now)) }
+{
+    for place in 0..plot.traitors.len() {
+        let less = without_traitor(alloc, plot, place)?;
+        if !comes_well(alloc, &less)? {
+            return Ok(Some(less));
+        }
+    }
+    Ok(None)
+}
+
+/// The campaign without the first statement of the traitor at this place without which it is still broken.
+fn fewer_lies_of(alloc: Global, plot: &Plot, place: usize) -> Result<Option<Plot>, ScenarioError>
+    requires { place < length plot.now.traitors }
+    ensures some { IfOk result (λ less. IfSome less (IsStillBroken plot.now)) }
+    ensures none { IfOk result (λ less. IfNone less (LiesAreNeeded plot.now place)) }
+{
+    for index in 0..plot.traitors[place].lies.len() {
+        let less = without_lie(alloc, plot, place, index)?;
+        if !comes_well(alloc, &less)? {
+            return Ok(Some(less));
+        }
+    }
+    Ok(None)
+}
+
+/// The campaign without the first statement without which it is still broken.
+fn fewer_lies(alloc: Global, plot: &Plot) -> Result<Option<Plot>, ScenarioError>
+    ensures some { IfOk result (λ less. IfSome less (IsStillBroken plot.now)) }
+    ensures none { IfOk result (λ less. IfNone less (AllLiesAreNeeded plot.now)) }
+{
+    for place in 0..plot.traitors.len() {
+        let less = fewer_lies_of(alloc, plot, place)?;
+        if less.is_some() {
+            return Ok(less);
+        }
+    }
+    Ok(None)
+}
+
+/// The campaign with one traitor or statement less, where it is still broken.
+pub(crate) fn less(alloc: Global, plot: &Plot) -> Result<Option<Plot>, ScenarioError>
+    ensures some { IfOk result (λ less. IfSome less (IsStillBroken plot.now)) }
+    ensures traitors { IfOk result (λ less. IfNone less (TraitorsAreNeeded plot.now)) }
+    ensures lies { IfOk result (λ less. IfNone less (AllLiesAreNeeded plot.now)) }
+{
+    let fewer = fewer_traitors(alloc, plot)?;
+    if fewer.is_some() {
+        return Ok(fewer);
+    }
+    fewer_lies(alloc, plot)
+}
+
+/// The campaign without each traitor without whom, the later ones being there, it is still broken.
+pub(crate) fn fewest_traitors(alloc: Global, plot: Plot) -> Result<Plot, ScenarioError>
+    requires { IsBroken plot }
+    ensures broken { IfOk result IsBroken }
+    ensures part { IfOk result (IsPartOf plot) }
+{
+    let mut left = plot;
+    let mut place = 0;
+    for _ in 0..left.traitors.len() {
+        if place < left.traitors.len() {
+            let less = without_traitor(alloc, &left, place)?;
+            if comes_well(alloc, &less)? {
+                place += 1;
+            } else {
+                left = less;
+            }
+        }
+    }
+    Ok(left)
+}
+
+/// The campaign without each statement of the traitor at this place without which, the later ones being said, it is still
+/// broken.
+fn fewest_lies_of(alloc: Global, plot: Plot, place: usize) -> Result<Plot, ScenarioError>
+    requires place { place < length plot.traitors }
+    requires broken { IsBroken plot }
+    ensures broken { IfOk result IsBroken }
+    ensures part { IfOk result (IsPartOf plot) }
+{
+    let mut left = plot;
+    let mut index = 0;
+    for _ in 0..left.traitors[place].lies.len() {
+        if place < left.traitors.len() && index < left.traitors[place].lies.len() {
+            let less = without_lie(alloc, &left, place, index)?;
+            if comes_well(alloc, &less)? {
+                index += 1;
+            } else {
+                left = less;
+            }
+        }
+    }
+    Ok(left)
+}
+
+/// The campaign without each statement without which, the later ones being said, it is still broken.
+pub(crate) fn fewest_lies(alloc: Global, plot: Plot) -> Result<Plot, ScenarioError>
+    requires { IsBroken plot }
+    ensures broken { IfOk result IsBroken }
+    ensures part { IfOk result (IsPartOf plot) }
+{
+    let mut left = plot;
+    for place in 0..left.traitors.len() {
+        if place < left.traitors.len() {
+            left = fewest_lies_of(alloc, left, place)?;
+        }
+    }
+    Ok(left)
+}

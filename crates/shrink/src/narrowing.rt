@@ -1,0 +1,41 @@
+//! Families with fewer campaigns.
+ghost use Rattle.std.specs.Prelude.{◌≡◌, ◌≤◌, IfOk};
+ghost use Rattle.shrink.specs.Breaches.{narrowed};
+
+use crate::copying::adversary_copied;
+use std::alloc::{AllocError, Global};
+use survey::{Family, Span};
+
+/// The span of one number.
+fn only(number: u8) -> Span
+    ensures low { result.low ≡ number }
+    ensures high { result.high ≡ number }
+{
+    Span {
+        low: number,
+        high: number,
+    }
+}
+
+/// The campaigns of a family of so many generals who provide for so many traitors and have so many.
+pub(crate) fn narrowed(
+    alloc: Global,
+    family: &Family,
+    generals: u8,
+    bound: u8,
+    traitors: u8,
+) -> Result<Family, AllocError>
+    requires least { 2 ≤ generals }
+    requires most { generals ≤ 13 }
+    ensures { IfOk result (λ less. less ≡ narrowed family.now generals bound traitors) }
+{
+    let _ = family.generals();
+    Ok(Family::new(
+        only(generals),
+        only(bound),
+        only(traitors),
+        family.manner(),
+        family.patience(),
+        adversary_copied(alloc, family.adversary())?,
+    ))
+}

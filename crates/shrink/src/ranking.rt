@@ -1,0 +1,32 @@
+//! Which of two broken campaigns is less.
+ghost use Rattle.std.specs.Prelude.{◌≡◌};
+ghost use Rattle.shrink.specs.Breaches.{is_before, statements};
+
+use crate::breach::Breach;
+use survey::Plot;
+
+/// How many statements the traitors of the campaign have.
+pub fn statements(plot: &Plot) -> u128
+    ensures { result ≡ statements plot.now }
+{
+    let mut count: u128 = 0;
+    for traitor in &plot.traitors {
+        count += traitor.lies.len() as u128;
+    }
+    count
+}
+
+/// Whether the first has fewer traitors, or as many and fewer statements, or as many of both and the lesser seed.
+pub fn is_before(first: &Breach, second: &Breach) -> bool
+    ensures { result ≡ is_before first.now second.now }
+{
+    let (here, there) = (first.plot.traitors.len(), second.plot.traitors.len());
+    if here != there {
+        return here < there;
+    }
+    let (here, there) = (statements(&first.plot), statements(&second.plot));
+    if here != there {
+        return here < there;
+    }
+    first.seed < second.seed
+}

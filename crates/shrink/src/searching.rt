@@ -1,0 +1,137 @@
+//! The least of many broken campaigns.
+ghost use Rattle.std.specs.Prelude.{◌≡◌, ◌≤◌, IfOk, IfSome, IfNone};
+ghost use Rattle.std.specs.List.{AllZip};
+ghost use Rattle.rayon.specs.Numbers.{nat_range};
+ghost use Rattle.shrink.specs.Breaches.{IsBreaking, IsLeastBreach, IsLeastOf, IsShrunk, NoneBreaks, better};
+
+use crate::breach::{Breach, Breaking};
+use crate::narrowing::narrowed;
+use crate::ranking::is_before;
+use crate::shrinking::shrunk;
+use rayon::prelude::*;
+use scenario::ScenarioError;
+use std::alloc::{AllocError, Global};
+use std::thread::Threads;
+use survey::{Family, Span, plot_of};
+
+/// What is left of the seed's campaign, if agreement is broken in it.
+///
+/// # Errors
+///
+/// The first fault of a text, or want of memory; so of every function here.
+pub fn breach_of(alloc: Global, family: &Family, seed: u64) -> Result<Option<Breach>, ScenarioError>
+    ensures { IfOk result (IsShrunk family.now seed) }
+{
+    let plot = plot_of(alloc, family, seed)?;
+    match shrunk(alloc, plot)? {
+        Some(plot) => Ok(Some(Breach { seed, plot })),
+        None => Ok(None),
+    }
+}
+
+/// The same of each seed from `first` up to `end`, without that, by as many threads as there are processors, or why not.
+fn gathered<R: Threads + Sync>(
+    rt: &R,
+    alloc: Global,
+    family: &Family,
+    first: u64,
+    end: u64,
+) -> Result<Result<Vec<Option<Breach>>, ScenarioError>, AllocError>
+    ensures { IfOk result (λ all. IfOk all (λ found. AllZip (IsShrunk family.now) (nat_range first end) found.items)) }
+{
+    (first..end)
+        .into_par_iter()
+        .map(
+            |seed: u64| -> Result<Option<Breach>, ScenarioError>
+                ensures { IfOk result (IsShrunk family.entry.now seed) }
+            { breach_of(alloc, family, seed) },
+        )
+        .with_min_len(LEAST_PIECE)
+        .collect(rt, alloc)
+}
+
+/// How many campaigns are worth a thread of their own.
+const LEAST_PIECE: usize = 8;
+
+/// What is left of the campaign of each seed from `first` up to `end`, without that.
+pub fn breaches<R: Threads + Sync>(
+    rt: &R,
+    alloc: Global,
+    family: &Family,
+    first: u64,
+    end: u64,
+) -> Result<Vec<Option<Breach>>, ScenarioError>
+    ensures { IfOk result (λ found. AllZip (IsShrunk family.now) (nat_range first end) found.items) }
+{
+    gathered(rt, alloc, family, first, end)?
+}
+
+/// The first of the two, unless the second is less.
+pub fn better(first: Option<Breach>, second: Option<Breach>) -> Option<Breach>
+    ensures { result ≡ better first second }
+{
+    let Some(here) = first else { return second };
+    let Some(there) = second else {
+        return Some(here);
+    };
+    if is_before(&there, &here) {
+        Some(there)
+    } else {
+        Some(here)
+    }
+}
+
+/// The least of them.
+pub fn least(found: Vec<Option<Breach>>) -> Option<Breach>
+    ensures { IsLeastOf found.items result }
+{
+    let mut least = None;
+    for breach in found {
+        least = better(least, breach);
+    }
+    least
+}
+
+/// The least of what is left of the seeds' campaigns from `first` up to `end`, without that; none where agreement is broken in
+/// none of them.
+pub fn least_breach<R: Threads + Sync>(
+    rt: &R,
+    alloc: Global,
+    family: &Family,
+    first: u64,
+    end: u64,
+) -> Result<Option<Breach>, ScenarioError>
+    ensures { IfOk result (IsLeastBreach family.now first end) }
+{
+    Ok(least(breaches(rt, alloc, family, first, end)?))
+}
+
+/// With the fewest traitors of the span by whom agreement is broken in a campaign of these seeds, the least of what is left of
+/// the campaigns in which so many break it; none where no number of them breaks it.
+pub fn breaking<R: Threads + Sync>(
+    rt: &R,
+    alloc: Global,
+    family: &Family,
+    generals: u8,
+    bound: u8,
+    traitors: Span,
+    first: u64,
+    end: u64,
+) -> Result<Option<Breaking>, ScenarioError>
+    requires least { 2 ≤ generals }
+    requires most { generals ≤ 13 }
+    ensures some { IfOk result (λ found. IfSome found (IsBreaking family.now generals bound traitors first end)) }
+    ensures none { IfOk result (λ found. IfNone found (NoneBreaks family.now generals bound traitors first end)) }
+{
+    for count in u16::from(traitors.low)..u16::from(traitors.high) + 1 {
+        let count = count as u8;
+        let family = narrowed(alloc, family, generals, bound, count)?;
+        if let Some(breach) = least_breach(rt, alloc, &family, first, end)? {
+            return Ok(Some(Breaking {
+                traitors: count,
+                breach,
+            }));
+        }
+    }
+    Ok(None)
+}

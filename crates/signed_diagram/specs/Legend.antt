@@ -1,0 +1,18 @@
+-- What the marks of a picture of signed messages mean, below its foot.
+use Rattle.std.specs.Prelude.{ℕ, List, codes}
+use Rattle.diagram.specs.Legend.{legend_of}
+
+unfoldable pub sent_meaning : List ℕ
+sent_meaning = codes "sent as a loyal general would send it"
+
+unfoldable pub differs_meaning : List ℕ
+differs_meaning = codes "sent, and a loyal general would not send it"
+
+unfoldable pub missing_meaning : List ℕ
+missing_meaning = codes "not sent, and a loyal general would send it"
+
+unfoldable pub wide_meaning : List ℕ
+wide_meaning = codes "A line is as wide as it has chains, up to 5."
+
+abbrev pub legend : List ℕ
+legend = legend_of sent_meaning differs_meaning missing_meaning wide_meaning

@@ -1,0 +1,51 @@
+//! What the marks of a picture of signed messages mean, below its foot.
+ghost use Rattle.std.specs.Prelude.{◌≡◌, ◌++◌, string_bytes, OnOk};
+ghost use Rattle.signed_diagram.specs.Legend.{differs_meaning, legend, missing_meaning, sent_meaning, wide_meaning};
+
+use diagram::legend::put_legend_of;
+use std::alloc::AllocError;
+
+/// Adds what the marks mean.
+pub(crate) fn put_legend(out: &mut String) -> Result<(), AllocError>
+    ensures { OnOk result (string_bytes out.new ≡ string_bytes out.old ++ legend) }
+{
+    put_legend_of(
+        out,
+        sent_meaning(),
+        differs_meaning(),
+        missing_meaning(),
+        wide_meaning(),
+    )
+}
+
+/// Of what a loyal general would send too.
+#[tactic(auto, unfolding(crate::specs::Legend::sent_meaning))]
+fn sent_meaning() -> &'static str
+    ensures { result.now ≡ sent_meaning }
+{
+    "sent as a loyal general would send it"
+}
+
+/// Of what he would not.
+#[tactic(auto, unfolding(crate::specs::Legend::differs_meaning))]
+fn differs_meaning() -> &'static str
+    ensures { result.now ≡ differs_meaning }
+{
+    "sent, and a loyal general would not send it"
+}
+
+/// Of what he would, and was not sent.
+#[tactic(auto, unfolding(crate::specs::Legend::missing_meaning))]
+fn missing_meaning() -> &'static str
+    ensures { result.now ≡ missing_meaning }
+{
+    "not sent, and a loyal general would send it"
+}
+
+/// What the width of a line tells.
+#[tactic(auto, unfolding(crate::specs::Legend::wide_meaning))]
+fn wide_meaning() -> &'static str
+    ensures { result.now ≡ wide_meaning }
+{
+    "A line is as wide as it has chains, up to 5."
+}

@@ -1,0 +1,49 @@
+-- A campaign of signed messages as a page of HTML, section by section.
+use Rattle.std.specs.Prelude.{ℕ, ◌==◌, Bool, true, false, if◌then◌else◌, List, [], ◌++◌, flat_map, codes, Option}
+use Rattle.std.specs.Fmt.{decimal}
+use Rattle.std.specs.List.{range_with_len}
+use Rattle.page.specs.Page.{fold, heading, lines, page}
+use Rattle.round.specs.Scenario.{Scenario, is_traitor}
+use Rattle.signed.specs.Explained.{acceptance_of}
+use Rattle.signed_diagram.specs.Svg.{signed_svg}
+use Rattle.trace.specs.SignedText.{signed_text}
+use Rattle.world.specs.Chronicle.{Chronicle}
+use Rattle.world.specs.declared.schedule.Repeat.{Repeat}
+use Rattle.campaign_page.specs.Account.{accesses_part, chronicle_shown, picture_told, programs_part, scenario_part, schedule_part, title, verdict_told}
+
+-- which orders a lieutenant accepts, by which chains, and what he decides of them
+unfoldable pub lieutenants_heading : List ℕ
+lieutenants_heading = codes "What each lieutenant accepted, and why he decides so"
+
+abbrev pub traitor_words : Bool → List ℕ
+traitor_words is_traitor = if is_traitor then codes ", a traitor" else []
+
+unfoldable pub lieutenant_words : ℕ → Bool → List ℕ
+lieutenant_words g is_traitor = codes "Lieutenant " ++ (decimal g ++ traitor_words is_traitor)
+
+abbrev pub lieutenant_told : Chronicle → ℕ → List ℕ
+lieutenant_told c g = fold (lieutenant_words g (is_traitor c.scenario g)) (lines (acceptance_of c g))
+
+abbrev pub lieutenant_part : Chronicle → ℕ → List ℕ
+lieutenant_part c g = if g == c.scenario.commander then [] else lieutenant_told c g
+
+abbrev pub lieutenants_part : Chronicle → List ℕ
+lieutenants_part c = heading lieutenants_heading ++ flat_map (lieutenant_part c) (range_with_len 0 c.scenario.generals)
+
+-- which promise holds (TOPLAS 1982, Theorem 2)
+unfoldable pub bound_told : Bool → List ℕ
+bound_told true = codes "The bound holds: there are few enough traitors, so that loyal lieutenants decide alike, and obey a loyal commander, whatever the traitors do."
+bound_told false = codes "The bound does not hold, by too many traitors: no promise."
+
+-- all sections, of a chronicle whose scenario this text tells, and which was played by this schedule, if by one
+unfoldable pub parts : List ℕ → Option (List (List Repeat)) → Chronicle → List ℕ
+parts text schedule c =
+    scenario_part text ++ schedule_part schedule ++ programs_part c.scenario ++ picture_told (signed_svg c) ++ lieutenants_part c ++ accesses_part c.accesses
+    ++ chronicle_shown (signed_text c) ++ verdict_told c.verdict (bound_told c.verdict.bound)
+
+abbrev pub signed_title : Scenario → List ℕ
+signed_title s = title s ++ codes "; signed messages"
+
+-- the page, under the campaign's numbers
+abbrev pub signed_page_text : List ℕ → Option (List (List Repeat)) → Chronicle → List ℕ
+signed_page_text text schedule c = page (signed_title c.scenario) (parts text schedule c)

@@ -1,0 +1,27 @@
+//! The verdict on a signed campaign, and what was promised.
+ghost use Rattle.std.specs.Prelude.{◌≡◌, ◌++◌, string_bytes, OnOk};
+ghost use Rattle.campaign_page.specs.Account.{verdict_told};
+ghost use Rattle.signed_page.specs.Account.{bound_told};
+
+use campaign_page::put_verdict_told;
+use std::alloc::AllocError;
+use world::Verdict;
+
+/// Adds the verdict, a paragraph for each of its parts.
+pub(crate) fn put_verdict(out: &mut String, verdict: Verdict) -> Result<(), AllocError>
+    ensures { OnOk result (string_bytes out.new ≡ string_bytes out.old ++ verdict_told verdict (bound_told verdict.bound)) }
+{
+    put_verdict_told(out, verdict, bound_words(verdict.bound))
+}
+
+/// Which promise holds (TOPLAS 1982, Theorem 2).
+#[tactic(auto, unfolding(crate::specs::Account::bound_told))]
+fn bound_words(bound: bool) -> &'static str
+    ensures { result.now ≡ bound_told bound }
+{
+    if bound {
+        "The bound holds: there are few enough traitors, so that loyal lieutenants decide alike, and obey a loyal commander, whatever the traitors do."
+    } else {
+        "The bound does not hold, by too many traitors: no promise."
+    }
+}

@@ -1,0 +1,17 @@
+-- The sums of a survey as lines (docs/FORMATS.md, "Surveys").
+use Rattle.std.specs.Prelude.{ℕ, List, ◌++◌, decimal, codes, Option, None, Some}
+use Rattle.survey.specs.declared.sums.Sums.{Sums}
+use Rattle.survey.specs.declared.sums.Tally.{Tally}
+
+abbrev pub first_text : Option ℕ → List ℕ
+first_text None = codes "\n"
+first_text (Some seed) = codes " first seed " ++ (decimal seed ++ codes "\n")
+
+abbrev pub tally_text : List ℕ → Tally → List ℕ
+tally_text name t = name ++ (codes " " ++ (decimal t.count ++ first_text t.first))
+
+abbrev pub campaigns_text : ℕ → List ℕ
+campaigns_text campaigns = codes "campaigns " ++ (decimal campaigns ++ codes "\n")
+
+unfoldable pub sums_text : Sums → List ℕ
+sums_text s = campaigns_text s.campaigns ++ tally_text (codes "bound kept") s.kept ++ tally_text (codes "agreement broken") s.broken ++ tally_text (codes "order disobeyed") s.disobeyed

@@ -1,0 +1,34 @@
+-- The campaigns of a survey, by their numbers (own).
+use Rattle.std.specs.Prelude.{ℕ, ◌≡◌, ◌==◌, cond, List, [], ◌∷◌, length, filter, flat_map, count_by, not}
+use Rattle.std.specs.List.{range_with_len}
+use Rattle.survey.specs.declared.finding.Finding.{Finding}
+use Rattle.survey.specs.Sums.{is_sound, sums_of}
+use Rattle.survey_tables.specs.declared.group.Group.{Group}
+
+abbrev pub of_generals : ℕ → List Finding → List Finding
+of_generals n fs = filter (λ (f : Finding). f.generals == n) fs
+
+abbrev pub of_bound : ℕ → List Finding → List Finding
+of_bound m fs = filter (λ (f : Finding). f.bound == m) fs
+
+abbrev pub of_traitors : ℕ → List Finding → List Finding
+of_traitors t fs = filter (λ (f : Finding). f.traitors == t) fs
+
+-- in how many the loyal lieutenants decide unlike, or not as a loyal commander has ordered
+abbrev pub failed_in : List Finding → ℕ
+failed_in fs = count_by (λ (f : Finding). not (is_sound f.verdict)) fs
+
+-- campaigns of these numbers as a group, if there are some
+abbrev pub group_of : ℕ → ℕ → List Finding → ℕ → List Group
+group_of n m fs t =
+    cond (length (of_traitors t fs) == 0) [] (record { generals = n; bound = m; traitors = t; sums = sums_of (of_traitors t fs); failed = failed_in (of_traitors t fs) } ∷ [])
+
+-- by up to 13 traitors, of 0 to 4 that are provided for, of 2 to 13 generals
+abbrev pub groups_in : ℕ → ℕ → List Finding → List Group
+groups_in n m fs = flat_map (group_of n m fs) (range_with_len 0 14)
+
+abbrev pub groups_by_bound : ℕ → List Finding → List Group
+groups_by_bound n fs = flat_map (λ m. groups_in n m (of_bound m fs)) (range_with_len 0 5)
+
+unfoldable pub groups_of : List Finding → List Group
+groups_of fs = flat_map (λ n. groups_by_bound n (of_generals n fs)) (range_with_len 2 12)

@@ -1,0 +1,5 @@
+pub mod Counts
+pub mod Covering
+pub mod Groups
+pub mod Tables
+pub mod Pictures

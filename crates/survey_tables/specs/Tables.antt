@@ -1,0 +1,39 @@
+-- The sums of a survey as a table (own).
+use Rattle.std.specs.Prelude.{ℕ, ◌-◌, List, [], ◌∷◌, ◌++◌, length, flat_map, decimal, codes, Option, None, Some}
+use Rattle.std.specs.List.{replicate}
+use Rattle.survey_tables.specs.declared.cell.Cell.{Cell}
+use Rattle.survey_tables.specs.declared.group.Group.{Group}
+
+abbrev pub number_text : Option ℕ → List ℕ
+number_text None = codes "-"
+number_text (Some number) = decimal number
+
+-- with spaces before it, so that it has this width, if it is no longer
+abbrev pub padded : ℕ → List ℕ → List ℕ
+padded width text = replicate (width - length text) 32 ++ text
+
+abbrev pub cell_text : Cell → List ℕ
+cell_text c = codes " " ++ padded c.width (number_text c.number)
+
+abbrev pub row_text : List Cell → List ℕ
+row_text cells = flat_map cell_text cells ++ codes "\n"
+
+abbrev pub cell : ℕ → Option ℕ → Cell
+cell width number = record { width = width; number = number }
+
+abbrev pub cells_of : Group → List Cell
+cells_of g =
+    cell 8 (Some g.generals) ∷ cell 5 (Some g.bound) ∷ cell 8 (Some g.traitors) ∷ cell 9 (Some g.sums.campaigns)
+    ∷ cell 8 (Some g.sums.kept.count) ∷ cell 7 g.sums.kept.first
+    ∷ cell 8 (Some g.sums.broken.count) ∷ cell 7 g.sums.broken.first
+    ∷ cell 9 (Some g.sums.disobeyed.count) ∷ cell 7 g.sums.disobeyed.first ∷ cell 8 (Some g.failed) ∷ []
+
+-- the row of a group
+abbrev pub group_text : Group → List ℕ
+group_text g = row_text (cells_of g)
+
+unfoldable pub header : List ℕ
+header = codes " generals bound traitors campaigns     kept   first   broken   first disobeyed   first   failed\n"
+
+abbrev pub table_text : List Group → List ℕ
+table_text groups = header ++ flat_map group_text groups

@@ -1,0 +1,8 @@
+//! Numbers in a table.
+
+/// A number, or none, in a column of this width.
+#[derive(Clone, Copy, Debug, PartialEq, Eq)]
+pub struct Cell {
+    pub width: usize,
+    pub number: Option<u64>,
+}

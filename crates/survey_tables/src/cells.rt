@@ -1,0 +1,41 @@
+//! The cells of a table.
+ghost use Rattle.std.specs.Prelude.{◌≡◌, ◌++◌, OnOk, flat_map, string_bytes};
+ghost use Rattle.survey_tables.specs.Tables.{cell_text, number_text, padded, row_text};
+
+use crate::cell::Cell;
+use itoa::Buffer;
+use std::alloc::AllocError;
+
+/// Adds spaces, as many as a text of some length needs to have this width, and the text.
+fn put_padded(out: &mut String, width: usize, text: &str) -> Result<(), AllocError>
+    ensures { OnOk result (string_bytes out.new ≡ string_bytes out.old ++ padded width text.now) }
+{
+    for _ in text.len()..width {
+        out.push_str(" ")?;
+    }
+    out.push_str(text)
+}
+
+/// Adds a cell.
+fn put_cell(out: &mut String, cell: Cell) -> Result<(), AllocError>
+    ensures { OnOk result (string_bytes out.new ≡ string_bytes out.old ++ cell_text cell) }
+{
+    out.push_str(" ")?;
+    match cell.number {
+        None => put_padded(out, cell.width, "-"),
+        Some(number) => {
+            let mut buffer = Buffer::new();
+            put_padded(out, cell.width, buffer.format(number))
+        }
+    }
+}
+
+/// Adds a row of these cells.
+pub(crate) fn put_row(out: &mut String, cells: &[Cell]) -> Result<(), AllocError>
+    ensures { OnOk result (string_bytes out.new ≡ string_bytes out.old ++ row_text cells.now) }
+{
+    for cell in cells {
+        put_cell(out, *cell)?;
+    }
+    out.push_str("\n")
+}

@@ -1,0 +1,55 @@
+//! The sums of a survey as lines, and its lines.
+ghost use Rattle.std.specs.Prelude.{◌≡◌, ◌++◌, IfOk, OnOk, flat_map, string_bytes};
+ghost use Rattle.survey.specs.Lines.{line_text};
+ghost use Rattle.survey.specs.Sums.{sums_of};
+ghost use Rattle.survey_tables.specs.Counts.{campaigns_text, sums_text, tally_text};
+
+use std::alloc::{AllocError, Global};
+use survey::{Finding, Tally, put_line, sums_of};
+
+/// Adds the line of an outcome.
+fn put_tally(out: &mut String, name: &str, tally: Tally) -> Result<(), AllocError>
+    ensures { OnOk result (string_bytes out.new ≡ string_bytes out.old ++ tally_text name.now tally) }
+{
+    let count = tally.count;
+    match tally.first {
+        Some(seed) => writeln!(out, "{name} {count} first seed {seed}"),
+        None => writeln!(out, "{name} {count}"),
+    }
+}
+
+/// Adds the line of the campaigns.
+fn put_campaigns(out: &mut String, campaigns: u64) -> Result<(), AllocError>
+    ensures { OnOk result (string_bytes out.new ≡ string_bytes out.old ++ campaigns_text campaigns) }
+{
+    writeln!(out, "campaigns {campaigns}")
+}
+
+/// A line for the campaigns and one for each outcome, with the least seed that gives it.
+///
+/// # Errors
+///
+/// `AllocError` where memory is refused; so of every function here.
+#[tactic(auto, unfolding(crate::specs::Counts::sums_text))]
+pub fn sums_text(alloc: Global, findings: &[Finding]) -> Result<String, AllocError>
+    ensures { IfOk result (λ text. string_bytes text ≡ sums_text (sums_of findings.now)) }
+{
+    let sums = sums_of(findings);
+    let mut out = String::new(alloc);
+    put_campaigns(&mut out, sums.campaigns)?;
+    put_tally(&mut out, "bound kept", sums.kept)?;
+    put_tally(&mut out, "agreement broken", sums.broken)?;
+    put_tally(&mut out, "order disobeyed", sums.disobeyed)?;
+    Ok(out)
+}
+
+/// The lines of these campaigns.
+pub fn lines_text(alloc: Global, findings: &[Finding]) -> Result<String, AllocError>
+    ensures { IfOk result (λ text. string_bytes text ≡ flat_map line_text findings.now) }
+{
+    let mut out = String::new(alloc);
+    for finding in findings {
+        put_line(&mut out, finding)?;
+    }
+    Ok(out)
+}

@@ -1,0 +1,233 @@
+//! The sums of a survey as a picture in SVG: in how many campaigns the loyal fail, over the number of traitors.
+ghost use Rattle.std.specs.Prelude.{◌≡◌, ◌++◌, ◌<◌, IfOk, None, OnOk, string_bytes};
+ghost use Rattle.survey_tables.specs.Groups.{groups_of};
+ghost use Rattle.survey_tables.specs.Pictures.{bar, begins, cell, cells, column, columns, head, kept, label, percent, picture_text, place, rows_of, share_of, size, start, start_of};
+
+use crate::group::Group;
+use crate::grouping::groups;
+use std::alloc::{AllocError, Global};
+use survey::Finding;
+
+/// What every picture begins with.
+#[tactic(auto, unfolding(crate::specs::Pictures::start))]
+fn start() -> &'static str
+    ensures { result.now ≡ start }
+{
+    "<svg xmlns=\"http://www.w3.org/2000/svg\" role=\"img\" width=\"840\""
+}
+
+/// What stands before the rows.
+#[tactic(auto, unfolding(crate::specs::Pictures::head))]
+fn head() -> &'static str
+    ensures { result.now ≡ head }
+{
+    "<title>where agreement or the order is broken</title>\n\
+     <desc>Each row: so many generals, n, who provide for so many traitors, m. Each column: so many traitors. A bar: the share of \
+     the campaigns of these numbers in which loyal lieutenants decide unlike, or not as a loyal commander has ordered. Dashes: n = 3m + 1, at so many traitors as m. A ground: \
+     the campaign's bound is kept.</desc>\n\
+     <style>svg{background:#fff}text{fill:#111;font:14px sans-serif}.bar{fill:#b00020}.base,.limit{fill:none;stroke:#767676}\
+     .limit{stroke:#0b57d0;stroke-width:2;stroke-dasharray:6 3}.kept{fill:#d7f0da}.share{font-size:11px;text-anchor:middle}\
+     @media(prefers-color-scheme:dark){svg{background:#111}text{fill:#eee}.bar{fill:#ff6b7a}.limit{stroke:#8ab4f8}\
+     .kept{fill:#143d1b}}</style>\n\
+     <text x=\"10\" y=\"24\">campaigns in which agreement is broken or the order disobeyed, by the number of traitors</text>\n\
+     <text x=\"10\" y=\"46\">dashes: n = 3m + 1, for m the number of traitors; green: within the campaign's bound</text>\n\
+     <text x=\"10\" y=\"84\">traitors</text>\n"
+}
+
+/// Adds the number above a column.
+#[tactic(auto, unfolding(crate::specs::Pictures::column))]
+fn put_column(out: &mut String, traitors: u64) -> Result<(), AllocError>
+    requires { traitors < 14 }
+    ensures { OnOk result (string_bytes out.new ≡ string_bytes out.old ++ column traitors) }
+{
+    let x = 145 + 50 * traitors;
+    write!(
+        out,
+        "<text class=\"share\" x=\"{x}\" y=\"84\">{traitors}</text>\n"
+    )
+}
+
+/// Adds the numbers above the columns.
+fn put_columns(out: &mut String) -> Result<(), AllocError>
+    ensures { OnOk result (string_bytes out.new ≡ string_bytes out.old ++ columns) }
+{
+    for traitors in 0..14u64 {
+        put_column(out, traitors)?;
+    }
+    Ok(())
+}
+
+/// Whether the group begins a row: the one before it, if there is one, has other generals or another bound.
+fn begins(before: Option<Group>, group: &Group) -> bool
+    ensures { result ≡ begins before group.now }
+{
+    match before {
+        None => true,
+        Some(before) => before.generals != group.generals || before.bound != group.bound,
+    }
+}
+
+/// How many rows the groups have.
+fn rows_of(groups: &[Group]) -> u64
+    ensures { result ≡ rows_of groups.now }
+{
+    let mut rows = 0;
+    let mut before = None;
+    for group in groups {
+        if begins(before, group) {
+            rows += 1;
+        }
+        before = Some(*group);
+    }
+    rows
+}
+
+/// Adds the size of a picture, and ends its first tag.
+#[tactic(auto, unfolding(crate::specs::Pictures::size))]
+fn put_size(out: &mut String, height: u128) -> Result<(), AllocError>
+    ensures { OnOk result (string_bytes out.new ≡ string_bytes out.old ++ size height) }
+{
+    write!(out, " height=\"{height}\" viewBox=\"0 0 840 {height}\">\n")
+}
+
+/// Adds what a row begins with: its numbers, and the line n = 3m + 1.
+#[tactic(auto, unfolding(crate::specs::Pictures::label))]
+fn put_label(out: &mut String, row: u64, group: &Group) -> Result<(), AllocError>
+    ensures { OnOk result (string_bytes out.new ≡ string_bytes out.old ++ label row group.now) }
+{
+    let (generals, bound) = (group.generals, group.bound);
+    let top = 44 + 44 * u128::from(row);
+    let name = top + 28;
+    let base = top + 36;
+    let x = 120 + 50 * (u64::from(generals.saturating_sub(1)) / 3 + 1);
+    write!(
+        out,
+        "<text x=\"10\" y=\"{name}\">n = {generals}, m = {bound}</text><path class=\"base\" d=\"M120 {base}h700\"/>\
+         <path class=\"limit\" d=\"M{x} {top}v44\"/>\n"
+    )
+}
+
+/// How much of a whole the campaigns are that fail.
+fn share_of(whole: u64, group: &Group) -> u128
+    ensures { result ≡ share_of whole group.now }
+{
+    let campaigns = u128::from(group.sums.campaigns);
+    if campaigns == 0 {
+        return 0;
+    }
+    u128::from(group.failed) * u128::from(whole) / campaigns
+}
+
+/// Adds the ground of a cell in whose campaigns the bound is kept.
+#[tactic(auto, unfolding(crate::specs::Pictures::kept))]
+fn put_kept(out: &mut String, row: u64, group: &Group) -> Result<(), AllocError>
+    ensures { OnOk result (string_bytes out.new ≡ string_bytes out.old ++ kept row group.now) }
+{
+    if group.sums.kept.count == 0 {
+        return Ok(());
+    }
+    let x = 120 + 50 * u64::from(group.traitors);
+    let y = 44 + 44 * u128::from(row);
+    write!(
+        out,
+        "<rect class=\"kept\" x=\"{x}\" y=\"{y}\" width=\"50\" height=\"44\"/>"
+    )
+}
+
+/// Adds the bar of a cell, and its campaigns in numbers.
+#[tactic(auto, unfolding(crate::specs::Pictures::bar))]
+fn put_bar(out: &mut String, row: u64, group: &Group) -> Result<(), AllocError>
+    ensures { OnOk result (string_bytes out.new ≡ string_bytes out.old ++ bar row group.now) }
+{
+    let (failed, campaigns) = (group.failed, group.sums.campaigns);
+    let x = 125 + 50 * u64::from(group.traitors);
+    let height = share_of(28, group);
+    let y = (80 + 44 * u128::from(row)).saturating_sub(height);
+    write!(
+        out,
+        "<g><title>{failed} of {campaigns}</title><rect class=\"bar\" x=\"{x}\" y=\"{y}\" width=\"40\" height=\"{height}\"/></g>"
+    )
+}
+
+/// Adds the share of the campaigns that fail, in per cent.
+#[tactic(auto, unfolding(crate::specs::Pictures::percent))]
+fn put_percent(out: &mut String, group: &Group) -> Result<(), AllocError>
+    ensures { OnOk result (string_bytes out.new ≡ string_bytes out.old ++ percent group.now) }
+{
+    let percent = share_of(100, group);
+    if percent == 0 && group.failed > 0 {
+        return out.push_str("&lt;1%");
+    }
+    write!(out, "{percent}%")
+}
+
+/// Adds where the share of a cell stands.
+#[tactic(auto, unfolding(crate::specs::Pictures::place))]
+fn put_place(out: &mut String, row: u64, group: &Group) -> Result<(), AllocError>
+    ensures { OnOk result (string_bytes out.new ≡ string_bytes out.old ++ place row group.now) }
+{
+    let x = 145 + 50 * u64::from(group.traitors);
+    let y = 86 + 44 * u128::from(row);
+    write!(out, "<text class=\"share\" x=\"{x}\" y=\"{y}\">")
+}
+
+/// Adds a cell.
+fn put_cell(out: &mut String, row: u64, group: &Group) -> Result<(), AllocError>
+    ensures { OnOk result (string_bytes out.new ≡ string_bytes out.old ++ cell row group.now) }
+{
+    put_kept(out, row, group)?;
+    put_bar(out, row, group)?;
+    put_place(out, row, group)?;
+    put_percent(out, group)?;
+    out.push_str("</text>\n")
+}
+
+/// Adds what a row begins with, if the group begins one.
+fn put_start(out: &mut String, row: u64, group: &Group, is_first: bool) -> Result<(), AllocError>
+    ensures { OnOk result (string_bytes out.new ≡ string_bytes out.old ++ start_of row group.now is_first) }
+{
+    if is_first {
+        put_label(out, row, group)
+    } else {
+        Ok(())
+    }
+}
+
+/// Adds the groups, row by row.
+fn put_groups(out: &mut String, groups: &[Group]) -> Result<(), AllocError>
+    ensures { OnOk result (string_bytes out.new ≡ string_bytes out.old ++ cells 0 None groups.now) }
+{
+    let mut row: u64 = 0;
+    let mut before = None;
+    for group in groups {
+        let is_first = begins(before, group);
+        if is_first {
+            row += 1;
+        }
+        put_start(out, row, group, is_first)?;
+        put_cell(out, row, group)?;
+        before = Some(*group);
+    }
+    Ok(())
+}
+
+/// The picture of what these campaigns come to: a row for each number of generals and bound of which there are some, a column
+/// for each number of traitors, in it a bar as high as the share of its campaigns in which the loyal
+/// lieutenants decide unlike, or not as a loyal commander has ordered.
+///
+/// # Errors
+///
+/// `AllocError` where memory is refused.
+pub fn picture(alloc: Global, findings: &[Finding]) -> Result<String, AllocError>
+    ensures { IfOk result (λ text. string_bytes text ≡ picture_text (groups_of findings.now)) }
+{
+    let groups = groups(alloc, findings)?;
+    let mut out = String::new(alloc);
+    out.push_str(start())?;
+    put_size(&mut out, 94 + 44 * u128::from(rows_of(groups.as_slice())))?;
+    out.push_str(head())?;
+    put_columns(&mut out)?;
+    put_groups(&mut out, groups.as_slice())?;
+    out.push_str("</svg>\n")?;
+    Ok(out)
+}

@@ -1,0 +1,8 @@
+//! Stretches of seeds.
+
+/// The seeds from `first` to `last`, both of them within.
+#[derive(Clone, Copy, Debug, PartialEq, Eq)]
+pub struct Stretch {
+    pub first: u64,
+    pub last: u64,
+}

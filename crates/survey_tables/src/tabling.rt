@@ -1,0 +1,81 @@
+//! The sums of a survey as a table.
+ghost use Rattle.std.specs.Prelude.{◌≡◌, ◌++◌, IfOk, OnOk, flat_map, string_bytes};
+ghost use Rattle.survey_tables.specs.Groups.{groups_of};
+ghost use Rattle.survey_tables.specs.Tables.{cells_of, group_text, header, table_text};
+
+use crate::cell::Cell;
+use crate::cells::put_row;
+use crate::group::Group;
+use crate::grouping::groups;
+use std::alloc::{AllocError, Global};
+use survey::Finding;
+
+/// A cell with a number.
+fn of(width: usize, number: u64) -> Cell
+    ensures { result ≡ record { width = width; number = Some number } }
+{
+    Cell {
+        width,
+        number: Some(number),
+    }
+}
+
+/// A cell with a number, if there is one.
+fn if_any(width: usize, number: Option<u64>) -> Cell
+    ensures { result ≡ record { width = width; number = number } }
+{
+    Cell { width, number }
+}
+
+/// The cells of a row.
+fn cells_of(group: &Group) -> [Cell; 11]
+    ensures { result ≡ cells_of group.now }
+{
+    let sums = group.sums;
+    [
+        of(8, u64::from(group.generals)),
+        of(5, u64::from(group.bound)),
+        of(8, u64::from(group.traitors)),
+        of(9, sums.campaigns),
+        of(8, sums.kept.count),
+        if_any(7, sums.kept.first),
+        of(8, sums.broken.count),
+        if_any(7, sums.broken.first),
+        of(9, sums.disobeyed.count),
+        if_any(7, sums.disobeyed.first),
+        of(8, group.failed),
+    ]
+}
+
+/// Adds the rows of these groups.
+fn put_groups(out: &mut String, groups: &[Group]) -> Result<(), AllocError>
+    ensures { OnOk result (string_bytes out.new ≡ string_bytes out.old ++ flat_map group_text groups.now) }
+{
+    for group in groups {
+        put_row(out, cells_of(group).as_slice())?;
+    }
+    Ok(())
+}
+
+/// The head of a table.
+#[tactic(auto, unfolding(crate::specs::Tables::header))]
+fn header() -> &'static str
+    ensures { result.now ≡ header }
+{
+    " generals bound traitors campaigns     kept   first   broken   first disobeyed   first   failed\n"
+}
+
+/// The table of what these campaigns come to: a row for each numbers of generals, bound and traitors of which there are some.
+///
+/// # Errors
+///
+/// `AllocError` where memory is refused.
+pub fn table(alloc: Global, findings: &[Finding]) -> Result<String, AllocError>
+    ensures { IfOk result (λ text. string_bytes text ≡ table_text (groups_of findings.now)) }
+{
+    let groups = groups(alloc, findings)?;
+    let mut out = String::new(alloc);
+    out.push_str(header())?;
+    put_groups(&mut out, groups.as_slice())?;
+    Ok(out)
+}

@@ -1,0 +1,37 @@
+-- What words name (docs/FORMATS.md, "Surveys").
+use Rattle.std.specs.Prelude.{ℕ, ◌≡◌, Bool, true, false, if◌then◌else◌, List, bytes_eq, codes, Option, None, Some, string_bytes}
+use Rattle.combine.specs.declared.chosen.Rule.TheVariants.{Majority, Median}
+use Rattle.survey.specs.declared.adversary.Adversary.{Adversary}
+use Rattle.survey.specs.declared.adversary.Adversary.TheVariants.{Lies, Silent, Collude}
+use Rattle.survey.specs.declared.manner.Manner.{Manner}
+use Rattle.survey.specs.declared.manner.Manner.TheVariants.{Oral, Signed}
+use Rattle.survey.specs.Family.{Family}
+use Rattle.surveyor.specs.declared.asked.Survey.{Survey}
+
+abbrev pub plain_manner : Bool → Manner
+plain_manner true = Signed
+plain_manner false = Oral Majority
+
+-- how messages are sent, by a rule, if one is named, and by whether they are signed
+abbrev pub manner_named : Option (List ℕ) → Bool → Option Manner
+manner_named None signed = Some (plain_manner signed)
+manner_named (Some rule) true = None
+manner_named (Some rule) false =
+    if bytes_eq rule (codes "majority") then Some (Oral Majority)
+    else if bytes_eq rule (codes "median") then Some (Oral Median)
+    else None
+
+-- what traitors do, where a word names it
+pub record IsNamed (word : List ℕ) (a : Adversary) : Type 0 where
+  pub lies : word ≡ codes "lies" → a ≡ Lies
+  pub silent : word ≡ codes "silent" → a ≡ Silent
+  pub collude : word ≡ codes "collude" → a ≡ Collude
+
+-- the family that is asked for
+pub record IsFamilyOf (s : Survey) (f : Family) : Type 0 where
+  pub generals : f.generals ≡ s.generals
+  pub bound : f.bound ≡ s.bound
+  pub traitors : f.traitors ≡ s.traitors
+  pub manner : f.manner ≡ s.manner
+  pub patience : f.patience ≡ s.patience
+  pub adversary : IsNamed (string_bytes s.adversary) f.adversary

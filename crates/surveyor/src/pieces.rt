@@ -1,0 +1,20 @@
+//! The pieces in which a survey goes on.
+ghost use Rattle.std.specs.Prelude.{◌<◌};
+
+use crate::telling::Fault;
+use scenario::ScenarioError;
+
+/// How many campaigns of so many generals at most are played between two looks at what they come to.
+pub fn at_once(generals: u8) -> u64
+    ensures { 0 < result }
+{
+    if generals < 8 { 16_384 } else { 1_024 }
+}
+
+/// That one of the campaigns of the seeds from `first` up to `end`, without that, is refused.
+pub fn refused(first: u64, end: u64, error: ScenarioError) -> Fault {
+    match error {
+        ScenarioError::Memory => Fault::Memory,
+        error => Fault::Campaign(first, end.saturating_sub(1), error),
+    }
+}
