@@ -1,5 +1,5 @@
 -- Words of the generator one by one, and the text that they come to.
-use Rattle.std.proofs.Common.{ℕ, zero, suc, ◌+◌, ◌-◌, ◌*◌, ◌^◌, ◌<◌, ◌≤◌, ◌≡◌, List, [], ◌∷◌, ◌++◌, map, length, refl, sym, ap, subst, ◌∙◌, arith, append_assoc, append-nil, length-append, Ok}
+use Rattle.std.proofs.Common.{ℕ, zero, suc, ◌+◌, ◌*◌, ◌<◌, ◌≤◌, ◌≡◌, List, [], ◌∷◌, ◌++◌, Bool, true, false, ◌==◌, ◌/◌, ◌%◌, map, length, refl, sym, ap, ◌∙◌, arith, append_assoc, append-nil, length-append, Ok}
 use Rattle.std.specs.Prelude.{decimal}
 use Rattle.std.specs.List.{AllByRecursion, flat_map}
 use Rattle.std.proofs.lemmas.Fmt.{length-decimal-le_succ}
@@ -9,7 +9,7 @@ use Rattle.world.specs.declared.schedule.Repeat.{Repeat}
 use Rattle.explore.specs.Text.{entry_text, line_text, schedule_text}
 use Rattle.retracing.specs.Reading.{IsEntry, SchedulesAreRead}
 use Rattle.trace.specs.Schedules.{schedule_told}
-use Rattle.chance.specs.Seeded.{after, entry_of, lines_from, seeded, words}
+use Rattle.chance.specs.Seeded.{after, entry_of, lines_from, more_times, seeded, words}
 
 -- so many entries of a line are made, and what is left of it
 pub record IsOnLine (start g : ChaCha) (n : ℕ) (made : List Repeat) : Type 0 where
@@ -18,8 +18,8 @@ pub record IsOnLine (start g : ChaCha) (n : ℕ) (made : List Repeat) : Type 0 w
   pub entries : made ++ map entry_of (words left g) ≡ map entry_of (words 128 start)
   pub after : after left g ≡ after 128 start
 
-pub line_begins : (g : ChaCha) → IsOnLine g g 0 []
-line_begins g = record { left = 128; count = refl; entries = refl; after = refl }
+pub line_begins_with : (g : ChaCha) (made : List Repeat) → made ≡ [] → IsOnLine g g 0 made
+line_begins_with g made none = record { left = 128; count = refl; entries = ap (λ (l : List Repeat). l ++ map entry_of (words 128 g)) none; after = refl }
 
 pub line_goes_on : (start g h : ChaCha) (word n : ℕ) (made new : List Repeat) → IsOnLine start g n made → n < 128 → (word, h) ≡ next_word 4 g
     → new ≡ made ++ entry_of word ∷ [] → IsOnLine start h (n + 1) new
@@ -54,8 +54,8 @@ pub record IsOnLines (start g : ChaCha) (n : ℕ) (made : List (List Repeat)) : 
   pub count : n + left ≡ 5
   pub lines : made ++ lines_from left g ≡ lines_from 5 start
 
-pub lines_begin : (g : ChaCha) → IsOnLines g g 0 []
-lines_begin g = record { left = 5; count = refl; lines = refl }
+pub lines_begin_with : (start g : ChaCha) (made : List (List Repeat)) → g ≡ start → made ≡ [] → IsOnLines start g 0 made
+lines_begin_with start g made is none = record { left = 5; count = refl; lines = (λ i. none i ++ lines_from 5 (is i)) }
 
 pub lines_go_on : (start g h : ChaCha) (n : ℕ) (line : List Repeat) (made new : List (List Repeat)) → IsOnLines start g n made → n < 5
     → line ≡ map entry_of (words 128 g) → h ≡ after 128 g → new ≡ made ++ line ∷ [] → IsOnLines start h (n + 1) new
@@ -83,8 +83,12 @@ seeded_by seed start made is lines = lines ∙ ap (lines_from 5) is
 
 -- ---- each entry is one, and the text is short
 
+more_few : (long : Bool) (x : ℕ) → more_times long x ≤ 255
+more_few true x = omega arith
+more_few false x = omega arith
+
 is_entry : (word : ℕ) → IsEntry (entry_of word)
-is_entry word = record { general = omega arith; least = omega arith; most = omega arith }
+is_entry word = (let few = more_few (word / 4096 % 2 == 1) (word / 65536) in record { general = omega arith; least = omega arith; most = omega arith })
 
 are_entries : (ws : List ℕ) → AllByRecursion IsEntry (map entry_of ws)
 are_entries [] = tt
@@ -94,27 +98,29 @@ lines_are : (n : ℕ) (g : ChaCha) → AllByRecursion (AllByRecursion IsEntry) (
 lines_are zero g = tt
 lines_are (suc n) g = (are_entries (words 128 g), lines_are n (after 128 g))
 
-pair_short : (word : ℕ) → length (decimal (entry_of word).general ++ (42 ∷ []) ++ decimal (entry_of word).times) ≤ 31
+pair_short : (word : ℕ) → length (decimal (entry_of word).general ++ (42 ∷ []) ++ decimal (entry_of word).times) ≤ 271
 pair_short word =
     let g : ℕ = word % 13 in
-    let t : ℕ = word / 65536 % 16 + 1 in
+    let t : ℕ = more_times (word / 4096 % 2 == 1) (word / 65536) + 1 in
+    let few : t ≤ 256 = (let h = more_few (word / 4096 % 2 == 1) (word / 65536) in omega arith) in
     let a : length (decimal g) ≤ g + 1 = length-decimal-le_succ g (omega arith) in
     let b : length (decimal t) ≤ t + 1 = length-decimal-le_succ t (omega arith) in
     let c = length-append (decimal g ++ (42 ∷ [])) (decimal t) in
     let d = length-append (decimal g) (42 ∷ []) in
     omega arith
 
-entry_short : (word : ℕ) → length (entry_text (entry_of word)) ≤ 32
+entry_short : (word : ℕ) → length (entry_text (entry_of word)) ≤ 272
 entry_short word =
     let g : ℕ = word % 13 in
-    let t : ℕ = word / 65536 % 16 + 1 in
+    let t : ℕ = more_times (word / 4096 % 2 == 1) (word / 65536) + 1 in
+    let few : t ≤ 256 = (let h = more_few (word / 4096 % 2 == 1) (word / 65536) in omega arith) in
     let a : length (decimal g) ≤ g + 1 = length-decimal-le_succ g (omega arith) in
     let b : length (decimal t) ≤ t + 1 = length-decimal-le_succ t (omega arith) in
     let c = length-append ((32 ∷ []) ++ decimal g ++ (42 ∷ [])) (decimal t) in
     let d = length-append ((32 ∷ []) ++ decimal g) (42 ∷ []) in
     omega arith
 
-entries_short : (ws : List ℕ) → length (flat_map entry_text (map entry_of ws)) ≤ 32 * length ws
+entries_short : (ws : List ℕ) → length (flat_map entry_text (map entry_of ws)) ≤ 272 * length ws
 entries_short [] = omega arith
 entries_short (w ∷ ws) =
     let one = entry_short w in
@@ -126,7 +132,7 @@ words_count : (n : ℕ) (g : ChaCha) → length (words n g) ≡ n
 words_count zero g = refl
 words_count (suc n) g = ap suc (words_count n (next_word 4 g).1)
 
-line_short : (ws : List ℕ) → length (line_text (map entry_of ws)) ≤ 32 * length ws + 1
+line_short : (ws : List ℕ) → length (line_text (map entry_of ws)) ≤ 272 * length ws + 1
 line_short [] = omega arith
 line_short (w ∷ ws) =
     let p : List ℕ = decimal (entry_of w).general ++ (42 ∷ []) ++ decimal (entry_of w).times in
@@ -137,7 +143,7 @@ line_short (w ∷ ws) =
     let d = length-append p F in
     omega arith
 
-lines_short : (n : ℕ) (g : ChaCha) → length (schedule_text (lines_from n g)) ≤ 4097 * n
+lines_short : (n : ℕ) (g : ChaCha) → length (schedule_text (lines_from n g)) ≤ 34817 * n
 lines_short zero g = omega arith
 lines_short (suc n) g =
     let one = line_short (words 128 g) in

@@ -1,5 +1,5 @@
 -- The random schedule of a seed (own).
-use Rattle.std.specs.Prelude.{ℕ, zero, suc, ◌+◌, ◌/◌, ◌%◌, List, [], ◌∷◌, map}
+use Rattle.std.specs.Prelude.{ℕ, zero, suc, ◌==◌, ◌+◌, ◌/◌, ◌%◌, Bool, true, false, List, [], ◌∷◌, map}
 use Rattle.rand_chacha.specs.ChaCha.{ChaCha, next_word, of_seed}
 use Rattle.rand_core.specs.Pcg32Seed.{pcg32_seed}
 use Rattle.world.specs.declared.schedule.Repeat.{Repeat}
@@ -13,9 +13,14 @@ abbrev pub after : ℕ → ChaCha → ChaCha
 after zero generator = generator
 after (suc n) generator = after n (next_word 4 generator).1
 
--- one of 13 generals, 1 to 16 times
+-- how often less one: below 4 or, by a bit, below 256, so that short and long programs are interleaved
+abbrev pub more_times : Bool → ℕ → ℕ
+more_times true x = x % 256
+more_times false x = x % 4
+
+-- one of 13 generals, 1 to 256 times
 abbrev pub entry_of : ℕ → Repeat
-entry_of word = record { general = word % 13; times = word / 65536 % 16 + 1 }
+entry_of word = record { general = word % 13; times = more_times (word / 4096 % 2 == 1) (word / 65536) + 1 }
 
 -- so many lines of 128 entries
 abbrev pub lines_from : ℕ → ChaCha → List (List Repeat)

@@ -1,6 +1,6 @@
 //! The random schedule of a seed.
-ghost use Rattle.std.specs.Prelude.{◌≡◌, IfOk, Ok, map, string_bytes};
-ghost use Rattle.chance.specs.Seeded.{after, entry_of, seeded, words};
+ghost use Rattle.std.specs.Prelude.{◌≡◌, ◌<◌, IfOk, Ok, map, string_bytes};
+ghost use Rattle.chance.specs.Seeded.{after, entry_of, more_times, seeded, words};
 ghost use Rattle.explore.specs.Text.{schedule_text};
 ghost use Rattle.trace.specs.Schedules.{schedule_told};
 
@@ -18,19 +18,31 @@ const LINES: u8 = 5;
 /// The entries of each line.
 const ENTRIES: u8 = 128;
 
-/// The entry that a word of the generator gives: one of 13 generals, 1 to 16 times.
+/// How often less one: below 4 or, where it is to be long, below 256.
+fn more_times(is_long: bool, number: u32) -> u16
+    ensures times { result ≡ more_times is_long number }
+    ensures few { result < 256 }
+{
+    if is_long {
+        (number % 256) as u16
+    } else {
+        (number % 4) as u16
+    }
+}
+
+/// The entry that a word of the generator gives: one of 13 generals, 1 to 256 times.
 fn entry_of(word: u32) -> Repeat
     ensures { result ≡ entry_of word }
 {
     Repeat {
         general: (word % 13) as u8,
-        times: (word / 65536 % 16) as u16 + 1,
+        times: more_times(word / 4096 % 2 == 1, word / 65536) + 1,
     }
 }
 
 /// The entries that the next words of the generator give.
 fn line(alloc: Global, generator: &mut ChaCha8Rng) -> Result<Entries, AllocError>
-    ensures entries { IfOk result (λ line. line.repeats.items ≡ map entry_of (words 128 generator.old)) }
+    ensures entries { IfOk result (λ line. line ≡ map entry_of (words 128 generator.old)) }
     ensures after { IfOk result (λ _. generator.new ≡ after 128 generator.old) }
 {
     let mut repeats = Vec::new(alloc);

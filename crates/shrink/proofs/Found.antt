@@ -1,13 +1,13 @@
 -- The results of many seeds.
-use Rattle.std.proofs.Common.{ℕ, zero, suc, ◌+◌, ◌-◌, ◌<◌, ◌≤◌, ◌≡◌, List, [], ◌∷◌, length, get_or, map, subst, sym, arith, Ok, Err, Option, None, Some, Vec, ◌⊎◌}
+use Rattle.std.proofs.Common.{ℕ, zero, suc, ◌+◌, ◌-◌, ◌<◌, ◌≤◌, ◌≡◌, List, [], ◌∷◌, length, get_or, map, subst, sym, arith, Ok, Err, Option, None, Some, Vec, ◌⊎◌, ⊎_elim}
 use Rattle.std.specs.Prelude.{IfOk, MatchOption, MatchResult}
 use Rattle.std.specs.Global.{Global}
 use Rattle.std.specs.declared.result.Result.{Result}
 use Rattle.std.specs.List.{All, AllZip, Contains, range_with_len}
+use Rattle.std.proofs.lemmas.Bool.{cases_lt}
 use Rattle.std.proofs.lemmas.List.Elements.{All-head, All-tail}
 use Rattle.scenario.specs.declared.fault.ScenarioError.{ScenarioError}
-use Rattle.survey.specs.Family.{Family}
-use Rattle.survey.specs.Plotting.{plot_of}
+use Rattle.survey.specs.Plot.{Plot}
 use Rattle.shrink.specs.declared.breach.Breach.{Breach}
 use Rattle.shrink.specs.Shrinking.{ComesWell}
 use Rattle.shrink.specs.Breaches.{AreAllSound, IsLeastBreach, IsShrunk}
@@ -29,20 +29,27 @@ all_found R seeds rs (Ok c) h m = subst (AllZip R seeds) (sym m.2) (all_good R s
 all_found R seeds rs (Err e) h m = tt
 
 -- where nothing is left of any of them, agreement is broken in none
-sound_one : (f : Family) (seed : ℕ) (o : Option Breach) → o ≡ None → IsShrunk f seed o → ComesWell (plot_of f seed)
+sound_one : (f : ℕ → Plot) (seed : ℕ) (o : Option Breach) → o ≡ None → IsShrunk f seed o → ComesWell (f seed)
 sound_one f seed None e h = h
 sound_one f seed (Some b) e h = absurd (cc)
 
-all_sound : (f : Family) (a n : ℕ) (all : List (Option Breach)) → AllZip (IsShrunk f) (range_with_len a n) all → All (λ o. o ≡ None) all → (seed : ℕ) → a ≤ seed → seed < a + n → ComesWell (plot_of f seed)
+all_sound : (f : ℕ → Plot) (a n : ℕ) (all : List (Option Breach)) → AllZip (IsShrunk f) (range_with_len a n) all → All (λ o. o ≡ None) all → (seed : ℕ) → a ≤ seed → seed < a + n → ComesWell (f seed)
 all_sound f a zero all h none seed low high = absurd (omega arith)
 all_sound f a (suc n) [] h none seed low high = absurd h
 all_sound f a (suc n) (o ∷ os) h none seed low high = ⊎_elim
-    (λ e. subst (λ x. ComesWell (plot_of f x)) e (sound_one f a o (All-head (λ o. o ≡ None) o os none) h.0))
+    (λ e. subst (λ x. ComesWell (f x)) e (sound_one f a o (All-head (λ o. o ≡ None) o os none) h.0))
     (λ lt. all_sound f (a + 1) n os h.1 (All-tail (λ o. o ≡ None) o os none) seed (omega arith) (omega arith))
     (first_or_later a seed low)
   where
     first_or_later : (a seed : ℕ) → a ≤ seed → (a ≡ seed) ⊎ (a < seed)
     first_or_later a seed low = grind arith
 
-pub none_broken : (f : Family) (first end : ℕ) → IsLeastBreach f first end None → AreAllSound f first end
+pub none_broken : (f : ℕ → Plot) (first end : ℕ) → IsLeastBreach f first end None → AreAllSound f first end
 none_broken f first end h = λ seed low high. all_sound f first (end - first) h.all h.shrunk h.least seed low (omega arith)
+
+-- one number more, from a least one on
+pub upto_this : (P : ℕ → Type 0) (low n : ℕ) → ((k : ℕ) → low ≤ k → k < n → P k) → P n → (k : ℕ) → low ≤ k → k < n + 1 → P k
+upto_this P low n h p k from lt = ⊎_elim (λ l. h k from l) (λ le. subst P (same le) p) (cases_lt k n)
+  where
+    same : n ≤ k → n ≡ k
+    same le = omega (arith, le, lt)

@@ -1,3 +1,4 @@
-pub mod Lessening
+pub mod Parts
 pub mod Ranks
 pub mod Found
+pub mod Keeping

@@ -5,7 +5,9 @@ use Rattle.rayon.specs.Numbers.{nat_range}
 use Rattle.survey.specs.declared.span.Span.{Span}
 use Rattle.survey.specs.Family.{Family}
 use Rattle.survey.specs.Plot.{Plot, Traitor}
-use Rattle.survey.specs.Plotting.{plot_of}
+use Rattle.survey.specs.Plotting.{do_count, given_in, lies_by, plot_of}
+use Rattle.survey.specs.declared.adversary.Adversary.{Adversary}
+use Rattle.survey.specs.declared.manner.Manner.{Manner}
 use Rattle.shrink.specs.declared.breach.Breach.{Breach}
 use Rattle.shrink.specs.declared.breach.Breaking.{Breaking}
 use Rattle.shrink.specs.Shrinking.{ComesWell, IsLeast, IsPartOf}
@@ -21,15 +23,15 @@ is_below a b c d e f = nat_lt a d || (a == d && (nat_lt b e || (b == e && nat_lt
 abbrev pub is_before : Breach → Breach → Bool
 is_before a b = is_below (length a.plot.traitors) (statements a.plot) a.seed (length b.plot.traitors) (statements b.plot) b.seed
 
--- what is left of the campaign that a seed gives
-pub record IsBreachOf (f : Family) (by : ℕ) (b : Breach) : Type 0 where
+-- what is left of a campaign, which a seed has given
+pub record IsBreachOf (p : Plot) (by : ℕ) (b : Breach) : Type 0 where
   pub seed : b.seed ≡ by
   pub least : IsLeast b.plot
-  pub part : IsPartOf (plot_of f by) b.plot
+  pub part : IsPartOf p b.plot
 
--- the same, or that nothing is broken in it
-abbrev pub IsShrunk : Family → ℕ → Option Breach → Type 0
-IsShrunk f seed found = MatchOption found (ComesWell (plot_of f seed)) (IsBreachOf f seed)
+-- the same, or that nothing is broken in it, of the campaign of a seed
+abbrev pub IsShrunk : (ℕ → Plot) → ℕ → Option Breach → Type 0
+IsShrunk plots seed found = MatchOption found (ComesWell (plots seed)) (IsBreachOf (plots seed) seed)
 
 -- one of these, before which none comes; none where there is none
 abbrev pub IsLeastOf : List (Option Breach) → Option Breach → Type 0
@@ -43,9 +45,9 @@ better (Some a) None = Some a
 better (Some a) (Some b) = cond (is_before b a) (Some b) (Some a)
 
 -- the least of what is left of the seeds' campaigns
-pub record IsLeastBreach (f : Family) (first end : ℕ) (found : Option Breach) : Type 0 where
+pub record IsLeastBreach (plots : ℕ → Plot) (first end : ℕ) (found : Option Breach) : Type 0 where
   pub all : List (Option Breach)
-  pub shrunk : AllZip (IsShrunk f) (nat_range first end) all
+  pub shrunk : AllZip (IsShrunk plots) (nat_range first end) all
   pub least : IsLeastOf all found
 
 -- the family's campaigns of so many generals who provide for so many traitors and have so many
@@ -55,17 +57,23 @@ only n = record { low = n; high = n }
 abbrev pub narrowed : Family → ℕ → ℕ → ℕ → Family
 narrowed f n m t = record f { generals = only n; bound = only m; traitors = only t }
 
+-- seeds give the same of both
+pub record IsSameAs (a b : Adversary) : Type 0 where
+  pub given : given_in b ≡ given_in a
+  pub counts : do_count b ≡ do_count a
+  pub lies : (m : Manner) (seed n g : ℕ) → lies_by b m seed n g ≡ lies_by a m seed n g
+
 -- none of the campaigns of these seeds is broken
-abbrev pub AreAllSound : Family → ℕ → ℕ → Type 0
-AreAllSound f first end = (seed : ℕ) → first ≤ seed → seed < end → ComesWell (plot_of f seed)
+abbrev pub AreAllSound : (ℕ → Plot) → ℕ → ℕ → Type 0
+AreAllSound plots first end = (seed : ℕ) → first ≤ seed → seed < end → ComesWell (plots seed)
 
 -- fewer traitors of the span break it in none, these in the one of which this is left
 pub record IsBreaking (f : Family) (n m : ℕ) (span : Span) (first end : ℕ) (b : Breaking) : Type 0 where
   pub within : span.low ≤ b.traitors
   pub inside : b.traitors ≤ span.high
-  pub least : IsLeastBreach (narrowed f n m b.traitors) first end (Some b.breach)
-  pub fewer : (t : ℕ) → span.low ≤ t → t < b.traitors → AreAllSound (narrowed f n m t) first end
+  pub least : IsLeastBreach (plot_of (narrowed f n m b.traitors)) first end (Some b.breach)
+  pub fewer : (t : ℕ) → span.low ≤ t → t < b.traitors → AreAllSound (plot_of (narrowed f n m t)) first end
 
 -- no number of traitors of the span breaks it
 abbrev pub NoneBreaks : Family → ℕ → ℕ → Span → ℕ → ℕ → Type 0
-NoneBreaks f n m span first end = (t : ℕ) → span.low ≤ t → t ≤ span.high → AreAllSound (narrowed f n m t) first end
+NoneBreaks f n m span first end = (t : ℕ) → span.low ≤ t → t ≤ span.high → AreAllSound (plot_of (narrowed f n m t)) first end

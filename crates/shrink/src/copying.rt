@@ -1,5 +1,6 @@
 //! Campaigns, copied.
 ghost use Rattle.std.specs.Prelude.{◌≡◌, IfOk, option_map, string_bytes};
+ghost use Rattle.shrink.specs.Breaches.{IsSameAs};
 
 use std::alloc::{AllocError, Global};
 use survey::{Adversary, Plot, Traitor};
@@ -51,12 +52,12 @@ pub(crate) fn copied(alloc: Global, plot: &Plot) -> Result<Plot, AllocError>
     })
 }
 
-/// The same adversary.
+/// An adversary of whom the seeds give the same.
 pub(crate) fn adversary_copied(
     alloc: Global,
     adversary: &Adversary,
 ) -> Result<Adversary, AllocError>
-    ensures { IfOk result (λ copy. copy ≡ adversary.now) }
+    ensures { IfOk result (IsSameAs adversary.now) }
 {
     match adversary {
         Adversary::Lies => Ok(Adversary::Lies),

@@ -1,6 +1,6 @@
 //! Campaigns with a traitor or a statement less.
 ghost use Rattle.std.specs.Prelude.{◌≡◌, ◌<◌, IfOk, IfSome, IfNone, length};
-ghost use Rattle.shrink.specs.Shrinking.{AllLiesAreNeeded, Comes, IsBroken, IsPartOf, IsStillBroken, LiesAreNeeded, TraitorsAreNeeded, traitor_at, without_lie, without_traitor};
+ghost use Rattle.shrink.specs.Shrinking.{AllLiesAreNeeded, Comes, ComesWell, IsBroken, IsPartOf, IsStillBroken, LiesAreNeeded, TraitorsAreNeeded, traitor_at, without_lie, without_traitor};
 
 use crate::copying::copied;
 use scenario::ScenarioError;
@@ -37,15 +37,47 @@ pub(crate) fn comes_well(alloc: Global, plot: &Plot) -> Result<bool, ScenarioErr
     Ok(is_sound(verdict))
 }
 
+/// The campaign in which the traitor at this place is loyal, if it is still broken.
+fn less_traitor(alloc: Global, plot: &Plot, place: usize) -> Result<Option<Plot>, ScenarioError>
+    requires { place < length plot.now.traitors }
+    ensures some { IfOk result (λ less. IfSome less (IsStillBroken plot.now)) }
+    ensures none { IfOk result (λ less. IfNone less (ComesWell (without_traitor plot.now place))) }
+{
+    let less = without_traitor(alloc, plot, place)?;
+    if comes_well(alloc, &less)? {
+        return Ok(None);
+    }
+    Ok(Some(less))
+}
+
+/// The campaign in which he does not say one of his statements, if it is still broken.
+fn less_lie(
+    alloc: Global,
+    plot: &Plot,
+    place: usize,
+    index: usize,
+) -> Result<Option<Plot>, ScenarioError>
+    requires place { place < length plot.now.traitors }
+    requires index { index < length (traitor_at plot.now place).lies }
+    ensures some { IfOk result (λ less. IfSome less (IsStillBroken plot.now)) }
+    ensures none { IfOk result (λ less. IfNone less (ComesWell (without_lie plot.now place index))) }
+{
+    let less = without_lie(alloc, plot, place, index)?;
+    if comes_well(alloc, &less)? {
+        return Ok(None);
+    }
+    Ok(Some(less))
+}
+
 /// The campaign without the first traitor without whom it is still broken.
 fn fewer_traitors(alloc: Global, plot: &Plot) -> Result<Option<Plot>, ScenarioError>
     ensures some { IfOk result (λ less. IfSome less (IsStillBroken plot.now)) }
     ensures none { IfOk result (λ less. IfNone less (TraitorsAreNeeded plot.now)) }
 {
     for place in 0..plot.traitors.len() {
-        let less = without_traitor(alloc, plot, place)?;
-        if !comes_well(alloc, &less)? {
-            return Ok(Some(less));
+        match less_traitor(alloc, plot, place)? {
+            Some(less) => return Ok(Some(less)),
+            None => {}
         }
     }
     Ok(None)
@@ -58,9 +90,9 @@ fn fewer_lies_of(alloc: Global, plot: &Plot, place: usize) -> Result<Option<Plot
     ensures none { IfOk result (λ less. IfNone less (LiesAreNeeded plot.now place)) }
 {
     for index in 0..plot.traitors[place].lies.len() {
-        let less = without_lie(alloc, plot, place, index)?;
-        if !comes_well(alloc, &less)? {
-            return Ok(Some(less));
+        match less_lie(alloc, plot, place, index)? {
+            Some(less) => return Ok(Some(less)),
+            None => {}
         }
     }
     Ok(None)
@@ -72,9 +104,9 @@ fn fewer_lies(alloc: Global, plot: &Plot) -> Result<Option<Plot>, ScenarioError>
     ensures none { IfOk result (λ less. IfNone less (AllLiesAreNeeded plot.now)) }
 {
     for place in 0..plot.traitors.len() {
-        let less = fewer_lies_of(alloc, plot, place)?;
-        if less.is_some() {
-            return Ok(less);
+        match fewer_lies_of(alloc, plot, place)? {
+            Some(less) => return Ok(Some(less)),
+            None => {}
         }
     }
     Ok(None)
@@ -103,11 +135,9 @@ pub(crate) fn fewest_traitors(alloc: Global, plot: Plot) -> Result<Plot, Scenari
     let mut place = 0;
     for _ in 0..left.traitors.len() {
         if place < left.traitors.len() {
-            let less = without_traitor(alloc, &left, place)?;
-            if comes_well(alloc, &less)? {
-                place += 1;
-            } else {
-                left = less;
+            match less_traitor(alloc, &left, place)? {
+                Some(less) => left = less,
+                None => place += 1,
             }
         }
     }
@@ -126,11 +156,9 @@ fn fewest_lies_of(alloc: Global, plot: Plot, place: usize) -> Result<Plot, Scena
     let mut index = 0;
     for _ in 0..left.traitors[place].lies.len() {
         if place < left.traitors.len() && index < left.traitors[place].lies.len() {
-            let less = without_lie(alloc, &left, place, index)?;
-            if comes_well(alloc, &less)? {
-                index += 1;
-            } else {
-                left = less;
+            match less_lie(alloc, &left, place, index)? {
+                Some(less) => left = less,
+                None => index += 1,
             }
         }
     }

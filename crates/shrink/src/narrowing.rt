@@ -1,6 +1,7 @@
 //! Families with fewer campaigns.
 ghost use Rattle.std.specs.Prelude.{◌≡◌, ◌≤◌, IfOk};
-ghost use Rattle.shrink.specs.Breaches.{narrowed};
+ghost use Rattle.shrink.specs.Breaches.{narrowed, only};
+ghost use Rattle.survey.specs.Plotting.{plot_of};
 
 use crate::copying::adversary_copied;
 use std::alloc::{AllocError, Global};
@@ -8,8 +9,7 @@ use survey::{Family, Span};
 
 /// The span of one number.
 fn only(number: u8) -> Span
-    ensures low { result.low ≡ number }
-    ensures high { result.high ≡ number }
+    ensures { result ≡ only number }
 {
     Span {
         low: number,
@@ -27,7 +27,7 @@ pub(crate) fn narrowed(
 ) -> Result<Family, AllocError>
     requires least { 2 ≤ generals }
     requires most { generals ≤ 13 }
-    ensures { IfOk result (λ less. less ≡ narrowed family.now generals bound traitors) }
+    ensures { IfOk result (λ less. plot_of less ≡ plot_of (narrowed family.now generals bound traitors)) }
 {
     let _ = family.generals();
     Ok(Family::new(

@@ -3,6 +3,7 @@ ghost use Rattle.std.specs.Prelude.{◌≡◌, ◌≤◌, IfOk, IfSome, IfNone};
 ghost use Rattle.std.specs.List.{AllZip};
 ghost use Rattle.rayon.specs.Numbers.{nat_range};
 ghost use Rattle.shrink.specs.Breaches.{IsBreaking, IsLeastBreach, IsLeastOf, IsShrunk, NoneBreaks, better};
+ghost use Rattle.survey.specs.Plotting.{plot_of};
 
 use crate::breach::{Breach, Breaking};
 use crate::narrowing::narrowed;
@@ -20,7 +21,7 @@ use survey::{Family, Span, plot_of};
 ///
 /// The first fault of a text, or want of memory; so of every function here.
 pub fn breach_of(alloc: Global, family: &Family, seed: u64) -> Result<Option<Breach>, ScenarioError>
-    ensures { IfOk result (IsShrunk family.now seed) }
+    ensures { IfOk result (IsShrunk (plot_of family.now) seed) }
 {
     let plot = plot_of(alloc, family, seed)?;
     match shrunk(alloc, plot)? {
@@ -37,13 +38,13 @@ fn gathered<R: Threads + Sync>(
     first: u64,
     end: u64,
 ) -> Result<Result<Vec<Option<Breach>>, ScenarioError>, AllocError>
-    ensures { IfOk result (λ all. IfOk all (λ found. AllZip (IsShrunk family.now) (nat_range first end) found.items)) }
+    ensures { IfOk result (λ all. IfOk all (λ found. AllZip (IsShrunk (plot_of family.now)) (nat_range first end) found.items)) }
 {
     (first..end)
         .into_par_iter()
         .map(
             |seed: u64| -> Result<Option<Breach>, ScenarioError>
-                ensures { IfOk result (IsShrunk family.entry.now seed) }
+                ensures { IfOk result (IsShrunk (plot_of family.entry.now) seed) }
             { breach_of(alloc, family, seed) },
         )
         .with_min_len(LEAST_PIECE)
@@ -61,7 +62,7 @@ pub fn breaches<R: Threads + Sync>(
     first: u64,
     end: u64,
 ) -> Result<Vec<Option<Breach>>, ScenarioError>
-    ensures { IfOk result (λ found. AllZip (IsShrunk family.now) (nat_range first end) found.items) }
+    ensures { IfOk result (λ found. AllZip (IsShrunk (plot_of family.now)) (nat_range first end) found.items) }
 {
     gathered(rt, alloc, family, first, end)?
 }
@@ -101,7 +102,7 @@ pub fn least_breach<R: Threads + Sync>(
     first: u64,
     end: u64,
 ) -> Result<Option<Breach>, ScenarioError>
-    ensures { IfOk result (IsLeastBreach family.now first end) }
+    ensures { IfOk result (IsLeastBreach (plot_of family.now) first end) }
 {
     Ok(least(breaches(rt, alloc, family, first, end)?))
 }

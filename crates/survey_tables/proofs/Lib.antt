@@ -1,2 +1,4 @@
+pub mod Comparing
 pub mod Rising
 pub mod Exactness
+pub mod Pieces

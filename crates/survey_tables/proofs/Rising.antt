@@ -1,8 +1,8 @@
 -- Ascending seeds.
-use Rattle.std.proofs.Common.{ℕ, zero, suc, ◌+◌, ◌<◌, ◌≤◌, ◌≡◌, Bool, true, false, cond, List, [], ◌∷◌, ◌++◌, length, get_or, refl, arith}
-use Rattle.std.specs.Prelude.{◌==◌}
+use Rattle.std.proofs.Common.{ℕ, zero, suc, ◌+◌, ◌<◌, ◌≤◌, ◌≡◌, Bool, true, false, cond, List, [], ◌∷◌, ◌++◌, length, drop, get_or, refl, arith}
+use Rattle.std.specs.Prelude.{⊤, ◌==◌}
 use Rattle.std.specs.List.Sorted.{IsNonDecreasing}
-use Rattle.std.proofs.lemmas.Bool.Decides.{nat_tests}
+use Rattle.survey_tables.proofs.Comparing.{apart}
 use Rattle.survey_tables.specs.Covering.{repeated, times}
 
 -- each is at least so great
@@ -28,15 +28,20 @@ pub are_from_less : (a b : ℕ) (seeds : List ℕ) → a ≤ b → AreFrom b see
 are_from_less a b [] le h = tt
 are_from_less a b (s ∷ seeds) le h = let more = h.0 in (omega arith, are_from_less a b seeds le h.1)
 
-apart : (s x : ℕ) → x < s → (s == x) ≡ false
-apart s x lt = grind (arith, nat_tests)
-
 -- none below them stands there
 pub none_below : (x a : ℕ) (seeds : List ℕ) → x < a → AreFrom a seeds → times x seeds ≡ 0
 none_below x a [] lt h = refl
 none_below x a (s ∷ seeds) lt h =
     let le = h.0 in
     rw (apart s x (omega arith), none_below x a seeds lt h.1) refl
+
+-- nothing is repeated in a list of one
+pub last_none : (seeds : List ℕ) (k : ℕ) → length seeds ≤ k + 1 → repeated (drop k seeds) ≡ []
+last_none [] zero le = refl
+last_none [] (suc k) le = refl
+last_none (a ∷ []) zero le = refl
+last_none (a ∷ b ∷ seeds) zero le = absurd (omega arith)
+last_none (a ∷ seeds) (suc k) le = last_none seeds k (omega arith)
 
 -- those that stand twice
 from_if : (a b : ℕ) (t : Bool) (seeds : List ℕ) → a ≤ b → AreFrom a seeds → AreFrom a (cond t (b ∷ []) [] ++ seeds)

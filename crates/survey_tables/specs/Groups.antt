@@ -23,12 +23,12 @@ abbrev pub group_of : ℕ → ℕ → List Finding → ℕ → List Group
 group_of n m fs t =
     cond (length (of_traitors t fs) == 0) [] (record { generals = n; bound = m; traitors = t; sums = sums_of (of_traitors t fs); failed = failed_in (of_traitors t fs) } ∷ [])
 
--- by up to 13 traitors, of 0 to 4 that are provided for, of 2 to 13 generals
-abbrev pub groups_in : ℕ → ℕ → List Finding → List Group
+-- by up to 13 traitors, up to 4 that are provided for, up to 13 generals
+unfoldable pub groups_in : ℕ → ℕ → List Finding → List Group
 groups_in n m fs = flat_map (group_of n m fs) (range_with_len 0 14)
 
-abbrev pub groups_by_bound : ℕ → List Finding → List Group
+unfoldable pub groups_by_bound : ℕ → List Finding → List Group
 groups_by_bound n fs = flat_map (λ m. groups_in n m (of_bound m fs)) (range_with_len 0 5)
 
 unfoldable pub groups_of : List Finding → List Group
-groups_of fs = flat_map (λ n. groups_by_bound n (of_generals n fs)) (range_with_len 2 12)
+groups_of fs = flat_map (λ n. groups_by_bound n (of_generals n fs)) (range_with_len 0 14)

@@ -44,12 +44,21 @@ rows_from before (g ∷ groups) = cond (begins before g) 1 0 + rows_from (Some g
 abbrev pub rows_of : List Group → ℕ
 rows_of groups = rows_from None groups
 
--- a row's numbers, its base, and the line n = 3m + 1: behind the greatest m with 3m + 1 of its generals or fewer
-unfoldable pub label : ℕ → Group → List ℕ
-label row g =
-    codes "<text x=\"10\" y=\"" ++ (decimal (44 + 44 * row + 28) ++ (codes "\">n = " ++ (decimal g.generals ++ (codes ", m = " ++ (decimal g.bound
-    ++ (codes "</text><path class=\"base\" d=\"M120 " ++ (decimal (44 + 44 * row + 36) ++ (codes "h700\"/><path class=\"limit\" d=\"M"
-    ++ (decimal (120 + 50 * ((g.generals - 1) / 3 + 1)) ++ (codes " " ++ (decimal (44 + 44 * row) ++ codes "v44\"/>\n")))))))))))
+-- a row's numbers, the line on which its bars stand, and the line n = 3m + 1: behind the greatest m with 3m + 1 of its generals or fewer
+unfoldable pub stand : ℕ → List ℕ
+stand row = codes "<text x=\"10\" y=\"" ++ (decimal (72 + 44 * row) ++ codes "\">")
+
+unfoldable pub name : Group → List ℕ
+name g = codes "n = " ++ (decimal g.generals ++ (codes ", m = " ++ (decimal g.bound ++ codes "</text>")))
+
+unfoldable pub base : ℕ → List ℕ
+base row = codes "<path class=\"base\" d=\"M120 " ++ (decimal (80 + 44 * row) ++ codes "h700\"/>")
+
+unfoldable pub limit : ℕ → Group → List ℕ
+limit row g = codes "<path class=\"limit\" d=\"M" ++ (decimal (120 + 50 * ((g.generals - 1) / 3 + 1)) ++ (codes " " ++ (decimal (44 + 44 * row) ++ codes "v44\"/>\n")))
+
+abbrev pub label : ℕ → Group → List ℕ
+label row g = stand row ++ name g ++ base row ++ limit row g
 
 abbrev pub start_of : ℕ → Group → Bool → List ℕ
 start_of row g true = label row g
@@ -66,11 +75,17 @@ abbrev pub share_of : ℕ → Group → ℕ
 share_of whole g = cond (g.sums.campaigns == 0) 0 (g.failed * whole / g.sums.campaigns)
 
 -- how many they are, and a bar
-unfoldable pub bar : ℕ → Group → List ℕ
-bar row g =
-    codes "<g><title>" ++ (decimal g.failed ++ (codes " of " ++ (decimal g.sums.campaigns ++ (codes "</title><rect class=\"bar\" x=\""
-    ++ (decimal (125 + 50 * g.traitors) ++ (codes "\" y=\"" ++ (decimal (80 + 44 * row - share_of 28 g) ++ (codes "\" width=\"40\" height=\""
-    ++ (decimal (share_of 28 g) ++ codes "\"/></g>")))))))))
+unfoldable pub counts : Group → List ℕ
+counts g = codes "<g><title>" ++ (decimal g.failed ++ (codes " of " ++ (decimal g.sums.campaigns ++ codes "</title>")))
+
+unfoldable pub side : Group → List ℕ
+side g = codes "<rect class=\"bar\" x=\"" ++ (decimal (125 + 50 * g.traitors) ++ codes "\"")
+
+unfoldable pub rise : ℕ → ℕ → List ℕ
+rise row height = codes " y=\"" ++ (decimal (80 + 44 * row - height) ++ (codes "\" width=\"40\" height=\"" ++ (decimal height ++ codes "\"/></g>")))
+
+abbrev pub bar : ℕ → Group → List ℕ
+bar row g = side g ++ rise row (share_of 28 g)
 
 unfoldable pub percent : Group → List ℕ
 percent g = cond (share_of 100 g == 0 && nat_lt 0 g.failed) (codes "&lt;1%") (decimal (share_of 100 g) ++ codes "%")
@@ -79,7 +94,7 @@ unfoldable pub place : ℕ → Group → List ℕ
 place row g = codes "<text class=\"share\" x=\"" ++ (decimal (145 + 50 * g.traitors) ++ (codes "\" y=\"" ++ (decimal (86 + 44 * row) ++ codes "\">")))
 
 abbrev pub cell : ℕ → Group → List ℕ
-cell row g = kept row g ++ bar row g ++ place row g ++ percent g ++ codes "</text>\n"
+cell row g = kept row g ++ counts g ++ bar row g ++ place row g ++ percent g ++ codes "</text>\n"
 
 -- the groups, from the row and the group before them on
 abbrev pub cells : ℕ → Option Group → List Group → List ℕ

@@ -1,6 +1,5 @@
 -- The sums of a survey as a table (own).
-use Rattle.std.specs.Prelude.{ℕ, ◌-◌, List, [], ◌∷◌, ◌++◌, length, flat_map, decimal, codes, Option, None, Some}
-use Rattle.std.specs.List.{replicate}
+use Rattle.std.specs.Prelude.{ℕ, ◌-◌, List, [], ◌∷◌, ◌++◌, length, flat_map, decimal, codes, replicate, Option, None, Some}
 use Rattle.survey_tables.specs.declared.cell.Cell.{Cell}
 use Rattle.survey_tables.specs.declared.group.Group.{Group}
 

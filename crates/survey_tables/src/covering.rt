@@ -6,14 +6,22 @@ use crate::stretch::Stretch;
 use std::alloc::{AllocError, Global};
 use survey::Finding;
 
+/// The seeds of these campaigns.
+fn seeds_in(alloc: Global, findings: &[Finding]) -> Result<Vec<u64>, AllocError>
+    ensures { IfOk result (λ seeds. seeds.items ≡ seeds_in findings.now) }
+{
+    let mut seeds = Vec::new(alloc);
+    for finding in findings {
+        seeds.push(finding.seed)?;
+    }
+    Ok(seeds)
+}
+
 /// The seeds of these campaigns, ascending.
 fn ascending(alloc: Global, findings: &[Finding]) -> Result<Vec<u64>, AllocError>
     ensures { IfOk result (λ seeds. AreAscending (seeds_in findings.now) seeds.items) }
 {
-    let mut seeds = Vec::with_capacity(alloc, findings.len())?;
-    for finding in findings {
-        seeds.push(finding.seed)?;
-    }
+    let mut seeds = seeds_in(alloc, findings)?;
     seeds.sort_unstable();
     Ok(seeds)
 }

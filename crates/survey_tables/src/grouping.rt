@@ -1,6 +1,6 @@
 //! The campaigns of a survey, by their numbers.
 ghost use Rattle.std.specs.Prelude.{◌≡◌, ◌++◌, IfOk, OnOk};
-ghost use Rattle.survey_tables.specs.Groups.{failed_in, groups_by_bound, groups_in, groups_of, of_bound, of_generals, of_traitors};
+ghost use Rattle.survey_tables.specs.Groups.{failed_in, group_of, groups_by_bound, groups_in, groups_of, of_bound, of_generals, of_traitors};
 
 use crate::group::Group;
 use std::alloc::{AllocError, Global};
@@ -66,7 +66,33 @@ fn failed_in(findings: &[Finding]) -> u64
     count
 }
 
+/// Adds the group of those campaigns that have so many traitors, of generals who provide for so many, if there are some.
+fn push_group(
+    alloc: Global,
+    groups: &mut Vec<Group>,
+    findings: &[Finding],
+    generals: u8,
+    bound: u8,
+    traitors: u8,
+) -> Result<(), AllocError>
+    ensures { OnOk result (groups.new.items ≡ groups.old.items ++ group_of generals bound findings.now traitors) }
+{
+    let some = of_traitors(alloc, findings, traitors)?;
+    if some.len() == 0 {
+        return Ok(());
+    }
+    groups.push(Group {
+        generals,
+        bound,
+        traitors,
+        sums: sums_of(some.as_slice()),
+        failed: failed_in(some.as_slice()),
+    })?;
+    Ok(())
+}
+
 /// Adds the groups of campaigns of so many generals who provide for so many traitors, which these are, by their traitors.
+#[tactic(auto, unfolding(crate::specs::Groups::groups_in))]
 fn push_groups(
     alloc: Global,
     groups: &mut Vec<Group>,
@@ -76,25 +102,28 @@ fn push_groups(
 ) -> Result<(), AllocError>
     ensures { OnOk result (groups.new.items ≡ groups.old.items ++ groups_in generals bound findings.now) }
 {
-    if findings.is_empty() {
-        return Ok(());
-    }
     for traitors in 0..14 {
-        let some = of_traitors(alloc, findings, traitors)?;
-        if !some.is_empty() {
-            groups.push(Group {
-                generals,
-                bound,
-                traitors,
-                sums: sums_of(some.as_slice()),
-                failed: failed_in(some.as_slice()),
-            })?;
-        }
+        push_group(alloc, groups, findings, generals, bound, traitors)?;
     }
     Ok(())
 }
 
+/// Adds the groups of those campaigns whose generals, so many, provide for so many traitors.
+fn push_bound(
+    alloc: Global,
+    groups: &mut Vec<Group>,
+    findings: &[Finding],
+    generals: u8,
+    bound: u8,
+) -> Result<(), AllocError>
+    ensures { OnOk result (groups.new.items ≡ groups.old.items ++ groups_in generals bound (of_bound bound findings.now)) }
+{
+    let some = of_bound(alloc, findings, bound)?;
+    push_groups(alloc, groups, some.as_slice(), generals, bound)
+}
+
 /// Adds the groups of campaigns of so many generals, which these are, by their bounds and traitors.
+#[tactic(auto, unfolding(crate::specs::Groups::groups_by_bound))]
 fn push_bounds(
     alloc: Global,
     groups: &mut Vec<Group>,
@@ -103,14 +132,23 @@ fn push_bounds(
 ) -> Result<(), AllocError>
     ensures { OnOk result (groups.new.items ≡ groups.old.items ++ groups_by_bound generals findings.now) }
 {
-    if findings.is_empty() {
-        return Ok(());
-    }
     for bound in 0..5 {
-        let some = of_bound(alloc, findings, bound)?;
-        push_groups(alloc, groups, some.as_slice(), generals, bound)?;
+        push_bound(alloc, groups, findings, generals, bound)?;
     }
     Ok(())
+}
+
+/// Adds the groups of those campaigns that have so many generals.
+fn push_generals(
+    alloc: Global,
+    groups: &mut Vec<Group>,
+    findings: &[Finding],
+    generals: u8,
+) -> Result<(), AllocError>
+    ensures { OnOk result (groups.new.items ≡ groups.old.items ++ groups_by_bound generals (of_generals generals findings.now)) }
+{
+    let some = of_generals(alloc, findings, generals)?;
+    push_bounds(alloc, groups, some.as_slice(), generals)
 }
 
 /// The campaigns by their numbers of generals, bounds and traitors, each ascending; only numbers of which there are campaigns.
@@ -118,13 +156,13 @@ fn push_bounds(
 /// # Errors
 ///
 /// `AllocError` where memory is refused.
+#[tactic(auto, unfolding(crate::specs::Groups::groups_of))]
 pub fn groups(alloc: Global, findings: &[Finding]) -> Result<Vec<Group>, AllocError>
     ensures { IfOk result (λ groups. groups.items ≡ groups_of findings.now) }
 {
     let mut groups = Vec::new(alloc);
-    for generals in 2..14 {
-        let some = of_generals(alloc, findings, generals)?;
-        push_bounds(alloc, &mut groups, some.as_slice(), generals)?;
+    for generals in 0..14 {
+        push_generals(alloc, &mut groups, findings, generals)?;
     }
     Ok(groups)
 }

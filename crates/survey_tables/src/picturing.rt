@@ -1,7 +1,7 @@
 //! The sums of a survey as a picture in SVG: in how many campaigns the loyal fail, over the number of traitors.
 ghost use Rattle.std.specs.Prelude.{◌≡◌, ◌++◌, ◌<◌, IfOk, None, OnOk, string_bytes};
 ghost use Rattle.survey_tables.specs.Groups.{groups_of};
-ghost use Rattle.survey_tables.specs.Pictures.{bar, begins, cell, cells, column, columns, head, kept, label, percent, picture_text, place, rows_of, share_of, size, start, start_of};
+ghost use Rattle.survey_tables.specs.Pictures.{bar, base, begins, cell, cells, column, columns, counts, head, kept, label, limit, name, percent, picture_text, place, rise, rows_of, share_of, side, size, stand, start, start_of};
 
 use crate::group::Group;
 use crate::grouping::groups;
@@ -90,21 +90,51 @@ fn put_size(out: &mut String, height: u128) -> Result<(), AllocError>
     write!(out, " height=\"{height}\" viewBox=\"0 0 840 {height}\">\n")
 }
 
-/// Adds what a row begins with: its numbers, and the line n = 3m + 1.
-#[tactic(auto, unfolding(crate::specs::Pictures::label))]
+/// Adds where the numbers of a row stand.
+#[tactic(auto, unfolding(crate::specs::Pictures::stand))]
+fn put_stand(out: &mut String, row: u64) -> Result<(), AllocError>
+    ensures { OnOk result (string_bytes out.new ≡ string_bytes out.old ++ stand row) }
+{
+    let y = 72 + 44 * u128::from(row);
+    write!(out, "<text x=\"10\" y=\"{y}\">")
+}
+
+/// Adds the numbers of a row.
+#[tactic(auto, unfolding(crate::specs::Pictures::name))]
+fn put_name(out: &mut String, group: &Group) -> Result<(), AllocError>
+    ensures { OnOk result (string_bytes out.new ≡ string_bytes out.old ++ name group.now) }
+{
+    let (generals, bound) = (group.generals, group.bound);
+    write!(out, "n = {generals}, m = {bound}</text>")
+}
+
+/// Adds the line on which the bars of a row stand.
+#[tactic(auto, unfolding(crate::specs::Pictures::base))]
+fn put_base(out: &mut String, row: u64) -> Result<(), AllocError>
+    ensures { OnOk result (string_bytes out.new ≡ string_bytes out.old ++ base row) }
+{
+    let y = 80 + 44 * u128::from(row);
+    write!(out, "<path class=\"base\" d=\"M120 {y}h700\"/>")
+}
+
+/// Adds the line n = 3m + 1 of a row.
+#[tactic(auto, unfolding(crate::specs::Pictures::limit))]
+fn put_limit(out: &mut String, row: u64, group: &Group) -> Result<(), AllocError>
+    ensures { OnOk result (string_bytes out.new ≡ string_bytes out.old ++ limit row group.now) }
+{
+    let x = 120 + 50 * (u64::from(group.generals.saturating_sub(1)) / 3 + 1);
+    let y = 44 + 44 * u128::from(row);
+    write!(out, "<path class=\"limit\" d=\"M{x} {y}v44\"/>\n")
+}
+
+/// Adds what a row begins with.
 fn put_label(out: &mut String, row: u64, group: &Group) -> Result<(), AllocError>
     ensures { OnOk result (string_bytes out.new ≡ string_bytes out.old ++ label row group.now) }
 {
-    let (generals, bound) = (group.generals, group.bound);
-    let top = 44 + 44 * u128::from(row);
-    let name = top + 28;
-    let base = top + 36;
-    let x = 120 + 50 * (u64::from(generals.saturating_sub(1)) / 3 + 1);
-    write!(
-        out,
-        "<text x=\"10\" y=\"{name}\">n = {generals}, m = {bound}</text><path class=\"base\" d=\"M120 {base}h700\"/>\
-         <path class=\"limit\" d=\"M{x} {top}v44\"/>\n"
-    )
+    put_stand(out, row)?;
+    put_name(out, group)?;
+    put_base(out, row)?;
+    put_limit(out, row, group)
 }
 
 /// How much of a whole the campaigns are that fail.
@@ -134,19 +164,39 @@ fn put_kept(out: &mut String, row: u64, group: &Group) -> Result<(), AllocError>
     )
 }
 
-/// Adds the bar of a cell, and its campaigns in numbers.
-#[tactic(auto, unfolding(crate::specs::Pictures::bar))]
+/// Adds how many campaigns of a cell fail.
+#[tactic(auto, unfolding(crate::specs::Pictures::counts))]
+fn put_counts(out: &mut String, group: &Group) -> Result<(), AllocError>
+    ensures { OnOk result (string_bytes out.new ≡ string_bytes out.old ++ counts group.now) }
+{
+    let (failed, campaigns) = (group.failed, group.sums.campaigns);
+    write!(out, "<g><title>{failed} of {campaigns}</title>")
+}
+
+/// Adds in which column a bar stands.
+#[tactic(auto, unfolding(crate::specs::Pictures::side))]
+fn put_side(out: &mut String, group: &Group) -> Result<(), AllocError>
+    ensures { OnOk result (string_bytes out.new ≡ string_bytes out.old ++ side group.now) }
+{
+    let x = 125 + 50 * u64::from(group.traitors);
+    write!(out, "<rect class=\"bar\" x=\"{x}\"")
+}
+
+/// Adds where a bar begins, and its height.
+#[tactic(auto, unfolding(crate::specs::Pictures::rise))]
+fn put_rise(out: &mut String, row: u64, height: u128) -> Result<(), AllocError>
+    ensures { OnOk result (string_bytes out.new ≡ string_bytes out.old ++ rise row height) }
+{
+    let y = (80 + 44 * u128::from(row)).saturating_sub(height);
+    write!(out, " y=\"{y}\" width=\"40\" height=\"{height}\"/></g>")
+}
+
+/// Adds the bar of a cell.
 fn put_bar(out: &mut String, row: u64, group: &Group) -> Result<(), AllocError>
     ensures { OnOk result (string_bytes out.new ≡ string_bytes out.old ++ bar row group.now) }
 {
-    let (failed, campaigns) = (group.failed, group.sums.campaigns);
-    let x = 125 + 50 * u64::from(group.traitors);
-    let height = share_of(28, group);
-    let y = (80 + 44 * u128::from(row)).saturating_sub(height);
-    write!(
-        out,
-        "<g><title>{failed} of {campaigns}</title><rect class=\"bar\" x=\"{x}\" y=\"{y}\" width=\"40\" height=\"{height}\"/></g>"
-    )
+    put_side(out, group)?;
+    put_rise(out, row, share_of(28, group))
 }
 
 /// Adds the share of the campaigns that fail, in per cent.
@@ -176,6 +226,7 @@ fn put_cell(out: &mut String, row: u64, group: &Group) -> Result<(), AllocError>
     ensures { OnOk result (string_bytes out.new ≡ string_bytes out.old ++ cell row group.now) }
 {
     put_kept(out, row, group)?;
+    put_counts(out, group)?;
     put_bar(out, row, group)?;
     put_place(out, row, group)?;
     put_percent(out, group)?;
@@ -211,6 +262,20 @@ fn put_groups(out: &mut String, groups: &[Group]) -> Result<(), AllocError>
     Ok(())
 }
 
+/// The picture of these groups.
+#[tactic(auto, unfolding(crate::specs::Pictures::picture_text))]
+fn drawn(alloc: Global, groups: &[Group]) -> Result<String, AllocError>
+    ensures { IfOk result (λ text. string_bytes text ≡ picture_text groups.now) }
+{
+    let mut out = String::from_str(alloc, start())?;
+    put_size(&mut out, 94 + 44 * u128::from(rows_of(groups)))?;
+    out.push_str(head())?;
+    put_columns(&mut out)?;
+    put_groups(&mut out, groups)?;
+    out.push_str("</svg>\n")?;
+    Ok(out)
+}
+
 /// The picture of what these campaigns come to: a row for each number of generals and bound of which there are some, a column
 /// for each number of traitors, in it a bar as high as the share of its campaigns in which the loyal
 /// lieutenants decide unlike, or not as a loyal commander has ordered.
@@ -222,12 +287,5 @@ pub fn picture(alloc: Global, findings: &[Finding]) -> Result<String, AllocError
     ensures { IfOk result (λ text. string_bytes text ≡ picture_text (groups_of findings.now)) }
 {
     let groups = groups(alloc, findings)?;
-    let mut out = String::new(alloc);
-    out.push_str(start())?;
-    put_size(&mut out, 94 + 44 * u128::from(rows_of(groups.as_slice())))?;
-    out.push_str(head())?;
-    put_columns(&mut out)?;
-    put_groups(&mut out, groups.as_slice())?;
-    out.push_str("</svg>\n")?;
-    Ok(out)
+    drawn(alloc, groups.as_slice())
 }

@@ -47,12 +47,20 @@ fn cells_of(group: &Group) -> [Cell; 11]
     ]
 }
 
+/// Adds the row of a group.
+fn put_group(out: &mut String, group: &Group) -> Result<(), AllocError>
+    ensures { OnOk result (string_bytes out.new ≡ string_bytes out.old ++ group_text group.now) }
+{
+    let cells = cells_of(group);
+    put_row(out, &cells)
+}
+
 /// Adds the rows of these groups.
 fn put_groups(out: &mut String, groups: &[Group]) -> Result<(), AllocError>
     ensures { OnOk result (string_bytes out.new ≡ string_bytes out.old ++ flat_map group_text groups.now) }
 {
     for group in groups {
-        put_row(out, cells_of(group).as_slice())?;
+        put_group(out, group)?;
     }
     Ok(())
 }

@@ -2,6 +2,7 @@ use Rattle.std.proofs.Common.{ℕ, List, ◌∙◌, subst}
 use Rattle.std.specs.List.{AllZip}
 use Rattle.rayon.specs.Numbers.{nat_range}
 use Rattle.rayon.proofs.ListFacts.{IfOk-then}
+use Rattle.survey.specs.Plotting.{plot_of}
 use Rattle.shrink.specs.Breaches.{IsShrunk}
 use Rattle.shrink.proofs.Found.{Gives, all_found}
 use Rattle.shrink.proofs.searching.gathered.Goals as goal
@@ -9,7 +10,7 @@ use Rattle.shrink.proofs.searching.gathered.Goals as goal
 pub returns : goal.returns
 returns g c =
     let ends = c.into_par_iter.ensures in
-    let R = IsShrunk c.args.family.now in
+    let R = IsShrunk (plot_of c.args.family.now) in
     IfOk-then c.collect.result _ _ c.collect.ensures (λ v h.
     let chain = rw (c.with_min_len.ensures.base, c.map.ensures.base, c.map.ensures.f) at h.1 in
     let places = chain.1 ∙ (λ i. nat_range (ends.0 i) (ends.1 i)) in

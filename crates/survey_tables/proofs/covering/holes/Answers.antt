@@ -1,6 +1,15 @@
-use Rattle.survey_tables.specs.Covering.{seeds_in}
+use Rattle.std.proofs.Common.{ℕ, List, ◌≡◌, ◌∙◌, ap, subst, sym}
+use Rattle.std.proofs.lemmas.Result.{IfOk-weaker}
+use Rattle.survey_tables.specs.Covering.{AreHoles, gaps, seeds_in}
 use Rattle.survey_tables.proofs.Exactness.{holes_exact}
 use Rattle.survey_tables.proofs.covering.holes.Goals as goal
 
 pub returns : goal.returns
-returns c = ?
+returns c =
+    let first = c.args.first in
+    let last = c.args.last in
+    let told = seeds_in c.args.findings.now in
+    let exact = holes_exact first last told c.in_ok-seeds.seeds.items c.in_ok-seeds.ensures in
+    let slice = ap (λ (s : List ℕ). gaps first s last) c.as_slice.ensures.value in
+    IfOk-weaker c.gaps.result (λ v. v.items ≡ gaps first c.as_slice.result.now last) (λ v. AreHoles first last told v.items)
+    (λ v e. subst (AreHoles first last told) (sym (e ∙ slice)) exact) c.gaps.ensures

@@ -1,0 +1,8 @@
+use Rattle.std.specs.String.{string_bytes}
+use Rattle.survey_tables.specs.Pictures.{column}
+use Rattle.survey_tables.proofs.Pieces.{pieces_on}
+use Rattle.survey_tables.proofs.picturing.put_columns.Goals as goal
+
+pub loop-traitors-preserved : goal.loop-traitors-preserved
+loop-traitors-preserved c =
+    pieces_on column c.loop-traitors.traitors (string_bytes c.args.out.now) (string_bytes c.loop-traitors.out) _ c.loop-traitors.invariant c.in_ok-put_column.ensures
