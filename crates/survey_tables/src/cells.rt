@@ -10,7 +10,7 @@ use std::alloc::AllocError;
 fn put_padded(out: &mut String, width: usize, text: &str) -> Result<(), AllocError>
     ensures { OnOk result (string_bytes out.new ≡ string_bytes out.old ++ padded width text.now) }
 {
-    for _ in text.len()..width {
+    for _ in 0..width.saturating_sub(text.len()) {
         out.push_str(" ")?;
     }
     out.push_str(text)
