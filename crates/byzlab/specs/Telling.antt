@@ -7,8 +7,6 @@ use Rattle.std.specs.Fmt.{◌++?◌}
 use Rattle.lab.specs.Reasons.{reason_text}
 use Rattle.command_line.specs.declared.errors.TaskError.{TaskError}
 use Rattle.command_line.specs.declared.errors.TaskError.TheVariants as task
-use Rattle.byzlab.specs.declared.main.Explored.{Explored}
-use Rattle.byzlab.specs.declared.main.Explored.TheVariants.{Done, Left}
 use Rattle.std.specs.declared.io.ErrorKind.{ErrorKind as IoKind}
 use Rattle.std.specs.declared.io.ErrorKind.TheVariants.{OutOfMemory, InvalidData}
 
@@ -43,8 +41,3 @@ abbrev pub IsWhy : ℕ → Bool → Option IoKind → Option (List ℕ) → Type
 IsWhy status true (Some kind) why =
     ((status ≡ 1) × (why ≡ Some (reason_text kind))) ⊎ ((status ≢ 1) × (why ≡ None))
 IsWhy status _ _ why = why ≡ None
-
--- where an exploration is done, it ends so
-abbrev pub IsExploredEnding : Explored → Type 0
-IsExploredEnding (Done ending) = IsStatus ending.status
-IsExploredEnding (Left first) = Unit {0}

@@ -30,7 +30,7 @@ pub fn write_whole(rt: &HostRuntime, name: &str, bytes: &[u8]) -> Result<(), Unk
         Ok(()) => Ok(()),
         Err(error) => {
             let _ = remove_file(rt, beside.as_str());
-            Err(unkept(rt, name, error.kind()))
+            Err(unwritten(rt, name, error.kind()))
         }
     }
 }
@@ -45,7 +45,7 @@ fn written(rt: &HostRuntime, beside: &str, name: &str, bytes: &[u8]) -> io::Resu
 }
 
 /// That the file or the folder of this name cannot be written.
-fn unkept(rt: &HostRuntime, name: &str, kind: ErrorKind) -> Unkept {
+fn unwritten(rt: &HostRuntime, name: &str, kind: ErrorKind) -> Unkept {
     if kind == ErrorKind::OutOfMemory {
         return Unkept::Memory;
     }
@@ -63,10 +63,10 @@ fn unkept(rt: &HostRuntime, name: &str, kind: ErrorKind) -> Unkept {
 fn make_folder(rt: &HostRuntime, name: &str) -> Result<(), Unkept> {
     match metadata(rt, name) {
         Ok(found) if found.is_dir() => Ok(()),
-        Ok(_) => Err(unkept(rt, name, ErrorKind::NotADirectory)),
+        Ok(_) => Err(unwritten(rt, name, ErrorKind::NotADirectory)),
         Err(_) => match create_dir(rt, name) {
             Ok(()) => Ok(()),
-            Err(error) => Err(unkept(rt, name, error.kind())),
+            Err(error) => Err(unwritten(rt, name, error.kind())),
         },
     }
 }

@@ -16,7 +16,7 @@ ghost use Rattle.command_line.specs.Told.{file_of, second_of, seed_of};
 ghost use Rattle.neighbours.specs.Seen.{reads_scenario};
 ghost use Rattle.neighbours.specs.Story.{with_story};
 ghost use Rattle.byzlab.specs.Files.{IsInputIf, IsSecondIf, IsSeededIf, IsTextOf};
-ghost use Rattle.byzlab.specs.Telling.{IsExploredEnding, IsStatus, IsUnasked, failure_of};
+ghost use Rattle.byzlab.specs.Telling.{IsStatus, IsUnasked, failure_of};
 
 use chance::seeded;
 use command_line::{Request, Task, TaskError, each};
@@ -138,45 +138,46 @@ fn answered<T: Threads + Wait + Sync>(
     let Some(first) = completed(rt, request, first)? else {
         return Ok(Ending::with(1));
     };
-    let first = match explored(rt, request, first)? {
-        Explored::Done(ending) => return Ok(ending),
-        Explored::Left(first) => first,
-    };
-    let ending = served(rt, threads, request, first, second);
-    schedule_written(rt, request, ending)
-}
-
-/// What becomes of an exploration whose outcomes are to be kept.
-#[derive(Drop)]
-enum Explored {
-    /// It is done.
-    Done(Ending),
-    /// The task is another one, or its file, which is this one, is refused.
-    Left(Input),
-}
-
-/// Explores the campaign where its outcomes are to be kept: they are written, and then what it comes to is printed.
-fn explored(rt: &HostRuntime, request: &Request, first: Input) -> io::Result<Explored>
-    ensures status { IfOk result IsExploredEnding }
-    ensures memory { IfErr result (λ error. error_kind error ≡ ErrorKind.OutOfMemory) }
-{
     let Task::Explore {
         scenario,
         most,
         folder: Some(folder),
-    } = &request.task else {
-        return Ok(Explored::Left(first));
+    } = &request.task
+    else {
+        let ending = served(rt, threads, request, first, second);
+        return schedule_written(rt, request, ending);
     };
     let Some(bytes) = read(rt, request, scenario.as_str(), first)? else {
-        return Ok(Explored::Done(Ending::with(1)));
+        return Ok(Ending::with(1));
     };
-    match with_schedules(rt.alloc(), bytes.as_slice(), *most) {
+    match explored(rt, request, bytes.as_slice(), *most, folder.as_str())? {
+        Some(ending) => Ok(ending),
+        None => {
+            let first = Opened::Text(Cursor::new(bytes));
+            Ok(served(rt, threads, request, first, second))
+        }
+    }
+}
+
+/// Explores the campaign of this scenario, whose outcomes are written to the folder, and then prints what it comes to; none
+/// where the scenario is refused.
+fn explored(
+    rt: &HostRuntime,
+    request: &Request,
+    scenario: &[u8],
+    most: Option<u64>,
+    folder: &str,
+) -> io::Result<Option<Ending>>
+    ensures status { IfOk result (λ done. IfSome done (λ ending. IsStatus ending.status)) }
+    ensures memory { IfErr result (λ error. error_kind error ≡ ErrorKind.OutOfMemory) }
+{
+    match with_schedules(rt.alloc(), scenario, most) {
         Ok((text, schedules)) => {
-            let kept = keep(rt, folder.as_str(), bytes.as_slice(), schedules.as_slice());
-            Ok(Explored::Done(kept_and_printed(rt, request, kept, text.as_str())?))
+            let kept = keep(rt, folder, scenario, schedules.as_slice());
+            Ok(Some(kept_and_printed(rt, request, kept, text.as_str())?))
         }
         Err(Refusal::Memory) => Err(io::Error::from(ErrorKind::OutOfMemory)),
-        Err(_) => Ok(Explored::Left(Opened::Text(Cursor::new(bytes)))),
+        Err(_) => Ok(None),
     }
 }
 

@@ -104,7 +104,8 @@ fn keep(alloc: Global, task: &Task, shelf: &mut Shelf) -> Result<()> {
         scenario,
         most,
         folder: Some(folder),
-    } = task else {
+    } = task
+    else {
         return Ok(());
     };
     let folder = folder.as_str();
