@@ -8,11 +8,13 @@
         jne r6, 0, other
         sub r9, 1
         lsh r2, r9          ; for the last general
+        and r2, 8191        ; (the verifier has to see that it names generals alone)
         mov r1, 1           ; attack
         call sign_order
         exit
 other:  sub r6, 1
         lsh r2, r6          ; for the general before me
+        and r2, 8191
         jle r7, r8, pass
         mov r2, 2           ; in the last round for general 1
 pass:   mov r1, 0           ; the first order that I hold, if any
