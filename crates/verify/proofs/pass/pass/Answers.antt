@@ -1,4 +1,3 @@
-use Rattle.std.proofs.Common.{length}
 use Rattle.verify.proofs.PassLaws.{length-opens}
 use Rattle.verify.proofs.pass.pass.Goals as goal
 

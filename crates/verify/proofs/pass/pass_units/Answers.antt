@@ -1,6 +1,6 @@
-use Rattle.std.proofs.Common.{◌≡◌, ◌∙◌, ◌<◌, ℕ, arith, rules, ap, length}
+use Rattle.std.proofs.Common.{◌≡◌, ◌∙◌, ◌<◌, ℕ, arith, rules, ap}
 use Rattle.std.specs.Result.{result_err}
-use Rattle.insn.specs.Program.{slots_of, instruction_at}
+use Rattle.insn.specs.Program.{instruction_at}
 use Rattle.verify.specs.Judgement.{reached_at, passed_to}
 use Rattle.verify.proofs.Taken.{length-passed_at}
 use Rattle.verify.proofs.UnitRuns.{comes_on, answered, answers_err}
