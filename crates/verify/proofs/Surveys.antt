@@ -10,10 +10,11 @@ use Rattle.insn.specs.declared.insn.Insn.{Insn}
 use Rattle.insn.specs.Program.{slots_of}
 use Rattle.verify.specs.declared.error.VerifyError.{VerifyError}
 use Rattle.verify.specs.declared.error.VerifyError.TheVariants.{At, Memory}
+use Rattle.verify.specs.declared.reason.Reason.{Reason}
 use Rattle.verify.specs.declared.state.AbsState.{AbsState}
 use Rattle.verify.specs.Structure.{structural_fault}
 use Rattle.verify.specs.Judgement.{KnownSoFar, reached_at, passed_to}
-use Rattle.verify.specs.Passes.{Does}
+use Rattle.verify.specs.Passes.{Answers}
 use Rattle.verify.specs.KnownAtUnits.{known_on_the_pass, known_before, IsSurvey}
 use Rattle.verify.proofs.PassLaws.{stays, judged_pass, structural_judged}
 
@@ -83,6 +84,10 @@ survey_structural program states fault empty some =
     })
 
 -- a fault that is no want of memory is wanted
-pub stops_so : (wanted : Result KnownSoFar VerifyError) (fault : VerifyError) (new : KnownSoFar) → (fault ≡ Memory → ⊥) → Does wanted (Err fault) new → wanted ≡ Err fault
-stops_so wanted Memory new named h = absurd (named refl)
-stops_so wanted (At reason unit) new named h = h
+fault_in : (wanted : Result KnownSoFar VerifyError) (reason : Reason) (unit : ℕ) → result_err wanted ≡ Some (At reason unit) → wanted ≡ Err (At reason unit)
+fault_in (Ok reached) reason unit e = absurd cc
+fault_in (Err fault) reason unit e = let same : fault ≡ At reason unit = cc in ap (λ (f : VerifyError). Err f) same
+
+pub stops_so : (wanted : Result KnownSoFar VerifyError) (fault : VerifyError) → (fault ≡ Memory → ⊥) → Answers (result_err wanted) (Err fault) → wanted ≡ Err fault
+stops_so wanted Memory named h = absurd (named refl)
+stops_so wanted (At reason unit) named h = fault_in wanted reason unit h

@@ -7,6 +7,7 @@ use Rattle.verify.specs.declared.error.VerifyError.{VerifyError}
 use Rattle.verify.specs.declared.error.VerifyError.TheVariants.{At, Memory}
 use Rattle.verify.specs.Judgement.{KnownSoFar, reached_at, passed_at, passed_to}
 use Rattle.verify.specs.Passes.{Does, Answers}
+use Rattle.verify.proofs.Taken.{length-passed_at}
 use Rattle.verify.proofs.PassLaws.{goes_on, stays}
 
 -- the next unit
@@ -14,12 +15,19 @@ pub comes_on : (program : List Insn) (unit : ℕ) (old new : KnownSoFar) → pas
     passed_at unit (instruction_at program unit) (reached_at old unit) old ≡ Ok new → passed_to program (unit + 1) ≡ Ok new
 comes_on program unit old new comes h = ap (passed_to program) (add-one unit) ∙ (goes_on program unit old comes ∙ h)
 
--- a unit that is refused gives the answer
-pub answered : (program : List Insn) (unit : ℕ) (old new : KnownSoFar) (fault : VerifyError) → unit < length (slots_of program) → passed_to program unit ≡ Ok old →
-    Does (passed_at unit (instruction_at program unit) (reached_at old unit) old) (Err fault) new → Answers (result_err (passed_to program (length (slots_of program)))) (Err fault)
-answered program unit old new Memory lt comes h = tt
-answered program unit old new (At reason at) lt comes h =
-    ap result_err (stays program (At reason at) (suc unit) (length (slots_of program)) (omega arith) (goes_on program unit old comes ∙ h))
+-- a unit that is refused gives the answer, up to whatever end
+pub answered : (program : List Insn) (unit end : ℕ) (old new : KnownSoFar) (fault : VerifyError) → unit < end → passed_to program unit ≡ Ok old →
+    Does (passed_at unit (instruction_at program unit) (reached_at old unit) old) (Err fault) new → Answers (result_err (passed_to program end)) (Err fault)
+answered program unit end old new Memory lt comes h = tt
+answered program unit end old new (At reason at) lt comes h =
+    ap result_err (stays program (At reason at) (suc unit) end (omega arith) (goes_on program unit old comes ∙ h))
+
+-- no unit is added or lost on the way to the next
+pub room_on : (program : List Insn) (unit : ℕ) (old new : KnownSoFar) → passed_to program unit ≡ Ok old → passed_to program (unit + 1) ≡ Ok new →
+    length old ≡ length (slots_of program) → length new ≡ length (slots_of program)
+room_on program unit old new comes on room =
+    let next : passed_to program (suc unit) ≡ passed_to program (unit + 1) = ap (passed_to program) (sym (add-one unit)) in
+    length-passed_at unit (instruction_at program unit) (reached_at old unit) old new (sym (goes_on program unit old comes) ∙ (next ∙ on)) ∙ room
 
 pub answers_err : (wanted : Option VerifyError) (r : Result (Unit {0}) VerifyError) (fault : VerifyError) → r ≡ Err fault → Answers wanted (Err fault) → Answers wanted r
 answers_err wanted r fault e h = subst (λ (x : Result (Unit {0}) VerifyError). Answers wanted x) (sym e) h

@@ -4,7 +4,7 @@ ghost use Rattle.verify.specs.Structure.{structural_fault};
 ghost use Rattle.verify.specs.KnownAtUnits.{IsSurvey};
 
 use crate::error::VerifyError;
-use crate::pass::{opened, pass_unit};
+use crate::pass::{opened, pass_units};
 use crate::pending::kept;
 use crate::state::AbsState;
 use crate::structure::find_fault;
@@ -42,7 +42,7 @@ fn known_forward(alloc: Global, program: &Program) -> Result<Survey, AllocError>
     let mut states = Vec::with_capacity(alloc, program.units())?;
     for unit in 0..program.units() {
         states.push(kept(&pending, unit))?;
-        match pass_unit(alloc, program, unit, &mut pending) {
+        match pass_units(alloc, program, unit, unit + 1, &mut pending) {
             Ok(()) => {}
             Err(fault) => {
                 let fault = Some(named(fault)?);

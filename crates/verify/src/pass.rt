@@ -1,5 +1,5 @@
 //! The forward pass.
-ghost use Rattle.std.specs.Prelude.{◌≡◌, ◌<◌, ◌+◌, pos, ◌<ℤ◌, ◌+ℤ◌, length, IfOk, Ok, option_map, if◌then◌else◌, Some, None};
+ghost use Rattle.std.specs.Prelude.{◌≡◌, ◌<◌, ◌≤◌, ◌+◌, pos, ◌<ℤ◌, ◌+ℤ◌, length, IfOk, Ok, option_map, if◌then◌else◌, Some, None};
 ghost use Rattle.std.specs.Result.{result_err};
 ghost use Rattle.verify.specs.Instructions.{IsStraight, reason_of};
 ghost use Rattle.verify.specs.Transfer.{edge_to};
@@ -96,6 +96,7 @@ fn pass_exit(unit: usize, state: Box<AbsState>) -> Result<(), VerifyError>
 }
 
 /// An instruction at its unit, with what is known there.
+#[inline(always)]
 fn pass_state(
     alloc: Global,
     unit: usize,
@@ -139,7 +140,7 @@ fn pass_state(
 
 /// The next unit: what is kept for it flows on.
 #[inline(always)]
-pub fn pass_unit(
+fn pass_unit(
     alloc: Global,
     program: &Program,
     unit: usize,
@@ -159,6 +160,29 @@ pub fn pass_unit(
     pass_state(alloc, unit, &insn, state, pending)
 }
 
+/// The units from the first on, up to the end, in their order. Its code stands once, and what passes a unit within it.
+#[inline(never)]
+pub fn pass_units(
+    alloc: Global,
+    program: &Program,
+    first: usize,
+    end: usize,
+    pending: &mut Pending,
+) -> Result<(), VerifyError>
+    requires forward { IsForward program.now }
+    requires ordered { first ≤ end }
+    requires within { end ≤ length (slots_of program.now) }
+    requires room { length pending.old.items ≡ length (slots_of program.now) }
+    requires comes { passed_to program.now first ≡ Ok pending.old.items }
+    ensures passed { IfOk result (λ _. passed_to program.now end ≡ Ok pending.new.items) }
+    ensures answers { Answers (result_err (passed_to program.now end)) result }
+{
+    for unit in first..end {
+        pass_unit(alloc, program, unit, pending)?;
+    }
+    Ok(())
+}
+
 /// What is kept as the pass opens: the entry, for the first unit.
 pub fn opened(alloc: Global, program: &Program) -> Result<Pending, AllocError>
     ensures { IfOk result (λ pending. passed_to program.now 0 ≡ Ok pending.items) }
@@ -174,8 +198,5 @@ pub fn pass(alloc: Global, program: &Program) -> Result<(), VerifyError>
     ensures { Answers (result_err (passed_to program.now (length (slots_of program.now)))) result }
 {
     let mut pending = opened(alloc, program)?;
-    for unit in 0..program.units() {
-        pass_unit(alloc, program, unit, &mut pending)?;
-    }
-    Ok(())
+    pass_units(alloc, program, 0, program.units(), &mut pending)
 }

@@ -31,6 +31,9 @@ pub fn boxed(alloc: Global, state: AbsState) -> Result<Box<AbsState>, AllocError
     Ok(boxed)
 }
 
+/// So many states, 131,072 bytes, are as much as an allocator has at hand, or asks the system for in one piece.
+const MANY_STATES: usize = 128;
+
 /// Room for so many states in one piece, none in it yet.
 fn room_for_states(alloc: Global, states: usize) -> Result<Vec<AbsState>, AllocError>
     ensures { IfOk result (λ room. room.items ≡ []) }
@@ -42,11 +45,14 @@ fn room_for_states(alloc: Global, states: usize) -> Result<Vec<AbsState>, AllocE
 ///
 /// Later a state may wait for each unit, in a box of its own. Room for them all is asked for in one piece and given back at
 /// once: an allocator that takes memory from the system and returns it by what was given back in one piece (as glibc's)
-/// keeps so much from then on, and the boxes of the next program need no new pages. Where it is refused, nothing else is.
+/// keeps so much from then on, and the boxes of the next program need no new pages. Where it is refused, nothing else is. A
+/// few states need no such care.
 pub fn empty(alloc: Global, units: usize) -> Result<Pending, AllocError>
     ensures { IfOk result (λ pending. pending.items ≡ replicate units None) }
 {
-    drop(room_for_states(alloc, units));
+    if units >= MANY_STATES {
+        drop(room_for_states(alloc, units));
+    }
     let mut states = Vec::with_capacity(alloc, units)?;
     for _unit in 0..units {
         states.push(None)?;

@@ -1,7 +1,7 @@
 use Rattle.std.proofs.Common.{◌≡◌, Ok, length}
 use Rattle.insn.specs.Program.{slots_of}
 use Rattle.verify.specs.Judgement.{passed_to}
-use Rattle.verify.proofs.pass.pass.Given as goal
+use Rattle.verify.proofs.pass.pass_units.Given as goal
 
 abbrev pub invariant-loop-unit : goal.invariant-loop-unit
 invariant-loop-unit l = record {
