@@ -11,9 +11,7 @@ use book::{Heard, decision, explain_one};
 use drawing::View;
 use explain::explanation;
 use insn::Program;
-use page::{
-    put_begun_lines, put_fold_end, put_fold_start, put_heading, put_lines, put_paragraph,
-};
+use page::{put_begun_lines, put_fold_end, put_fold_start, put_heading, put_lines, put_paragraph};
 use retold::traitors;
 use round::Scenario;
 use std::alloc::{AllocError, Global};
@@ -35,11 +33,7 @@ pub(crate) fn put_programs_of(
 /// # Errors
 ///
 /// No memory for the text; so of every function here.
-pub fn put_programs(
-    alloc: Global,
-    out: &mut String,
-    scenario: &Scenario,
-) -> Result<(), AllocError>
+pub fn put_programs(alloc: Global, out: &mut String, scenario: &Scenario) -> Result<(), AllocError>
     ensures { OnOk result (string_bytes out.new ≡ string_bytes out.old ++ programs_part scenario.now) }
 {
     put_heading(out, programs_heading())?;

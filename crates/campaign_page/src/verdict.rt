@@ -19,11 +19,7 @@ pub(crate) fn put_verdict(out: &mut String, chronicle: &Chronicle) -> Result<(),
 /// # Errors
 ///
 /// No memory for the text.
-pub fn put_verdict_told(
-    out: &mut String,
-    verdict: Verdict,
-    bound: &str,
-) -> Result<(), AllocError>
+pub fn put_verdict_told(out: &mut String, verdict: Verdict, bound: &str) -> Result<(), AllocError>
     ensures { OnOk result (string_bytes out.new ≡ string_bytes out.old ++ verdict_told verdict bound.now) }
 {
     put_heading(out, verdict_heading())?;

@@ -116,12 +116,7 @@ fn look() -> &'static str
 }
 
 /// Adds the rows, and what their shapes mean.
-fn put_inside(
-    out: &mut String,
-    generals: u8,
-    general: u8,
-    nodes: &[Node],
-) -> Result<(), AllocError>
+fn put_inside(out: &mut String, generals: u8, general: u8, nodes: &[Node]) -> Result<(), AllocError>
     ensures { OnOk result (string_bytes out.new ≡ string_bytes out.old ++ inside generals general nodes.now) }
 {
     put_rows(out, generals, general, nodes)?;
