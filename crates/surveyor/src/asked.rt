@@ -306,7 +306,7 @@ fn owned(alloc: Global, found: &ArgMatches, name: &str) -> Result<Option<String>
 }
 
 /// The survey that is asked for, where so many traitors stand for none that are said.
-fn survey_of(alloc: Global, found: &ArgMatches, some: &str) -> Result<Survey, AskedError>
+fn survey_of<'a>(alloc: Global, found: &ArgMatches<'a>, some: &'a str) -> Result<Survey, AskedError>
     ensures { IfOk result IsSurvey }
 {
     let generals = span(value(found, "generals", "4"))

@@ -104,7 +104,7 @@ pub fn broken<T: Threads + Sync>(
     let mut is_first = true;
     for generals in asked.generals.low..asked.generals.high + 1 {
         let most = generals.saturating_sub(2).min(4);
-        for bound in asked.bound.low.min(most)..asked.bound.high.min(most) + 1 {
+        for bound in asked.bound.low..asked.bound.high.min(most) + 1 {
             if !is_table && !is_first {
                 print(rt, "\n")?;
             }
