@@ -1,12 +1,12 @@
 //! The pieces in which a survey goes on.
-ghost use Rattle.std.specs.Prelude.{◌<◌};
+ghost use Rattle.std.specs.Prelude.{◌≤◌};
 
 use crate::telling::Fault;
 use scenario::ScenarioError;
 
 /// How many campaigns of so many generals at most are played between two looks at what they come to.
 pub fn at_once(generals: u8) -> u64
-    ensures { 0 < result }
+    ensures { 1024 ≤ result }
 {
     if generals < 8 { 16_384 } else { 1_024 }
 }
