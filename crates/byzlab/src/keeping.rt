@@ -1,6 +1,6 @@
 //! Files that are written besides an answer.
 use std::alloc::AllocError;
-use std::fs::{File, create_dir, metadata, remove_file, rename};
+use std::fs::{File, create_dir, metadata, remove_file, rename, symlink_metadata};
 use std::io::{self, ErrorKind, Write};
 
 /// Why a file was not written.
@@ -18,15 +18,43 @@ impl From<AllocError> for Unkept {
     }
 }
 
-/// Writes a file of this name, whole or not at all: beside it first, under a name that it then gives up for its own.
+/// Writes a file of this name. A plain file is written whole or not at all: beside it first, under a name that nobody has,
+/// which it then gives up for its own. What is no plain file (a device, a pipe, a link) stays what it is, and is written to.
 ///
 /// # Errors
 ///
-/// It cannot be written, or want of memory.
+/// It cannot be written, or the name beside it is taken, or want of memory.
 pub fn write_whole(rt: &HostRuntime, name: &str, bytes: &[u8]) -> Result<(), Unkept> {
+    match symlink_metadata(rt, name) {
+        Ok(found) if !found.is_file() => write_through(rt, name, bytes),
+        _ => write_beside(rt, name, bytes),
+    }
+}
+
+/// Writes to what has this name.
+fn write_through(rt: &HostRuntime, name: &str, bytes: &[u8]) -> Result<(), Unkept> {
+    let ended = match File::create(rt, name) {
+        Ok(file) => filled(file, bytes),
+        Err(error) => Err(error),
+    };
+    match ended {
+        Ok(()) => Ok(()),
+        Err(error) => Err(unwritten(rt, name, error.kind())),
+    }
+}
+
+/// Writes a new file beside this name, and gives it the name.
+fn write_beside(rt: &HostRuntime, name: &str, bytes: &[u8]) -> Result<(), Unkept> {
     let alloc = rt.alloc();
     let beside = format!(in alloc; "{name}.new")?;
-    match written(rt, beside.as_str(), name, bytes) {
+    let file = match File::create_new(rt, beside.as_str()) {
+        Ok(file) => file,
+        Err(error) if error.kind() == ErrorKind::AlreadyExists => {
+            return Err(unwritten(rt, beside.as_str(), error.kind()));
+        }
+        Err(error) => return Err(unwritten(rt, name, error.kind())),
+    };
+    match named(rt, file, beside.as_str(), name, bytes) {
         Ok(()) => Ok(()),
         Err(error) => {
             let _ = remove_file(rt, beside.as_str());
@@ -35,13 +63,16 @@ pub fn write_whole(rt: &HostRuntime, name: &str, bytes: &[u8]) -> Result<(), Unk
     }
 }
 
-/// Writes a file, and gives it its name.
-fn written(rt: &HostRuntime, beside: &str, name: &str, bytes: &[u8]) -> io::Result<()> {
-    let mut file = File::create(rt, beside)?;
-    file.write_all(bytes)?;
-    file.flush()?;
-    drop(file);
+/// Writes the file beside, and gives it its name.
+fn named(rt: &HostRuntime, file: File, beside: &str, name: &str, bytes: &[u8]) -> io::Result<()> {
+    filled(file, bytes)?;
     rename(rt, beside, name)
+}
+
+/// Writes all of a file.
+fn filled(mut file: File, bytes: &[u8]) -> io::Result<()> {
+    file.write_all(bytes)?;
+    file.flush()
 }
 
 /// That the file or the folder of this name cannot be written.

@@ -1,12 +1,17 @@
--- The story of a scenario: the comments and empty lines at its head (own).
+-- The story of a scenario: the comments and blank lines at its head (own; TOML 1.0, "Comment").
 use Rattle.std.specs.Prelude.{ℕ, ◌==◌, Bool, true, false, ◌||◌, ◌&&◌, not, if◌then◌else◌, List, [], ◌∷◌, ◌++◌, bytes_eq}
 use Rattle.command_line.specs.declared.tasks.Task.{Task}
 use Rattle.command_line.specs.declared.tasks.Task.TheVariants.{Page}
 
--- what is left of it, within a comment or at the beginning of a line: a comment begins with a number sign
+-- a blank, a tab, or what ends a line
+abbrev pub is_blank : ℕ → Bool
+is_blank c = c == 32 || (c == 9 || (c == 13 || c == 10))
+
+-- what is left of it, within a comment or not: a comment goes from a number sign to the end of its line
 abbrev pub story_on : Bool → List ℕ → List ℕ
 story_on within [] = []
-story_on within (c ∷ cs) = if within || (c == 35 || c == 10) then c ∷ story_on (not (c == 10)) cs else []
+story_on within (c ∷ cs) =
+    if within || (is_blank c || c == 35) then c ∷ story_on (not (c == 10) && (within || c == 35)) cs else []
 
 abbrev pub story : List ℕ → List ℕ
 story bytes = story_on false bytes

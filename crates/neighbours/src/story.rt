@@ -1,6 +1,6 @@
 //! The story at a scenario's head, which a page shows.
 ghost use Rattle.std.specs.Prelude.{◌≡◌, ◌++◌, IfOk, OnOk};
-ghost use Rattle.neighbours.specs.Story.{is_page, story, story_on, with_story};
+ghost use Rattle.neighbours.specs.Story.{is_blank, is_page, story, story_on, with_story};
 
 use command_line::Task;
 use std::alloc::{AllocError, Global};
@@ -34,18 +34,25 @@ fn is_page(task: &Task) -> bool
     matches!(task, Task::Page { .. })
 }
 
-/// The comments and empty lines at the head of a scenario.
+/// Whether a byte is a blank, a tab, or ends a line.
+fn is_blank(byte: u8) -> bool
+    ensures { result ≡ is_blank byte }
+{
+    byte == b' ' || byte == b'\t' || byte == b'\r' || byte == b'\n'
+}
+
+/// The comments and blank lines at the head of a scenario.
 fn story(alloc: Global, bytes: &[u8]) -> Result<Vec<u8>, AllocError>
     ensures { IfOk result (λ text. text.items ≡ story bytes.now) }
 {
     let mut text = Vec::new(alloc);
     let mut within = false;
     for byte in bytes {
-        if !within && *byte != b'#' && *byte != b'\n' {
+        if !within && !is_blank(*byte) && *byte != b'#' {
             return Ok(text);
         }
         text.push(*byte)?;
-        within = *byte != b'\n';
+        within = *byte != b'\n' && (within || *byte == b'#');
     }
     Ok(text)
 }

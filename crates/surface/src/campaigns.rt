@@ -1,10 +1,14 @@
 //! Campaigns, oral and signed, and their texts.
+use arrayvec::ArrayVec;
 use board::Access;
 use round::{Letter, Round, Scenario};
-use scenario::{ScenarioError, read};
-use signed::{Chain, SignedWorld, Signer};
+use scenario::{Campaign, ScenarioError, read, read_any};
+use signed::{Chain, Held, SignedChronicle, SignedWorld, Signer, play_signed, replay_signed};
 use std::alloc::{AllocError, Global};
-use trace::{Sink, TraceError, check, read_schedule, write_chronicle};
+use std::io::Write;
+use trace::{
+    Latch, Sink, TraceError, check, check_signed, read_schedule, write_chronicle, write_signed,
+};
 use world::{Chronicle, Event, EventError, Schedule, Verdict, World, play, replay};
 
 /// The campaign that a text says.
@@ -94,4 +98,77 @@ pub fn signed_event(world: &mut SignedWorld, event: Event) -> Result<(), EventEr
 /// A campaign's world of signed messages before any event.
 pub fn signed_world(alloc: Global, scenario: Scenario) -> Result<SignedWorld, AllocError> {
     SignedWorld::open(alloc, scenario)
+}
+
+/// A chronicle of its parts, and the decisions of a world so far.
+pub fn chronicle(
+    scenario: Scenario,
+    accesses: Vec<Access>,
+    letters: Vec<Round>,
+    decisions: ArrayVec<u32, 12>,
+) -> Chronicle {
+    Chronicle::of(scenario, accesses, letters, decisions)
+}
+
+/// What the lieutenants of a world have decided so far.
+pub fn decided(world: &World) -> ArrayVec<u32, 12> {
+    world.decisions()
+}
+
+/// The campaign that a text says, oral or signed.
+pub fn said_any(alloc: Global, text: &str) -> Result<Campaign, ScenarioError> {
+    read_any(alloc, text)
+}
+
+/// A chronicle's text, written to any writer: the writer again, and whether it took all of it.
+pub fn printed<W: Write>(chronicle: &Chronicle, writer: W) -> (W, Result<(), TraceError>) {
+    let mut latch = Latch::new(writer);
+    let written = write_chronicle(chronicle, &mut latch);
+    (latch.into_writer(), written)
+}
+
+/// A campaign of signed messages by a schedule.
+pub fn played_signed(
+    alloc: Global,
+    scenario: Scenario,
+    schedule: &Schedule,
+) -> Result<SignedChronicle, AllocError> {
+    play_signed(alloc, scenario, schedule)
+}
+
+/// A campaign of signed messages by the order of its accesses.
+pub fn replayed_signed(
+    alloc: Global,
+    scenario: Scenario,
+    names: &[Vec<u8>],
+) -> Result<SignedChronicle, AllocError> {
+    replay_signed(alloc, scenario, names)
+}
+
+/// A signed chronicle's text, as far as the sink takes it.
+pub fn written_signed<S: Sink>(
+    chronicle: &SignedChronicle,
+    sink: &mut S,
+) -> Result<(), TraceError> {
+    write_signed(chronicle, sink)
+}
+
+/// The verdict of a text, where it is a chronicle of this campaign of signed messages.
+pub fn audited_signed(
+    alloc: Global,
+    scenario: &Scenario,
+    text: &str,
+) -> Result<Verdict, TraceError> {
+    check_signed(alloc, scenario, text)
+}
+
+/// What the lieutenants of a world of signed messages have decided so far.
+pub fn signed_decided(world: &SignedWorld) -> ArrayVec<u32, 12> {
+    world.decisions()
+}
+
+/// The order of a chain that a general holds, and who has signed it.
+pub fn held<'a>(held: &'a Held, place: usize) -> Option<(u32, &'a [u8])> {
+    let chain = held.get(place)?;
+    Some((chain.order(), chain.signers()))
 }

@@ -1,0 +1,90 @@
+//! What the verifier knows of numbers, values and the stack.
+ghost use Rattle.std.specs.Prelude.{◌+◌, ◌≤◌};
+
+use absmem::AbsStack;
+use absval::{AbsVal, Offset};
+use bits::Bits;
+use range::Range;
+use semantics::Region;
+use word::{ByteOrder, Condition, Narrow, Operation, SwapSize, Width};
+
+/// The numbers that an operation makes of those of two ranges, and whether this one is among them.
+pub fn has_result(width: Width, operation: Operation, a: Range, b: Range, number: u64) -> bool {
+    range::operate::operate(width, operation, a, b).contains(number)
+}
+
+/// The ranges of a number's negation, of its sign extension, and of its bytes in another order.
+pub fn changed(
+    width: Width,
+    part: Narrow,
+    order: ByteOrder,
+    size: SwapSize,
+    a: Range,
+) -> [Range; 3] {
+    [
+        range::unary::negate(width, a),
+        range::unary::sign_extend(width, part, a),
+        range::unary::swap(order, size, a),
+    ]
+}
+
+/// What a jump leaves of two ranges, and the numbers of either.
+pub fn compared(
+    width: Width,
+    condition: Condition,
+    taken: bool,
+    a: Range,
+    b: Range,
+) -> (Option<(Range, Range)>, Range) {
+    (
+        range::edges::refine(width, condition, taken, a, b),
+        a.join(b),
+    )
+}
+
+/// The bits of what an operation makes of words with these bits, and the bits that both know.
+pub fn known_bits(width: Width, operation: Operation, a: Bits, b: Bits) -> (Bits, Bits) {
+    (bits::operate::operate(width, operation, a, b), a.join(b))
+}
+
+/// What an operation on two values gives.
+pub fn made(width: Width, operation: Operation, a: AbsVal, b: AbsVal) -> Option<AbsVal> {
+    absval::arithmetic(width, operation, a, b)
+}
+
+/// What holds each value of either.
+pub fn joined(a: AbsVal, b: AbsVal) -> AbsVal {
+    absval::join(a, b)
+}
+
+/// What negating a value gives.
+pub fn negated(width: Width, a: AbsVal) -> Option<AbsVal> {
+    absval::negate(width, a)
+}
+
+/// What extending the low bits of a value by their sign gives.
+pub fn extended(width: Width, part: Narrow, a: AbsVal) -> Option<AbsVal> {
+    absval::sign_extend(width, part, a)
+}
+
+/// What putting the bytes of a value in order gives.
+pub fn swapped(order: ByteOrder, size: SwapSize, a: AbsVal) -> Option<AbsVal> {
+    absval::swap(order, size, a)
+}
+
+/// Whether eight bytes are known, and which pointer, where a pointer was stored at one place, bytes somewhere in a window
+/// and at another place, and only what the other stack knows too is kept.
+pub fn stored(
+    mut stack: AbsStack,
+    other: &AbsStack,
+    place: usize,
+    offset: Offset,
+) -> (bool, Option<(Region, Offset)>)
+    requires { place + 8 ≤ 512 }
+{
+    stack.put_pointer(place, Region::Stack, offset);
+    stack.spread_bytes(place, 8);
+    stack.put_bytes(place, 8);
+    stack.join(other);
+    (stack.has_bytes(place, 8), stack.pointer_at(place))
+}
