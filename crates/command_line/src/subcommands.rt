@@ -323,6 +323,10 @@ const TREE: Subcommand<'static> = Subcommand {
     }],
     flags: &[
         Flag::Switch {
+            name: "text",
+            help: "Draws lines of text, as without --dot and --svg",
+        },
+        Flag::Switch {
             name: "ascii",
             help: "Draws lines by characters of ASCII in place of box-drawing ones",
         },

@@ -11,8 +11,8 @@ use Rattle.scenario.specs.Told.{Tells}
 use Rattle.world.specs.Chronicle.{Chronicle}
 use Rattle.lab.specs.Campaigns.{played}
 use Rattle.lab.specs.Picturing.{IsTableIn, is_toml}
-use Rattle.lab.specs.Refusals.{RefusesEither, RefusesNaming, RefusesTree}
-use Rattle.lab.specs.Strangers.{KnowsAll}
+use Rattle.lab.specs.Refusals.{RefusesTree, RefusesTreeIn}
+use Rattle.lab.specs.Strangers.{KnowsTree}
 use Rattle.lab.specs.declared.refusal.Refusal.{Refusal}
 
 module _ (text traitors : List ℕ) (view : View) (form : Form) (general : ℕ) (picture : List ℕ) where
@@ -31,11 +31,8 @@ module _ (text traitors : List ℕ) (view : View) (form : Form) (general : ℕ) 
   pub of_same : (c own : Chronicle) → c ≡ own → DrawsTable (table_of c) traitors view form general picture → DrawsTable (table_of own) traitors view form general picture
   of_same c own same drawn = subst (λ (x : Chronicle). DrawsTable (table_of x) traitors view form general picture) same drawn
 
-pub no_table : (named text : List ℕ) (refusal : Refusal) → is_toml text ≡ false → RefusesNaming named text refusal → RefusesTree named text refusal
-no_table named text refusal none refuses = subst (λ (own : Bool). RefusesEither own named text refusal) (sym none) refuses
+pub not_drawn : (general : ℕ) (traitors text : List ℕ) (refusal : Refusal) (toml : Bool) → is_toml text ≡ toml → RefusesTreeIn toml general traitors text refusal → RefusesTree general traitors text refusal
+not_drawn general traitors text refusal toml is refuses = subst (λ (own : Bool). RefusesTreeIn own general traitors text refusal) (sym is) refuses
 
-pub no_campaign : (named text : List ℕ) (refusal : Refusal) → is_toml text ≡ true → RefusesEither true named text refusal → RefusesTree named text refusal
-no_campaign named text refusal is refuses = subst (λ (own : Bool). RefusesEither own named text refusal) (sym is) refuses
-
-pub known_in : (named text : List ℕ) (toml : Bool) → is_toml text ≡ toml → KnowsAll toml text named → KnowsAll (is_toml text) text named
-known_in named text toml is known = subst (λ (own : Bool). KnowsAll own text named) (sym is) known
+pub known_in : (general : ℕ) (traitors text : List ℕ) (toml : Bool) → is_toml text ≡ toml → KnowsTree toml text general traitors → KnowsTree (is_toml text) text general traitors
+known_in general traitors text toml is known = subst (λ (own : Bool). KnowsTree own text general traitors) (sym is) known

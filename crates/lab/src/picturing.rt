@@ -1,15 +1,15 @@
-ghost use Rattle.std.specs.Prelude.{◌≡◌, ◌∷◌, ℕ, List, [], true, false, IfErr, IfOk, OnOk, string_bytes};
+ghost use Rattle.std.specs.Prelude.{◌≡◌, ℕ, List, [], true, false, IfErr, IfOk, OnOk, string_bytes};
 ghost use Rattle.drawing.specs.Drawn.{DrawsTable};
 ghost use Rattle.lab.specs.Campaigns.{played};
 ghost use Rattle.lab.specs.Picturing.{IsTableIn, form_of, is_toml};
-ghost use Rattle.lab.specs.Refusals.{RefusesEither, RefusesNaming, RefusesScenario, RefusesTree};
-ghost use Rattle.lab.specs.Strangers.{KnowsAll};
+ghost use Rattle.lab.specs.Refusals.{RefusesScenario, RefusesTree, RefusesTreeIn};
+ghost use Rattle.lab.specs.Strangers.{KnowsTree};
 ghost use Rattle.retold.specs.Retold.{IsWhole, table_of};
 ghost use Rattle.scenario.specs.Told.{Tells};
 
 use crate::deciding::table_in;
 use crate::refusal::Refusal;
-use crate::strangers::know_each;
+use crate::strangers::know_tree;
 use command_line::Drawing;
 use drawing::{Form, Style, View, drawn, tree_drawn};
 use retold::{hearing, told_table};
@@ -18,12 +18,13 @@ use std::alloc::{AllocError, Global};
 use world::{Chronicle, Schedule, play};
 
 /// What this general was told by the message table or, where the text is TOML, in the oral campaign that it tells, without a
-/// schedule; drawn so far, where these generals are named as traitors. Nothing where he is the commander.
+/// schedule; drawn so far, where these generals are named as traitors.
 ///
 /// # Errors
 ///
-/// What the table or the scenario refuses; he, or else the first who is named, if that is none of its generals; or want of memory.
-#[tactic(auto, using(crate::proofs::PicturingLemmas::of_table, crate::proofs::PicturingLemmas::of_campaign, crate::proofs::PicturingLemmas::no_table, crate::proofs::PicturingLemmas::no_campaign, crate::proofs::PicturingLemmas::known_in))]
+/// What the table or the scenario refuses; he, if he is no lieutenant of it, since a commander is told nothing; the first who is
+/// named and is none of its generals; or want of memory.
+#[tactic(auto, using(crate::proofs::PicturingLemmas::of_table, crate::proofs::PicturingLemmas::of_campaign, crate::proofs::PicturingLemmas::not_drawn, crate::proofs::PicturingLemmas::known_in))]
 pub fn pictured(
     alloc: Global,
     text: &str,
@@ -32,10 +33,10 @@ pub fn pictured(
     drawing: Drawing,
     view: View,
 ) -> Result<String, Refusal>
-    ensures known { OnOk result (KnowsAll (is_toml text.now) text.now (general ∷ traitors.now)) }
+    ensures known { OnOk result (KnowsTree (is_toml text.now) text.now general traitors.now) }
     ensures drawn { IfOk result (λ picture. (table : List ℕ) × IsTableIn (is_toml text.now) text.now table
         × DrawsTable table traitors.now view (form_of drawing) general (string_bytes picture)) }
-    ensures refused { IfErr result (RefusesTree (general ∷ traitors.now) text.now) }
+    ensures refused { IfErr result (RefusesTree general traitors.now text.now) }
 {
     let form = form(drawing);
     if !is_toml(alloc, text)? {
@@ -46,7 +47,7 @@ pub fn pictured(
 }
 
 /// What he was told by the message table.
-#[tactic(auto, using(crate::proofs::StrangerLemmas::of_table, crate::proofs::StrangerLemmas::unread_table, crate::proofs::StrangerLemmas::strange_to_table))]
+#[tactic(auto, using(crate::proofs::StrangerLemmas::tree_of_table, crate::proofs::StrangerLemmas::no_table_to_draw, crate::proofs::StrangerLemmas::strange_to_tree))]
 fn table_pictured(
     alloc: Global,
     text: &str,
@@ -55,28 +56,34 @@ fn table_pictured(
     form: Form,
     general: u8,
 ) -> Result<String, Refusal>
-    ensures known { OnOk result (KnowsAll false text.now (general ∷ traitors.now)) }
+    ensures known { OnOk result (KnowsTree false text.now general traitors.now) }
     ensures drawn { IfOk result (λ picture. DrawsTable text.now traitors.now view form general (string_bytes picture)) }
-    ensures refused { IfErr result (RefusesNaming (general ∷ traitors.now) text.now) }
+    ensures refused { IfErr result (RefusesTreeIn false general traitors.now text.now) }
 {
-    know_each(table_in(alloc, text)?.generals(), general, traitors)?;
+    let table = table_in(alloc, text)?;
+    know_tree(table.generals(), table.commander(), general, traitors)?;
     Ok(drawn(alloc, text, traitors, view, form, general)?)
 }
 
-/// The oral campaign that the text tells, of whose generals all are that are named.
-#[tactic(auto, using(crate::proofs::StrangerLemmas::of_scenario, crate::proofs::StrangerLemmas::unread_scenario, crate::proofs::StrangerLemmas::strange_to_scenario))]
+/// The oral campaign that the text tells, of which he is a lieutenant, and all who are named are generals.
+#[tactic(auto, using(crate::proofs::StrangerLemmas::tree_of_scenario, crate::proofs::StrangerLemmas::no_campaign_to_draw, crate::proofs::StrangerLemmas::strange_to_campaign))]
 fn known_scenario(
     alloc: Global,
     text: &str,
     general: u8,
-    others: &[u8],
+    traitors: &[u8],
 ) -> Result<Scenario, Refusal>
-    ensures known { OnOk result (KnowsAll true text.now (general ∷ others.now)) }
+    ensures known { OnOk result (KnowsTree true text.now general traitors.now) }
     ensures told { IfOk result (Tells text.now) }
-    ensures refused { IfErr result (RefusesEither true (general ∷ others.now) text.now) }
+    ensures refused { IfErr result (RefusesTreeIn true general traitors.now text.now) }
 {
     let scenario = scenario_in(alloc, text)?;
-    know_each(scenario.generals(), general, others)?;
+    know_tree(
+        scenario.generals(),
+        scenario.commander(),
+        general,
+        traitors,
+    )?;
     Ok(scenario)
 }
 
