@@ -12,8 +12,8 @@ pub fn pictures_are_elements()
     ensures { PicturesAreElements }
 {}
 
-/// What is folded into a label of a lieutenant: as many labels as are said, all that go on from it, of each of which he was
-/// told the same, by no lie, and which come to what it comes to.
+/// What is folded into a label of a lieutenant: as many labels as are said, all that go on from it, of each of which he
+/// was told the same, by no lie, and which come to what it comes to.
 pub fn folds_are_alike()
     ensures { FoldsAreAlike }
 {}

@@ -25,15 +25,19 @@ IsPage text schedule c page = (table : MessageTable) × (table_told (table_of c)
 
 -- the page is that of the campaign's chronicle by a schedule, which keeps what is promised, and of the scenario's text
 abbrev pub IsCampaignPaged : Campaign → List ℕ → List (List Repeat) → List ℕ → Type 0
-IsCampaignPaged (Oral s) text schedule page = IsPage text (Some schedule) (played s schedule) page × KeepsPromises s (played s schedule)
+IsCampaignPaged (Oral s) text schedule page =
+    IsPage text (Some schedule) (played s schedule) page × KeepsPromises s (played s schedule)
 IsCampaignPaged (Signed s) text schedule page =
-    (page ≡ signed_page_text text (Some schedule) (signed_played s schedule)) × KeepsSignedPromises s (signed_played s schedule)
+    (page ≡ signed_page_text text (Some schedule) (signed_played s schedule))
+    × KeepsSignedPromises s (signed_played s schedule)
 
 -- the bytes are the text of a chronicle of the campaign, which keeps what is promised, and this is its page
 abbrev pub IsRecordTold : Campaign → List ℕ → List ℕ → List ℕ → Type 0
-IsRecordTold (Oral s) text bytes page = IsSoundText s bytes × IsPage text None (chronicle_told s bytes) page × KeepsPromises s (chronicle_told s bytes)
+IsRecordTold (Oral s) text bytes page =
+    IsSoundText s bytes × IsPage text None (chronicle_told s bytes) page × KeepsPromises s (chronicle_told s bytes)
 IsRecordTold (Signed s) text bytes page =
-    IsSoundSignedText s bytes × (page ≡ signed_page_text text None (signed_chronicle_told s bytes)) × KeepsSignedPromises s (signed_chronicle_told s bytes)
+    IsSoundSignedText s bytes × (page ≡ signed_page_text text None (signed_chronicle_told s bytes))
+    × KeepsSignedPromises s (signed_chronicle_told s bytes)
 
 -- the first file's bytes tell a campaign, and the page has them, and is that of its chronicle by the schedule that the second's tell, or
 -- of the chronicle whose text they are; there is no schedule but the empty one, and no byte of a chronicle, where there is no second file

@@ -4,7 +4,8 @@ use Rattle.signed.specs.Promises.{AgreeUnderSignedBound, IsSignedVerdictOn}
 use Rattle.world.specs.Chronicle.{Chronicle}
 use Rattle.world.specs.Promises.{AgreeUnderBound, IsVerdictOn, IsWellUnderBound}
 
--- of oral messages: under the bound all loyal lieutenants decide alike, and what a loyal commander orders; and the verdict says of them what is so
+-- of oral messages: under the bound all loyal lieutenants decide alike, and what a loyal commander orders; and the
+-- verdict says of them what is so
 pub record KeepsPromises (s : Scenario) (c : Chronicle) : Type 0 where
   pub agree : AgreeUnderBound s c.decisions
   pub verdict : IsVerdictOn s c.decisions c.verdict

@@ -143,16 +143,19 @@ RefusesScenario text (Scenario error) = (error ≢ scenario.Memory) × Reads (pa
 RefusesScenario text Memory = Unit {0}
 RefusesScenario text _ = ⊥
 
--- the text tells no table; or it tells one of so many generals, and this is the first of those who are named that is none of them
+-- the text tells no table; or it tells one of so many generals, and this is the first of those who are named that is
+-- none of them
 abbrev pub RefusesNaming : List ℕ → List ℕ → Refusal → Type 0
-RefusesNaming named text (Stranger general generals) = HasGenerals text generals × (stranger_among generals named ≡ Some general)
+RefusesNaming named text (Stranger general generals) =
+    HasGenerals text generals × (stranger_among generals named ≡ Some general)
 RefusesNaming named text refusal = RefusesTable text refusal
 
--- the text tells no table or, where it is TOML, no oral campaign; or it tells one, and this is no lieutenant of it whose tree could be
--- drawn, or else the first of those named as traitors who is none of its generals
+-- the text tells no table or, where it is TOML, no oral campaign; or it tells one, and this is no lieutenant of it whose
+-- tree could be drawn, or else the first of those named as traitors who is none of its generals
 abbrev pub RefusesTreeIn : Bool → ℕ → List ℕ → List ℕ → Refusal → Type 0
 RefusesTreeIn toml general traitors text (Stranger own generals) =
-    (commander : ℕ) × HasNumbers toml text generals commander × (stranger_to_tree generals commander general traitors ≡ Some own)
+    (commander : ℕ) × HasNumbers toml text generals commander
+    × (stranger_to_tree generals commander general traitors ≡ Some own)
 RefusesTreeIn false general traitors text refusal = RefusesTable text refusal
 RefusesTreeIn true general traitors text refusal = RefusesScenario text refusal
 
@@ -271,7 +274,8 @@ Refuses (Play scenario schedule account explained) bytes refusal = RefusesText (
 Refuses (Muster scenario explained) bytes refusal = RefusesText RefusesScenario bytes refusal
 Refuses (Audit scenario chronicle explained) bytes refusal = RefusesText RefusesCampaign bytes refusal
 Refuses (Explore scenario most folder) bytes refusal = RefusesText RefusesScenario bytes refusal
-Refuses (Tree file general traitors drawing depth folded) bytes refusal = RefusesText (RefusesTree general traitors.items) bytes refusal
+Refuses (Tree file general traitors drawing depth folded) bytes refusal =
+    RefusesText (RefusesTree general traitors.items) bytes refusal
 Refuses (Draw scenario course) bytes refusal = RefusesText RefusesCampaign bytes refusal
 Refuses (Page scenario course target) bytes refusal = RefusesText RefusesCampaign bytes refusal
 Refuses (Retrace scenario (OfChronicle file)) bytes refusal = RefusesText RefusesScenario bytes refusal

@@ -29,7 +29,8 @@ stranger_to_tree generals commander general traitors =
 abbrev pub HasNumbers : Bool → List ℕ → ℕ → ℕ → Type 0
 HasNumbers false text generals commander =
     (table : MessageTable) × (table_told text ≡ Ok table) × (table.generals ≡ generals) × (table.commander ≡ commander)
-HasNumbers true text generals commander = (s : Scenario) × Tells text s × (s.generals ≡ generals) × (s.commander ≡ commander)
+HasNumbers true text generals commander =
+    (s : Scenario) × Tells text s × (s.generals ≡ generals) × (s.commander ≡ commander)
 
 -- and of these it is a lieutenant whose tree is asked for, and generals who are named as traitors
 pub record KnowsTree (toml : Bool) (text : List ℕ) (general : ℕ) (traitors : List ℕ) : Type 0 where
@@ -58,4 +59,5 @@ IsStranger generals named refusal = IsOf generals (stranger_among generals named
 
 -- it tells who is no lieutenant whose tree is to be drawn, or no traitor who is marked in it
 abbrev pub IsStrangerToTree : ℕ → ℕ → ℕ → List ℕ → Refusal → Type 0
-IsStrangerToTree generals commander general traitors refusal = IsOf generals (stranger_to_tree generals commander general traitors) refusal
+IsStrangerToTree generals commander general traitors refusal =
+    IsOf generals (stranger_to_tree generals commander general traitors) refusal

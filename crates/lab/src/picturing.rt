@@ -22,8 +22,8 @@ use world::{Chronicle, Schedule, play};
 ///
 /// # Errors
 ///
-/// What the table or the scenario refuses; he, if he is no lieutenant of it, since a commander is told nothing; the first who is
-/// named and is none of its generals; or want of memory.
+/// What the table or the scenario refuses; he, if he is no lieutenant of it, since a commander is told nothing; the first
+/// who is named and is none of its generals; or want of memory.
 #[tactic(auto, using(crate::proofs::PicturingLemmas::of_table, crate::proofs::PicturingLemmas::of_campaign, crate::proofs::PicturingLemmas::not_drawn, crate::proofs::PicturingLemmas::known_in))]
 pub fn pictured(
     alloc: Global,
