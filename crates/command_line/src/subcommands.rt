@@ -350,7 +350,7 @@ const TREE: Subcommand<'static> = Subcommand {
         Flag::Option {
             name: "traitors",
             value: "G,H",
-            help: "Marks the lies of these generals",
+            help: "Marks the lies of these generals, besides a campaign's own traitors",
         },
         Flag::Option {
             name: "depth",

@@ -1,10 +1,10 @@
-ghost use Rattle.std.specs.Prelude.{◌≡◌, ℕ, List, [], true, false, IfErr, IfOk, OnOk, string_bytes};
+ghost use Rattle.std.specs.Prelude.{◌≡◌, ◌++◌, [], true, false, IfErr, IfOk, OnOk, string_bytes};
 ghost use Rattle.drawing.specs.Drawn.{DrawsTable};
 ghost use Rattle.lab.specs.Campaigns.{played};
-ghost use Rattle.lab.specs.Picturing.{IsTableIn, form_of, is_toml};
+ghost use Rattle.lab.specs.Picturing.{IsTreeIn, form_of, is_toml};
 ghost use Rattle.lab.specs.Refusals.{RefusesScenario, RefusesTree, RefusesTreeIn};
 ghost use Rattle.lab.specs.Strangers.{KnowsTree};
-ghost use Rattle.retold.specs.Retold.{IsWhole, table_of};
+ghost use Rattle.retold.specs.Retold.{IsWhole, table_of, traitors_of};
 ghost use Rattle.scenario.specs.Told.{Tells};
 
 use crate::deciding::table_in;
@@ -12,13 +12,13 @@ use crate::refusal::Refusal;
 use crate::strangers::know_tree;
 use command_line::Drawing;
 use drawing::{Form, Style, View, drawn, tree_drawn};
-use retold::{hearing, told_table};
+use retold::{hearing, told_table, traitors};
 use round::Scenario;
 use std::alloc::{AllocError, Global};
 use world::{Chronicle, Schedule, play};
 
 /// What this general was told by the message table or, where the text is TOML, in the oral campaign that it tells, without a
-/// schedule; drawn so far, where these generals are named as traitors.
+/// schedule; drawn so far, where these generals are named as traitors, and the campaign's own besides.
 ///
 /// # Errors
 ///
@@ -34,8 +34,7 @@ pub fn pictured(
     view: View,
 ) -> Result<String, Refusal>
     ensures known { OnOk result (KnowsTree (is_toml text.now) text.now general traitors.now) }
-    ensures drawn { IfOk result (λ picture. (table : List ℕ) × IsTableIn (is_toml text.now) text.now table
-        × DrawsTable table traitors.now view (form_of drawing) general (string_bytes picture)) }
+    ensures drawn { IfOk result (λ picture. IsTreeIn (is_toml text.now) text.now traitors.now view (form_of drawing) general (string_bytes picture)) }
     ensures refused { IfErr result (RefusesTree general traitors.now text.now) }
 {
     let form = form(drawing);
@@ -110,24 +109,26 @@ fn is_toml(alloc: Global, text: &str) -> Result<bool, AllocError>
     }
 }
 
-/// What he was told in the campaign.
+/// What he was told in the campaign, whose own traitors are named besides.
 #[tactic(auto, using(crate::proofs::CampaignLemmas::played_wholly, crate::proofs::PicturingLemmas::of_same))]
 fn campaign_pictured(
     alloc: Global,
     scenario: Scenario,
-    traitors: &[u8],
+    named: &[u8],
     view: View,
     form: Form,
     general: u8,
 ) -> Result<String, AllocError>
-    ensures { IfOk result (λ picture. DrawsTable (table_of (played scenario [])) traitors.now view form general (string_bytes picture)) }
+    ensures { IfOk result (λ picture. DrawsTable (table_of (played scenario [])) (traitors_of scenario ++ named.now) view form general (string_bytes picture)) }
 {
     scenario.recall();
+    let mut all = traitors(alloc, &scenario)?;
+    all.extend_from_slice(named)?;
     let schedule = Schedule {
         lines: Vec::new(alloc),
     };
     let chronicle = play(alloc, scenario, &schedule)?;
-    Ok(chronicle_pictured(alloc, &chronicle, traitors, view, form, general)?)
+    Ok(chronicle_pictured(alloc, &chronicle, all.as_slice(), view, form, general)?)
 }
 
 /// What he was told in the campaign of a chronicle, by the message table that its letters tell.
