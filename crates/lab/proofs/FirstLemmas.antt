@@ -8,7 +8,6 @@ use Rattle.command_line.specs.declared.tasks.Notation.TheVariants.{Bytecode, Ass
 use Rattle.command_line.specs.declared.tasks.Task.{Task}
 use Rattle.command_line.specs.declared.tasks.Accesses.TheVariants as accesses
 use Rattle.command_line.specs.declared.tasks.Task.TheVariants as task
-use Rattle.command_line.specs.declared.tasks.Account.TheVariants.{Chronicle}
 use Rattle.lab.specs.Campaigns.{is_chronicle}
 use Rattle.lab.specs.Picturing.{is_toml}
 use Rattle.lab.specs.Faults.{IsTold, IsUnjudged, Prevents, Stops, StopsFirst, fault_of_bytes}

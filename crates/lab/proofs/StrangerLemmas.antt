@@ -8,7 +8,7 @@ use Rattle.round.specs.Scenario.{Scenario as Campaign}
 use Rattle.scenario.specs.Told.{Tells}
 use Rattle.tables.specs.Numbers.{HasGenerals as AreNumbersOf}
 use Rattle.lab.specs.Refusals.{RefusesFilled, RefusesForm, RefusesNaming, RefusesScenario, RefusesTable, RefusesTreeIn}
-use Rattle.lab.specs.Strangers.{HasGenerals, HasNumbers, IsStranger, IsStrangerToTree, KnowsAll, KnowsLiar, KnowsTree, liars, stranger_among, stranger_to_tree}
+use Rattle.lab.specs.Strangers.{HasNumbers, IsStranger, IsStrangerToTree, KnowsAll, KnowsLiar, KnowsTree, liars, stranger_among, stranger_to_tree}
 use Rattle.lab.specs.declared.refusal.Refusal.{Refusal}
 use Rattle.lab.specs.declared.refusal.Refusal.TheVariants.{Codec, Object, Verifier, Assembly, Table, Scenario, Setting, Trace, Threads, Accesses, Stranger, NotText, Memory}
 
@@ -95,9 +95,11 @@ module _ (text : List ℕ) (general : ℕ) (traitors : List ℕ) where
   strange_in toml generals commander (Trace error) has strange = absurd strange
   strange_in toml generals commander (Threads error) has strange = absurd strange
   strange_in toml generals commander (Accesses fault) has strange = absurd strange
-  strange_in toml generals commander (Stranger g n) has strange = 
-      (commander, subst (λ (k : ℕ). HasNumbers toml text k commander) (sym strange.0) has,
-      subst (λ (k : ℕ). stranger_to_tree k commander general traitors ≡ Some g) (sym strange.0) strange.1)
+  strange_in toml generals commander (Stranger g n) has strange = (
+    commander,
+    subst (λ (k : ℕ). HasNumbers toml text k commander) (sym strange.0) has,
+    subst (λ (k : ℕ). stranger_to_tree k commander general traitors ≡ Some g) (sym strange.0) strange.1,
+  )
   strange_in toml generals commander NotText has strange = absurd strange
   strange_in toml generals commander Memory has strange = absurd strange
 

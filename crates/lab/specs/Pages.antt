@@ -6,7 +6,6 @@ use Rattle.campaign_page.specs.Account.{page_text}
 use Rattle.command_line.specs.declared.tasks.Course.{Course}
 use Rattle.command_line.specs.declared.tasks.Course.TheVariants.{Scheduled, Recorded}
 use Rattle.retold.specs.Retold.{table_of}
-use Rattle.round.specs.Scenario.{Scenario}
 use Rattle.scenario.specs.Told.{TellsAny}
 use Rattle.scenario.specs.declared.messages.Campaign.{Campaign}
 use Rattle.scenario.specs.declared.messages.Campaign.TheVariants.{Oral, Signed}

@@ -77,12 +77,7 @@ fn known_scenario(
     ensures refused { IfErr result (RefusesTreeIn true general traitors.now text.now) }
 {
     let scenario = scenario_in(alloc, text)?;
-    know_tree(
-        scenario.generals(),
-        scenario.commander(),
-        general,
-        traitors,
-    )?;
+    know_tree(scenario.generals(), scenario.commander(), general, traitors)?;
     Ok(scenario)
 }
 
