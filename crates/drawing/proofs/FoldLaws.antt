@@ -1,7 +1,7 @@
 -- What a fold leaves out.
-use Rattle.std.proofs.Common.{ℕ, zero, suc, ◌+◌, ◌-◌, ◌*◌, ◌<◌, ◌≤◌, ◌≡◌, Bool, true, false, not, cond, ◌&&◌, List, [], ◌∷◌, ◌++◌, map, length, length-append, inl, inr, refl, sym, ap, subst, ◌∙◌, arith}
-use Rattle.std.specs.Prelude.{◌==◌, None, Option, Some, count_by, find, if◌then◌else◌, nat_lt, sum_by, unwrap_or}
-use Rattle.std.specs.List.{All, AllByRecursion, flat_map, list_all}
+use Rattle.std.proofs.Common.{ℕ, zero, suc, ◌+◌, ◌-◌, ◌*◌, ◌<◌, ◌≤◌, ◌≡◌, Bool, true, false, not, cond, ◌&&◌, List, [], ◌∷◌, ◌++◌, map, length, length-append, inl, inr, refl, sym, ap, ◌∙◌, arith}
+use Rattle.std.specs.Prelude.{◌==◌, None, Option, Some, count_by, find, if◌then◌else◌, sum_by, unwrap_or}
+use Rattle.std.specs.List.{AllByRecursion, list_all}
 use Rattle.std.proofs.lemmas.Bool.{and_from, and_parts, cases_Bool, cond-false, cond-true, eqb-true, ne_eqb, or_cases, or_parts, eq-eqb, or_left, or_right, true≢false}
 use Rattle.std.proofs.lemmas.List.{length-map}
 use Rattle.std.proofs.lemmas.List.Concat.{length-flat_map}
@@ -17,11 +17,9 @@ use Rattle.label.specs.Oral.{AllBelow, om, order_of, taken}
 use Rattle.label.proofs.Counting.{distinct-push, majority_counts, on-push, others-length, others-on}
 use Rattle.label.proofs.Counts.{among, below as below_all}
 use Rattle.label.proofs.Ranks.{others-count}
-use Rattle.book.specs.Conditions.{is_told}
 use Rattle.book.specs.Explained.{decided, element, list_of}
 use Rattle.book.specs.Table.{MessageTable, told}
 use Rattle.book.proofs.Places.{all_flat}
-use Rattle.drawing.specs.declared.node.Extent.{Extent}
 use Rattle.drawing.specs.declared.node.Extent.TheVariants.{Cut, Folded, Last, Open}
 use Rattle.drawing.specs.declared.node.Mark.{Mark}
 use Rattle.drawing.specs.declared.node.Mark.TheVariants.{Honest, Lie, Traitor}
@@ -29,7 +27,7 @@ use Rattle.drawing.specs.declared.node.Node.{Node}
 use Rattle.drawing.specs.declared.node.Outcome.TheVariants.{Told}
 use Rattle.drawing.specs.declared.node.View.{View}
 use Rattle.drawing.specs.Facts.{agreed, below, extent_at, is_alike, is_honest, is_same, mark_at, node_at, outcome_at, outcome_of, tells}
-use Rattle.drawing.specs.Folds.{FoldsAreAlike, IsFold, IsLike, all_below, order_at}
+use Rattle.drawing.specs.Folds.{FoldsAreAlike, IsLike, all_below, order_at}
 use Rattle.drawing.specs.Shown.{deeper, is_open, nodes_below, nodes_by, with_those}
 use Rattle.drawing.proofs.PlaceLemmas.{place_parts}
 
@@ -127,19 +125,21 @@ all_like t traitors view zero v w p order general off alike same comes = tt
 all_like t traitors view (suc k) v w p order general off alike same comes =
     all_flat (IsLike t v p order) (λ j. nodes_by t traitors view k w j p) (others t.generals (p ∷ w))
     (λ j there.
-        let so = next t traitors k w p j alike there in
-        let is = others-on t.generals (p ∷ w) j there in
-        let apart : (p == j) ≡ false = (or_parts (p == j) (on w j) is.1).0 in
-        let other : (j == p) ≡ false = ne_eqb j p (λ e. true≢false (sym (eq-eqb p j (sym e)) ∙ apart)) in
-        let further : on (w ++ j ∷ []) p ≡ false = on-push w j p ∙ rw (off, other) refl in
-        let here : told t.messages (w ++ j ∷ []) p ≡ told t.messages v p = so.told ∙ same in
-        let node : IsLike t v p order (node_at t traitors view (mark_at t traitors w j p) k (w ++ j ∷ []) p) = record {
-          told = here;
-          honest = so.honest;
-          comes = at_decided t k (w ++ j ∷ []) p ∙ (alike_comes t traitors k (w ++ j ∷ []) p general further so.alike ∙ (ap order_of here ∙ comes));
-        } in
-        (node, if_all (IsLike t v p order) (is_open (extent_at t traitors view k (w ++ j ∷ []) p)) (nodes_below t traitors (deeper view) k (w ++ j ∷ []) p)
-        (all_like t traitors (deeper view) k v (w ++ j ∷ []) p order general further so.alike here comes)))
+    let so = next t traitors k w p j alike there in
+    let is = others-on t.generals (p ∷ w) j there in
+    let apart : (p == j) ≡ false = (or_parts (p == j) (on w j) is.1).0 in
+    let other : (j == p) ≡ false = ne_eqb j p (λ e. true≢false (sym (eq-eqb p j (sym e)) ∙ apart)) in
+    let further : on (w ++ j ∷ []) p ≡ false = on-push w j p ∙ rw (off, other) refl in
+    let here : told t.messages (w ++ j ∷ []) p ≡ told t.messages v p = so.told ∙ same in
+    let node : IsLike t v p order (node_at t traitors view (mark_at t traitors w j p) k (w ++ j ∷ []) p) = record {
+      told = here;
+      honest = so.honest;
+      comes = at_decided t k (w ++ j ∷ []) p ∙ (alike_comes t traitors k (w ++ j ∷ []) p general further so.alike ∙ (ap order_of here ∙ comes));
+    } in (
+      node,
+      if_all (IsLike t v p order) (is_open (extent_at t traitors view k (w ++ j ∷ []) p)) (nodes_below t traitors (deeper view) k (w ++ j ∷ []) p)
+          (all_like t traitors (deeper view) k v (w ++ j ∷ []) p order general further so.alike here comes),
+    ))
 
 -- ---- how many they are
 
@@ -185,12 +185,12 @@ so_many t traitors depth (suc k) w p deep general off distinct small =
     length-flat_map (λ j. nodes_by t traitors view k w j p) (others t.generals (p ∷ w))
     ∙ (sum_same (λ j. length (nodes_by t traitors view k w j p)) (1 + below t.generals (length w + 1) k) (others t.generals (p ∷ w))
     (λ j there.
-        let is = others-on t.generals (p ∷ w) j there in
-        let apart = or_parts (p == j) (on w j) is.1 in
-        let other : (j == p) ≡ false = ne_eqb j p (λ e. true≢false (sym (eq-eqb p j (sym e)) ∙ apart.0)) in
-        with_next t traitors depth k w p j deep
-        (so_many t traitors (depth - 1) k (w ++ j ∷ []) p (omega arith) general (on-push w j p ∙ rw (off, other) refl) (distinct-push w j distinct apart.1)
-        (push_below t.generals w j small is.0)))
+    let is = others-on t.generals (p ∷ w) j there in
+    let apart = or_parts (p == j) (on w j) is.1 in
+    let other : (j == p) ≡ false = ne_eqb j p (λ e. true≢false (sym (eq-eqb p j (sym e)) ∙ apart.0)) in
+    with_next t traitors depth k w p j deep
+    (so_many t traitors (depth - 1) k (w ++ j ∷ []) p (omega arith) general (on-push w j p ∙ rw (off, other) refl) (distinct-push w j distinct apart.1)
+    (push_below t.generals w j small is.0)))
     ∙ ap (λ (i : ℕ). i * (1 + below t.generals (length w + 1) k)) wide)
 
 -- ---- the law, as specs/Folds states it
