@@ -12,6 +12,10 @@ def campaign(generals, bound, commander, order, traitors, before=""):
 SILENT = "mov r0, 0\nexit\n"
 LIAR = "mov r1, 1\nmov r2, 0\ncall sway\nmov r1, 6\nmov r2, 7\ncall sway\nexit\n"
 COUNTS = "mov r1, 0\nmov r2, 1\ncall board_add\nmov r6, r0\nmov r1, 1\nmov r2, r6\ncall sway\nexit\n"
+# A commander who signs two orders, and lieutenants who pass on to one what they hold.
+TWO_FACED = "mov r1, 1\nmov r2, 126\ncall sign_order\nmov r1, 0\nmov r2, 3968\ncall sign_order\nexit\n"
+PASSES = "mov r1, 0\nmov r2, 2\ncall pass_on\nmov r1, 1\nmov r2, 512\ncall pass_on\nexit\n"
+SIGNED = 'messages = "signed"\n'
 # The largest numbers that the board and an order have, and all of the board at once.
 LARGEST = """lddw r7, 9223372036854775807
 mov r1, 63
@@ -52,6 +56,7 @@ SCENARIOS = {
     "large.toml": campaign(5, 1, 4, 2**32 - 1, {0: LARGEST, 4: LARGEST}),
     "two.toml": campaign(2, 0, 1, 0, {1: SILENT}),
     "thirteen.toml": campaign(13, 4, 0, 2**32 - 1, {general: LIAR for general in (2, 4, 8, 12)}, "# Thirteen generals.\n"),
+    "signed_thirteen.toml": campaign(13, 4, 0, 1, {0: TWO_FACED} | {general: PASSES for general in (4, 8, 12)}, SIGNED),
     "thirteen_traitors.toml": campaign(13, 4, 12, 2**32 - 1, {general: COUNTS for general in range(13)}),
 }
 

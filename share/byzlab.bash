@@ -23,7 +23,7 @@ _byzlab() {
     *:dis:-*) offered="--elf --units --explain --partial --entry -h --help" ;;
     *:book:-*) offered="--explain --json --traitors -h --help" ;;
     *:table:-*) offered="--loyal --lie -h --help" ;;
-    *:tree:-*) offered="--ascii --dot --svg --fold --of --traitors --depth -h --help" ;;
+    *:tree:-*) offered="--text --ascii --dot --svg --fold --of --traitors --depth -h --help" ;;
     *:draw:-*) offered="--schedule --chronicle -h --help" ;;
     *:page:-*) offered="--schedule --chronicle -o -h --help" ;;
     *:schedule:-*) offered="--accesses -h --help" ;;

@@ -6,7 +6,7 @@ use Rattle.text.specs.Options.{◌>>=◌}
 use Rattle.clap.specs.Walk.{Text}
 use Rattle.command_line.specs.Asked.{has_filling, excludes, has_notation, has_tree, has_turns, if_of, is_meant, reads, wants}
 use Rattle.command_line.specs.Generals.{count_in, depth_in, general_in, generals_in, order_in, seed_in}
-use Rattle.command_line.specs.Told.{AreExplained, AreTurns, IsCourse, IsDrawing, IsFilling, IsMisused, IsNotation, NamesCount, NamesGeneral, NamesSeed, Says, Told, are_two, campaigns, coursed, has, is_of, levels_in, named, of_one, of_traitors, programs, word_of}
+use Rattle.command_line.specs.Told.{AreExplained, AreTurns, IsCourse, IsDrawing, IsFilling, IsMisused, IsNotation, NamesCount, NamesGeneral, NamesSeed, Says, Told, are_two, campaigns, coursed, has, is_of, levels_in, named, is_text, of_one, of_traitors, programs, word_of}
 use Rattle.command_line.specs.declared.tasks.Course.{Course}
 use Rattle.command_line.specs.declared.tasks.Course.TheVariants.{Scheduled, Recorded}
 use Rattle.command_line.specs.declared.tasks.Drawing.{Drawing}
@@ -73,16 +73,20 @@ module _ (told : Told) where
   there None g is = absurd cc
   there (Some word) g is = refl
 
-  drawing_holds : (drawing : Drawing) → IsDrawing told drawing → not (are_two (has (codes "ascii") told) (has (codes "dot") told) (has (codes "svg") told)) ≡ true
-  drawing_holds Boxes is = rw (is.0, is.1) refl
-  drawing_holds Ascii is = rw (is.0, is.1, is.2) refl
+  not_two : (b : Bool) → not (are_two b false false) ≡ true
+  not_two true = refl
+  not_two false = refl
+
+  drawing_holds : (drawing : Drawing) → IsDrawing told drawing → not (are_two (is_text told) (has (codes "dot") told) (has (codes "svg") told)) ≡ true
+  drawing_holds Boxes is = rw (is.1, is.2) (not_two (is_text told))
+  drawing_holds Ascii is = rw (is.1, is.2) (not_two (is_text told))
   drawing_holds Graph is = rw (is.0, is.1, is.2) refl
   drawing_holds Svg is = rw (is.0, is.1) refl
 
   tree_holds : (g depth : ℕ) (drawing : Drawing) → NamesGeneral (codes "of") told (Some g) → IsDrawing told drawing
       → levels_in (word_of (codes "depth") told) ≡ Some depth → has_tree told ≡ true
   tree_holds g depth drawing named is levels =
-      and_from (has (codes "of") told && reads depth_in (codes "depth") told) (not (are_two (has (codes "ascii") told) (has (codes "dot") told) (has (codes "svg") told)))
+      and_from (has (codes "of") told && reads depth_in (codes "depth") told) (not (are_two (is_text told) (has (codes "dot") told) (has (codes "svg") told)))
       (and_from (has (codes "of") told) (reads depth_in (codes "depth") told) (there (word_of (codes "of") told) g named) (levels_hold (word_of (codes "depth") told) depth levels))
       (drawing_holds drawing is)
 
@@ -263,17 +267,17 @@ module _ (told : Told) where
 
   nobody : has (codes "of") told ≡ false → has_tree told ≡ false
   nobody lacks =
-      and_left (has (codes "of") told && reads depth_in (codes "depth") told) (not (are_two (has (codes "ascii") told) (has (codes "dot") told) (has (codes "svg") told)))
+      and_left (has (codes "of") told && reads depth_in (codes "depth") told) (not (are_two (is_text told) (has (codes "dot") told) (has (codes "svg") told)))
       (and_left (has (codes "of") told) (reads depth_in (codes "depth") told) lacks)
 
   no_depth : reads depth_in (codes "depth") told ≡ false → has_tree told ≡ false
   no_depth fails =
-      and_left (has (codes "of") told && reads depth_in (codes "depth") told) (not (are_two (has (codes "ascii") told) (has (codes "dot") told) (has (codes "svg") told)))
+      and_left (has (codes "of") told && reads depth_in (codes "depth") told) (not (are_two (is_text told) (has (codes "dot") told) (has (codes "svg") told)))
       (and_right (has (codes "of") told) (reads depth_in (codes "depth") told) fails)
 
-  two_drawn : are_two (has (codes "ascii") told) (has (codes "dot") told) (has (codes "svg") told) ≡ true → has_tree told ≡ false
+  two_drawn : are_two (is_text told) (has (codes "dot") told) (has (codes "svg") told) ≡ true → has_tree told ≡ false
   two_drawn are =
-      and_right (has (codes "of") told && reads depth_in (codes "depth") told) (not (are_two (has (codes "ascii") told) (has (codes "dot") told) (has (codes "svg") told)))
+      and_right (has (codes "of") told && reads depth_in (codes "depth") told) (not (are_two (is_text told) (has (codes "dot") told) (has (codes "svg") told)))
       (ap not are)
 
 pub misused_not_meant : (told : Told) (misuse : Misuse) → IsMisused told misuse → is_meant told ≡ false

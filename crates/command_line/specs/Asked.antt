@@ -4,7 +4,7 @@ use Rattle.std.specs.Prelude.{codes, if◌then◌else◌, is_some, map, option_a
 use Rattle.std.specs.Borrow.{Bor}
 use Rattle.std.specs.Option.{option_map_or}
 use Rattle.command_line.specs.Generals.{count_in, depth_in, general_in, generals_in, order_in, seed_in}
-use Rattle.command_line.specs.Told.{Told, are_two, campaigns, coursed, has, is_of, of_one, of_traitors, programs, word_of}
+use Rattle.command_line.specs.Told.{Told, are_two, campaigns, coursed, has, is_of, is_text, of_one, of_traitors, programs, word_of}
 use Rattle.command_line.specs.Usage.{Text, Usage, taken_in, value_at}
 use Rattle.command_line.specs.Usages.{usage_named}
 
@@ -42,7 +42,7 @@ has_filling told = reads order_in (codes "loyal") told && reads general_in (code
 -- somebody's tree is drawn in one way, to a depth
 abbrev pub has_tree : Told → Bool
 has_tree told = has (codes "of") told && reads depth_in (codes "depth") told
-    && not (are_two (has (codes "ascii") told) (has (codes "dot") told) (has (codes "svg") told))
+    && not (are_two (is_text told) (has (codes "dot") told) (has (codes "svg") told))
 
 -- the one does not stand with the other
 abbrev pub excludes : Text → Text → Told → Bool

@@ -1,5 +1,5 @@
 -- What a task and its refusal say.
-use Rattle.std.specs.Prelude.{⊤, ℕ, ◌≡◌, ◌&&◌, Bool, true, false, List, [], ◌∷◌, Option, None, Some, codes, is_some, option_map}
+use Rattle.std.specs.Prelude.{⊤, ℕ, ◌≡◌, ◌&&◌, ◌||◌, Bool, true, false, List, [], ◌∷◌, Option, None, Some, codes, is_some, option_map}
 use Rattle.std.specs.List.{list_any}
 use Rattle.std.specs.Str.{bytes_eq}
 use Rattle.std.specs.String.{string_bytes}
@@ -123,11 +123,15 @@ abbrev pub AreAccesses : Told → Accesses → Type 0
 AreAccesses told (OfChronicle file) = (word_of (codes "CHRONICLE") told ≡ Some (string_bytes file)) × (has (codes "accesses") told ≡ false)
 AreAccesses told (Listed text) = (word_of (codes "CHRONICLE") told ≡ Some (string_bytes text)) × (has (codes "accesses") told ≡ true)
 
+-- lines of text are asked for: they are drawn too where nothing is
+abbrev pub is_text : Told → Bool
+is_text told = has (codes "text") told || has (codes "ascii") told
+
 abbrev pub IsDrawing : Told → Drawing → Type 0
 IsDrawing told Boxes = (has (codes "ascii") told ≡ false) × (has (codes "dot") told ≡ false) × (has (codes "svg") told ≡ false)
 IsDrawing told Ascii = (has (codes "ascii") told ≡ true) × (has (codes "dot") told ≡ false) × (has (codes "svg") told ≡ false)
-IsDrawing told Graph = (has (codes "ascii") told ≡ false) × (has (codes "dot") told ≡ true) × (has (codes "svg") told ≡ false)
-IsDrawing told Svg = (has (codes "ascii") told ≡ false) × (has (codes "dot") told ≡ false) × (has (codes "svg") told ≡ true)
+IsDrawing told Graph = (is_text told ≡ false) × (has (codes "dot") told ≡ true) × (has (codes "svg") told ≡ false)
+IsDrawing told Svg = (is_text told ≡ false) × (has (codes "dot") told ≡ false) × (has (codes "svg") told ≡ true)
 
 -- so many levels, all where none are named
 abbrev pub levels_in : Option Text → Option ℕ
@@ -242,7 +246,7 @@ target_of (AssemblePartly file spelling target explained) = option_map string_by
 target_of (Page scenario course target) = option_map string_bytes target
 target_of _ = None
 
--- ---- what stands in place of a second file: the schedule of a seed, or a text; and what is written besides
+-- ---- what stands in place of a second file: the schedule of a seed; and what is written besides
 
 abbrev pub turns_seed : Turns → Option ℕ
 turns_seed (OfFile file) = None
@@ -251,14 +255,6 @@ turns_seed (OfSeed seed target) = Some seed
 abbrev pub seed_of : Task → Option ℕ
 seed_of (Play scenario turns account explained) = turns_seed turns
 seed_of _ = None
-
-abbrev pub accesses_text : Accesses → Option Text
-accesses_text (OfChronicle file) = None
-accesses_text (Listed text) = Some (string_bytes text)
-
-abbrev pub listed_of : Task → Option Text
-listed_of (Retrace scenario accesses) = accesses_text accesses
-listed_of _ = None
 
 abbrev pub seed_target : Turns → Option Text
 seed_target (OfFile file) = None
@@ -298,7 +294,7 @@ IsMisused told (Seed word) = (is_of (codes "play" ∷ []) told ≡ true)
     × (word_of (codes "seed") told ≡ Some (string_bytes word)) × (seed_in (string_bytes word) ≡ None)
 IsMisused told NobodyNamed = (is_of (codes "tree" ∷ []) told ≡ true) × (has (codes "of") told ≡ false)
 IsMisused told TwoDrawings = (is_of (codes "tree" ∷ []) told ≡ true)
-    × (are_two (has (codes "ascii") told) (has (codes "dot") told) (has (codes "svg") told) ≡ true)
+    × (are_two (is_text told) (has (codes "dot") told) (has (codes "svg") told) ≡ true)
 IsMisused told TwoNotations = (is_of programs told ≡ true) × (has (codes "asm") told ≡ true) × (has (codes "elf") told ≡ true)
 IsMisused told UnitsOfParts = (is_of (codes "dis" ∷ []) told ≡ true) × (has (codes "units") told ≡ true) × (has (codes "partial") told ≡ true)
 IsMisused told TwoCourses = (is_of coursed told ≡ true)

@@ -67,7 +67,7 @@ abbrev pub tree : Usage
 tree = record {
   name = codes "tree";
   places = codes "FILE" ∷ [];
-  flags = switch (codes "ascii") ∷ switch (codes "dot") ∷ switch (codes "svg") ∷ switch (codes "fold")
+  flags = switch (codes "text") ∷ switch (codes "ascii") ∷ switch (codes "dot") ∷ switch (codes "svg") ∷ switch (codes "fold")
       ∷ option (codes "of") ∷ option (codes "traitors") ∷ option (codes "depth") ∷ [];
 }
 

@@ -105,7 +105,7 @@ impl fmt::Display for Misuse {
             ),
             Misuse::NobodyNamed => f.write_str("the argument '--of <G>' is required"),
             Misuse::TwoDrawings => f.write_str(
-                "the arguments '--ascii', '--dot' and '--svg' cannot be used with each other",
+                "the arguments '--dot' and '--svg' cannot be used with each other, or with '--text' or '--ascii'",
             ),
             Misuse::TwoNotations => {
                 f.write_str("the argument '--elf' cannot be used with '--asm'")

@@ -401,9 +401,11 @@ impl<'m, 'a> Met<'m, 'a> {
         ensures drawing { IfOk result (IsDrawing (told_by self.entry)) }
         ensures refused { IfErr result (IsErrorOf (told_by self.entry)) }
     {
-        match (self.has("ascii"), self.has("dot"), self.has("svg")) {
-            (false, false, false) => Ok(Drawing::Boxes),
-            (true, false, false) => Ok(Drawing::Ascii),
+        let is_ascii = self.has("ascii");
+        let is_text = self.has("text") || is_ascii;
+        match (is_text, self.has("dot"), self.has("svg")) {
+            (_, false, false) if is_ascii => Ok(Drawing::Ascii),
+            (_, false, false) => Ok(Drawing::Boxes),
             (false, true, false) => Ok(Drawing::Graph),
             (false, false, true) => Ok(Drawing::Svg),
             (true, true, _) | (true, _, true) | (_, true, true) => {

@@ -323,6 +323,10 @@ const TREE: Subcommand<'static> = Subcommand {
     }],
     flags: &[
         Flag::Switch {
+            name: "text",
+            help: "Draws lines of text, as without --dot and --svg",
+        },
+        Flag::Switch {
             name: "ascii",
             help: "Draws lines by characters of ASCII in place of box-drawing ones",
         },
@@ -346,7 +350,7 @@ const TREE: Subcommand<'static> = Subcommand {
         Flag::Option {
             name: "traitors",
             value: "G,H",
-            help: "Marks the lies of these generals",
+            help: "Marks the lies of these generals, besides a campaign's own traitors",
         },
         Flag::Option {
             name: "depth",

@@ -252,7 +252,7 @@ impl Turns {
 
 impl Accesses {
     ghost use Rattle.std.specs.Prelude.{◌≡◌, option_map};
-    ghost use Rattle.command_line.specs.Told.{accesses_file, accesses_text};
+    ghost use Rattle.command_line.specs.Told.{accesses_file};
 
     /// The name of the file that tells the accesses, where there is one.
     fn file(&self) -> Option<&str>
@@ -263,21 +263,11 @@ impl Accesses {
             Accesses::Listed(_) => None,
         }
     }
-
-    /// The text that lists the accesses, where they stand in no file.
-    fn text(&self) -> Option<&str>
-        ensures { option_map (λ text. text.now) result ≡ accesses_text self.now }
-    {
-        match self {
-            Accesses::OfChronicle(_) => None,
-            Accesses::Listed(text) => Some(text.as_str()),
-        }
-    }
 }
 
 impl Task {
     ghost use Rattle.std.specs.Prelude.{◌≡◌, option_map};
-    ghost use Rattle.command_line.specs.Told.{file_of, folder_of, listed_of, schedule_target_of, second_of, seed_of, target_of};
+    ghost use Rattle.command_line.specs.Told.{file_of, folder_of, schedule_target_of, second_of, seed_of, target_of};
 
     /// The name of the only file, or of the first; none where the task reads no file.
     pub fn file(&self) -> Option<&str>
@@ -345,16 +335,6 @@ impl Task {
     {
         match self {
             Task::Play { turns, .. } => turns.target(),
-            _ => None,
-        }
-    }
-
-    /// The text that lists the accesses that a schedule is to give, where they stand in no file.
-    pub fn listed(&self) -> Option<&str>
-        ensures { option_map (λ text. text.now) result ≡ listed_of self.now }
-    {
-        match self {
-            Task::Retrace { accesses, .. } => accesses.text(),
             _ => None,
         }
     }

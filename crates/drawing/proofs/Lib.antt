@@ -4,3 +4,4 @@ pub mod FactLemmas
 pub mod ShownLemmas
 pub mod RowLemmas
 pub mod SvgLaws
+pub mod FoldLaws

@@ -19,7 +19,7 @@ use Rattle.drawing.specs.declared.node.Outcome.{Outcome}
 use Rattle.drawing.specs.declared.node.Outcome.TheVariants.{Told, Agreed, Divided, Middle}
 use Rattle.drawing.specs.Laws.{PicturesAreElements}
 use Rattle.drawing.specs.Places.{branch_at}
-use Rattle.drawing.specs.Rows.{branch_way, branch_ways, kind, lines_end, lines_start, outcome_class, outline, row, row_end, row_start, rows_from, shape, stub, way, widest, word_text}
+use Rattle.drawing.specs.Rows.{branch_way, branch_ways, kind, lines_end, lines_start, outcome_class, outline, row, row_end, row_start, rows_from, shape, stub, way, word_text}
 use Rattle.drawing.specs.Shown.{nodes_of}
 use Rattle.drawing.specs.Svg.{breadth, head, heading, inside, key, legend, look, meanings, picture, size, start, svg_text, tallness, title, view_box}
 use Rattle.drawing.specs.Words.{extent_words, mark_words, outcome_words, said, told_words, words}

@@ -1,6 +1,7 @@
 pub mod Drawn
 pub mod Facts
 pub mod Shown
+pub mod Folds
 pub mod Words
 pub mod Places
 pub mod Lines

@@ -19,7 +19,7 @@ pub use by_table::{drawn, tree_drawn};
 pub use facts::{mark_at, node_at};
 pub use form::Form;
 pub use graph::tree_graph;
-pub use laws::{outcomes_are_explained, pictures_are_elements};
+pub use laws::{folds_are_alike, outcomes_are_explained, pictures_are_elements};
 pub use lines::tree_text;
 pub use node::{Branch, Extent, Mark, Node, Outcome, Style, View};
 pub use shown::{deeper, is_open, nodes, root_mark};

@@ -6,7 +6,6 @@ use Rattle.board.specs.Board.{IsLegal}
 use Rattle.round.specs.Scenario.{Scenario, IsScenario}
 use Rattle.world.specs.declared.schedule.Repeat.{Repeat}
 use Rattle.world.specs.Chronicle.{Chronicle, chronicle_of}
-use Rattle.world.specs.declared.verdict.Verdict.{Verdict}
 use Rattle.world.specs.Promises.{AgreeUnderBound, IsVerdictOn, IsWellUnderBound}
 use Rattle.retold.specs.Retold.{Explains, IsWhole}
 use Rattle.retold.proofs.Rounds.{played_whole, replayed_whole}

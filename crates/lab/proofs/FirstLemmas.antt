@@ -1,5 +1,5 @@
 -- A first file that is refused.
-use Rattle.std.proofs.Common.{ℕ, ◌≡◌, ◌≢◌, Bool, List, ◌∷◌, inl, inr, refl, subst, sym, true, false}
+use Rattle.std.proofs.Common.{ℕ, ◌≡◌, ◌≢◌, Bool, List, inl, inr, refl, subst, sym, true, false}
 use Rattle.std.specs.Borrow.{Bor}
 use Rattle.std.specs.declared.alloc.Global.{Global}
 use Rattle.std.specs.Prelude.{Option, None, Some, IfSome, String, string_bytes}
@@ -8,12 +8,11 @@ use Rattle.command_line.specs.declared.tasks.Notation.TheVariants.{Bytecode, Ass
 use Rattle.command_line.specs.declared.tasks.Task.{Task}
 use Rattle.command_line.specs.declared.tasks.Accesses.TheVariants as accesses
 use Rattle.command_line.specs.declared.tasks.Task.TheVariants as task
-use Rattle.command_line.specs.declared.tasks.Account.TheVariants.{Chronicle}
 use Rattle.lab.specs.Campaigns.{is_chronicle}
 use Rattle.lab.specs.Picturing.{is_toml}
 use Rattle.lab.specs.Faults.{IsTold, IsUnjudged, Prevents, Stops, StopsFirst, fault_of_bytes}
 use Rattle.lab.specs.Hints.{IsHint, IsHintBy, IsSaid, IsWhy, asked_of, bytecode_in, explained_in, hint_behind, is_reported, seems_behind}
-use Rattle.lab.specs.Refusals.{Refuses, RefusesAsked, RefusesCheck, RefusesCheckIn, RefusesDisassembly, RefusesEither, RefusesNotation, RefusesParts}
+use Rattle.lab.specs.Refusals.{Refuses, RefusesAsked, RefusesCheck, RefusesCheckIn, RefusesDisassembly, RefusesNotation, RefusesParts, RefusesTreeIn}
 use Rattle.lab.specs.Serving.{Files, IsRefused, first_name}
 use Rattle.lab.specs.Whys.{TellsWhyOf, is_explained}
 use Rattle.lab.specs.Whys.{Nothing}
@@ -175,9 +174,9 @@ no_program (Objects entry) bytes fault (inl (other, is, none)) = absurd cc
 no_program (Objects entry) bytes fault (inr (code, is, refuses)) = not_spelt code fault refuses
 
 -- nor a table
-no_tree : (own : Bool) (named bytes : List ℕ) (fault : VerifyError) → RefusesEither own named bytes (Verifier fault) → ⊥
-no_tree true named bytes fault refuses = refuses
-no_tree false named bytes fault refuses = refuses
+no_tree : (own : Bool) (general : ℕ) (traitors bytes : List ℕ) (fault : VerifyError) → RefusesTreeIn own general traitors bytes (Verifier fault) → ⊥
+no_tree true general traitors bytes fault refuses = refuses
+no_tree false general traitors bytes fault refuses = refuses
 
 -- nor code that is cut
 no_parts : (notation : Notation) (bytes : List ℕ) (fault : VerifyError) → RefusesParts notation bytes (Verifier fault) → ⊥
@@ -202,7 +201,7 @@ not_judged (task.Play scenario schedule account explained) bytes (Verifier fault
 not_judged (task.Muster scenario explained) bytes (Verifier fault) refuses is none = absurd refuses
 not_judged (task.Audit scenario chronicle explained) bytes (Verifier fault) refuses is none = absurd (no_campaign true bytes fault refuses)
 not_judged (task.Explore scenario most folder) bytes (Verifier fault) refuses is none = absurd refuses
-not_judged (task.Tree file general marked drawing depth folded) bytes (Verifier fault) refuses is none = absurd (no_tree (is_toml bytes) (general ∷ marked.items) bytes fault refuses)
+not_judged (task.Tree file general marked drawing depth folded) bytes (Verifier fault) refuses is none = absurd (no_tree (is_toml bytes) general marked.items bytes fault refuses)
 not_judged (task.Draw scenario course) bytes (Verifier fault) refuses is none = absurd (no_campaign true bytes fault refuses)
 not_judged (task.Page scenario course target) bytes (Verifier fault) refuses is none = absurd (no_campaign true bytes fault refuses)
 not_judged (task.Retrace scenario (accesses.OfChronicle own)) bytes (Verifier fault) refuses is none = absurd refuses

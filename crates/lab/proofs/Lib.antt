@@ -8,6 +8,7 @@ pub mod RefusalLemmas
 pub mod ScheduleLemmas
 pub mod DiagramLemmas
 pub mod PageLemmas
+pub mod PromiseLemmas
 pub mod PartLemmas
 pub mod PicturingLemmas
 pub mod FirstLemmas

@@ -1,7 +1,6 @@
 -- Whose relay it is in which a task tries a program.
 use Rattle.std.proofs.Common.{ℕ, ◌≡◌, ◌∙◌, List, ap, refl, subst, sym}
 use Rattle.std.specs.Prelude.{Bool, true, false, Option, None, Some, unwrap_or}
-use Rattle.codec.specs.Program.{SpellsProgram}
 use Rattle.command_line.specs.declared.tasks.Notation.{Notation}
 use Rattle.command_line.specs.declared.tasks.Task.{Task}
 use Rattle.command_line.specs.declared.tasks.Task.TheVariants.{Check, Assemble, AssemblePartly, Disassemble, DisassemblePartly, Book, ExplainDecisions, Form, Play, Muster, Audit, Explore, Tree, Draw, Page, Retrace}
@@ -10,10 +9,10 @@ use Rattle.label.specs.declared.shape.Shape.{Shape}
 use Rattle.semantics.specs.Run.{IsSound}
 use Rattle.trial.specs.Told.{Tells}
 use Rattle.verify.specs.Judgement.{judged}
-use Rattle.lab.specs.Answers.{GoesOn, IsPlace, IsTriedAt, IsTriedBy, Prints, Tries, trial_of}
+use Rattle.lab.specs.Answers.{GoesOn, IsTriedBy, trial_of}
 use Rattle.lab.specs.Hints.{HasProgram, explained_in, if_asked}
 use Rattle.lab.specs.Refusals.{Refuses, RefusesCheckIn}
-use Rattle.lab.specs.Serving.{AreSecondBytes, Files, IsAnswer, IsPlacedAnswer, IsTrialAt, IsTrialOf}
+use Rattle.lab.specs.Serving.{Files, IsAnswer, IsPlacedAnswer, IsTrialAt, IsTrialOf}
 use Rattle.lab.specs.declared.first_answer.FirstAnswer.TheVariants as answer
 use Rattle.lab.specs.declared.refusal.Refusal.{Refusal}
 use Rattle.lab.proofs.FilesLemmas.{second_bytes}

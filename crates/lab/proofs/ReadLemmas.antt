@@ -15,7 +15,7 @@ use Rattle.lab.specs.Faults.{IsTold, IsUnjudged, Stops, fault_of_bytes}
 use Rattle.lab.specs.Hints.{IsHintBy, IsHintOf, hint_behind, seems_behind}
 use Rattle.lab.specs.Reading.{IsTooLong}
 use Rattle.lab.specs.Refusals.{RefusesBytes}
-use Rattle.lab.specs.Seeming.{likeness_of, seems_at_first, seems_of}
+use Rattle.lab.specs.Seeming.{seems_at_first, seems_of}
 use Rattle.lab.specs.Serving.{IsRefused, first_name}
 use Rattle.lab.specs.Whys.{TellsWhy, TellsWhyOf, is_explained, seems_line}
 use Rattle.lab.specs.declared.failure.Failure.{Failure}

@@ -7,16 +7,13 @@ use Rattle.book.specs.Table.{MessageTable}
 use Rattle.round.specs.Scenario.{Scenario as Campaign}
 use Rattle.scenario.specs.Told.{Tells}
 use Rattle.tables.specs.Numbers.{HasGenerals as AreNumbersOf}
-use Rattle.lab.specs.Refusals.{RefusesEither, RefusesFilled, RefusesForm, RefusesNaming, RefusesScenario, RefusesTable}
-use Rattle.lab.specs.Strangers.{HasGenerals, IsStranger, KnowsAll, KnowsLiar, liars, stranger_among}
+use Rattle.lab.specs.Refusals.{RefusesFilled, RefusesForm, RefusesNaming, RefusesScenario, RefusesTable, RefusesTreeIn}
+use Rattle.lab.specs.Strangers.{HasNumbers, IsStranger, IsStrangerToTree, KnowsAll, KnowsLiar, KnowsTree, liars, stranger_among, stranger_to_tree}
 use Rattle.lab.specs.declared.refusal.Refusal.{Refusal}
 use Rattle.lab.specs.declared.refusal.Refusal.TheVariants.{Codec, Object, Verifier, Assembly, Table, Scenario, Setting, Trace, Threads, Accesses, Stranger, NotText, Memory}
 
-pub of_table : (text named : List ℕ) (table : MessageTable) → table_told text ≡ Ok table → stranger_among table.generals named ≡ None → KnowsAll false text named
+pub of_table : (text named : List ℕ) (table : MessageTable) → table_told text ≡ Ok table → stranger_among table.generals named ≡ None → KnowsAll text named
 of_table text named table is none = (table.generals, (table, is, refl), none)
-
-pub of_scenario : (text named : List ℕ) (s : Campaign) → Tells text s → stranger_among s.generals named ≡ None → KnowsAll true text named
-of_scenario text named s tells none = (s.generals, (s, tells, refl), none)
 
 pub unread_table : (text named : List ℕ) (refusal : Refusal) → RefusesTable text refusal → RefusesNaming named text refusal
 unread_table text named (Codec error) refuses = refuses
@@ -33,21 +30,6 @@ unread_table text named (Stranger g n) refuses = absurd refuses
 unread_table text named NotText refuses = refuses
 unread_table text named Memory refuses = refuses
 
-pub unread_scenario : (text named : List ℕ) (refusal : Refusal) → RefusesScenario text refusal → RefusesEither true named text refusal
-unread_scenario text named (Codec error) refuses = refuses
-unread_scenario text named (Object fault) refuses = refuses
-unread_scenario text named (Verifier fault) refuses = refuses
-unread_scenario text named (Assembly error) refuses = refuses
-unread_scenario text named (Table error) refuses = refuses
-unread_scenario text named (Scenario error) refuses = refuses
-unread_scenario text named (Setting error) refuses = refuses
-unread_scenario text named (Trace error) refuses = refuses
-unread_scenario text named (Threads error) refuses = refuses
-unread_scenario text named (Accesses fault) refuses = refuses
-unread_scenario text named (Stranger g n) refuses = absurd refuses
-unread_scenario text named NotText refuses = refuses
-unread_scenario text named Memory refuses = refuses
-
 pub strange_to_table : (text named : List ℕ) (table : MessageTable) (refusal : Refusal) → table_told text ≡ Ok table → IsStranger table.generals named refusal → RefusesNaming named text refusal
 strange_to_table text named table (Codec error) is strange = absurd strange
 strange_to_table text named table (Object fault) is strange = absurd strange
@@ -63,20 +45,69 @@ strange_to_table text named table (Stranger g n) is strange = ((table, is, sym s
 strange_to_table text named table NotText is strange = absurd strange
 strange_to_table text named table Memory is strange = absurd strange
 
-pub strange_to_scenario : (text named : List ℕ) (s : Campaign) (refusal : Refusal) → Tells text s → IsStranger s.generals named refusal → RefusesEither true named text refusal
-strange_to_scenario text named s (Codec error) tells strange = absurd strange
-strange_to_scenario text named s (Object fault) tells strange = absurd strange
-strange_to_scenario text named s (Verifier fault) tells strange = absurd strange
-strange_to_scenario text named s (Assembly error) tells strange = absurd strange
-strange_to_scenario text named s (Table error) tells strange = absurd strange
-strange_to_scenario text named s (Scenario error) tells strange = absurd strange
-strange_to_scenario text named s (Setting error) tells strange = absurd strange
-strange_to_scenario text named s (Trace error) tells strange = absurd strange
-strange_to_scenario text named s (Threads error) tells strange = absurd strange
-strange_to_scenario text named s (Accesses fault) tells strange = absurd strange
-strange_to_scenario text named s (Stranger g n) tells strange = ((s, tells, sym strange.0), subst (λ (n : ℕ). stranger_among n named ≡ Some g) (sym strange.0) strange.1)
-strange_to_scenario text named s NotText tells strange = absurd strange
-strange_to_scenario text named s Memory tells strange = absurd strange
+-- ---- whose tree is drawn, and who is named in it
+
+module _ (text : List ℕ) (general : ℕ) (traitors : List ℕ) where
+  pub tree_of_table : (table : MessageTable) → table_told text ≡ Ok table → stranger_to_tree table.generals table.commander general traitors ≡ None → KnowsTree false text general traitors
+  tree_of_table table is none = record { generals = table.generals; commander = table.commander; told = (table, is, refl, refl); known = none }
+
+  pub tree_of_scenario : (s : Campaign) → Tells text s → stranger_to_tree s.generals s.commander general traitors ≡ None → KnowsTree true text general traitors
+  tree_of_scenario s tells none = record { generals = s.generals; commander = s.commander; told = (s, tells, refl, refl); known = none }
+
+  pub no_table_to_draw : (refusal : Refusal) → RefusesTable text refusal → RefusesTreeIn false general traitors text refusal
+  no_table_to_draw (Codec error) refuses = refuses
+  no_table_to_draw (Object fault) refuses = refuses
+  no_table_to_draw (Verifier fault) refuses = refuses
+  no_table_to_draw (Assembly error) refuses = refuses
+  no_table_to_draw (Table error) refuses = refuses
+  no_table_to_draw (Scenario error) refuses = refuses
+  no_table_to_draw (Setting error) refuses = refuses
+  no_table_to_draw (Trace error) refuses = refuses
+  no_table_to_draw (Threads error) refuses = refuses
+  no_table_to_draw (Accesses fault) refuses = refuses
+  no_table_to_draw (Stranger g n) refuses = absurd refuses
+  no_table_to_draw NotText refuses = refuses
+  no_table_to_draw Memory refuses = refuses
+
+  pub no_campaign_to_draw : (refusal : Refusal) → RefusesScenario text refusal → RefusesTreeIn true general traitors text refusal
+  no_campaign_to_draw (Codec error) refuses = refuses
+  no_campaign_to_draw (Object fault) refuses = refuses
+  no_campaign_to_draw (Verifier fault) refuses = refuses
+  no_campaign_to_draw (Assembly error) refuses = refuses
+  no_campaign_to_draw (Table error) refuses = refuses
+  no_campaign_to_draw (Scenario error) refuses = refuses
+  no_campaign_to_draw (Setting error) refuses = refuses
+  no_campaign_to_draw (Trace error) refuses = refuses
+  no_campaign_to_draw (Threads error) refuses = refuses
+  no_campaign_to_draw (Accesses fault) refuses = refuses
+  no_campaign_to_draw (Stranger g n) refuses = absurd refuses
+  no_campaign_to_draw NotText refuses = refuses
+  no_campaign_to_draw Memory refuses = refuses
+
+  strange_in : (toml : Bool) (generals commander : ℕ) (refusal : Refusal) → HasNumbers toml text generals commander → IsStrangerToTree generals commander general traitors refusal → RefusesTreeIn toml general traitors text refusal
+  strange_in toml generals commander (Codec error) has strange = absurd strange
+  strange_in toml generals commander (Object fault) has strange = absurd strange
+  strange_in toml generals commander (Verifier fault) has strange = absurd strange
+  strange_in toml generals commander (Assembly error) has strange = absurd strange
+  strange_in toml generals commander (Table error) has strange = absurd strange
+  strange_in toml generals commander (Scenario error) has strange = absurd strange
+  strange_in toml generals commander (Setting error) has strange = absurd strange
+  strange_in toml generals commander (Trace error) has strange = absurd strange
+  strange_in toml generals commander (Threads error) has strange = absurd strange
+  strange_in toml generals commander (Accesses fault) has strange = absurd strange
+  strange_in toml generals commander (Stranger g n) has strange = (
+    commander,
+    subst (λ (k : ℕ). HasNumbers toml text k commander) (sym strange.0) has,
+    subst (λ (k : ℕ). stranger_to_tree k commander general traitors ≡ Some g) (sym strange.0) strange.1,
+  )
+  strange_in toml generals commander NotText has strange = absurd strange
+  strange_in toml generals commander Memory has strange = absurd strange
+
+  pub strange_to_tree : (table : MessageTable) (refusal : Refusal) → table_told text ≡ Ok table → IsStrangerToTree table.generals table.commander general traitors refusal → RefusesTreeIn false general traitors text refusal
+  strange_to_tree table refusal is strange = strange_in false table.generals table.commander refusal (table, is, refl, refl) strange
+
+  pub strange_to_campaign : (s : Campaign) (refusal : Refusal) → Tells text s → IsStrangerToTree s.generals s.commander general traitors refusal → RefusesTreeIn true general traitors text refusal
+  strange_to_campaign s refusal tells strange = strange_in true s.generals s.commander refusal (s, tells, refl, refl) strange
 
 -- ---- the liar of a table that is filled in
 

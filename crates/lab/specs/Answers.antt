@@ -1,5 +1,5 @@
 -- What a task prints on files of some bytes.
-use Rattle.std.specs.Prelude.{ℕ, ◌≡◌, ◌++◌, Bool, true, false, List, [], ◌∷◌, Option, None, Some, String, codes, length, map, string_bytes, unwrap_or}
+use Rattle.std.specs.Prelude.{ℕ, ◌≡◌, ◌++◌, Bool, true, false, List, [], Option, None, Some, String, codes, length, map, string_bytes, unwrap_or}
 use Rattle.std.specs.declared.alloc.Global.{Global}
 use Rattle.insn.specs.declared.insn.Insn.{Insn}
 use Rattle.insn.specs.Program.{slots_of}
@@ -32,7 +32,7 @@ use Rattle.lab.specs.Parts.{AssemblesPartly, AssemblesPartlyRaw, DisassemblesPar
 use Rattle.lab.specs.Picturing.{Pictures, is_toml}
 use Rattle.lab.specs.Pages.{TellsPage}
 use Rattle.lab.specs.Retracing.{Arranges, Retraces}
-use Rattle.lab.specs.Strangers.{KnowsAll, KnowsLiar}
+use Rattle.lab.specs.Strangers.{KnowsAll, KnowsLiar, KnowsTree}
 use Rattle.lab.specs.declared.checking.Checked.{Checked}
 use Rattle.lab.specs.declared.first_answer.FirstAnswer.{FirstAnswer}
 use Rattle.lab.specs.declared.first_answer.FirstAnswer.TheVariants as answer
@@ -123,7 +123,8 @@ Prints (AssemblePartly file Raw target explained) first second text = AssemblesP
 Prints (Disassemble file notation units explained) first second text = Disassembles notation units first text
 Prints (DisassemblePartly file notation explained) first second text = DisassemblesPartly notation first text
 Prints (Book file) first second text = DecidesTable first text
-Prints (ExplainDecisions file traitors) first second text = KnowsAll false first traitors.items × ExplainsTable first traitors.items text
+Prints (ExplainDecisions file traitors) first second text =
+    KnowsAll first traitors.items × ExplainsTable first traitors.items text
 Prints (Form n m c None) first second text = IsFormOf (string_bytes n) (string_bytes m) (string_bytes c) text
 Prints (Form n m c (Some filling)) first second text =
     KnowsLiar (string_bytes n) (string_bytes m) (string_bytes c) filling.liar
@@ -133,7 +134,8 @@ Prints (Muster scenario explained) first second text = Musters explained first t
 Prints (Audit scenario chronicle explained) first second text = Audits explained first second text
 Prints (Explore scenario most folder) first second text = Explores most first text
 Prints (Tree file general traitors drawing depth folded) first second text =
-    KnowsAll (is_toml first) first (general ∷ traitors.items) × Pictures general traitors.items drawing depth folded first text
+    KnowsTree (is_toml first) first general traitors.items
+    × Pictures general traitors.items drawing depth folded first text
 Prints (Draw scenario course) first second text = Draws course first second text
 Prints (Page scenario course target) first second text = TellsPage course first second text
 Prints (Retrace scenario (OfChronicle file)) first second text = Retraces first second text

@@ -6,7 +6,6 @@ use Rattle.command_line.specs.declared.tasks.Course.{Course}
 use Rattle.command_line.specs.declared.tasks.Course.TheVariants.{Scheduled, Recorded}
 use Rattle.diagram.specs.Svg.{svg_text}
 use Rattle.retold.specs.Retold.{table_of}
-use Rattle.round.specs.Scenario.{Scenario}
 use Rattle.scenario.specs.Told.{TellsAny}
 use Rattle.scenario.specs.declared.messages.Campaign.{Campaign}
 use Rattle.scenario.specs.declared.messages.Campaign.TheVariants.{Oral, Signed}
@@ -17,20 +16,25 @@ use Rattle.trace.specs.SignedAudit.{IsSoundSignedText, signed_chronicle_told}
 use Rattle.world.specs.declared.schedule.Repeat.{Repeat}
 use Rattle.world.specs.Chronicle.{Chronicle}
 use Rattle.lab.specs.Campaigns.{IsSchedule, played, signed_played}
+use Rattle.lab.specs.Promises.{KeepsPromises, KeepsSignedPromises}
 
 -- the picture is that of the chronicle and of the message table that its own letters tell
 abbrev pub IsDiagram : Chronicle → List ℕ → Type 0
 IsDiagram c picture = (table : MessageTable) × (table_told (table_of c) ≡ Ok table) × (picture ≡ svg_text table c)
 
--- the picture is that of the campaign's chronicle by a schedule
+-- the picture is that of the campaign's chronicle by a schedule, which keeps what is promised
 abbrev pub IsCampaignDrawn : Campaign → List (List Repeat) → List ℕ → Type 0
-IsCampaignDrawn (Oral s) schedule picture = IsDiagram (played s schedule) picture
-IsCampaignDrawn (Signed s) schedule picture = picture ≡ signed_svg (signed_played s schedule)
+IsCampaignDrawn (Oral s) schedule picture = IsDiagram (played s schedule) picture × KeepsPromises s (played s schedule)
+IsCampaignDrawn (Signed s) schedule picture =
+    (picture ≡ signed_svg (signed_played s schedule)) × KeepsSignedPromises s (signed_played s schedule)
 
--- the bytes are the text of a chronicle of the campaign, and this is its picture
+-- the bytes are the text of a chronicle of the campaign, which keeps what is promised, and this is its picture
 abbrev pub IsRecordDrawn : Campaign → List ℕ → List ℕ → Type 0
-IsRecordDrawn (Oral s) bytes picture = IsSoundText s bytes × IsDiagram (chronicle_told s bytes) picture
-IsRecordDrawn (Signed s) bytes picture = IsSoundSignedText s bytes × (picture ≡ signed_svg (signed_chronicle_told s bytes))
+IsRecordDrawn (Oral s) bytes picture =
+    IsSoundText s bytes × IsDiagram (chronicle_told s bytes) picture × KeepsPromises s (chronicle_told s bytes)
+IsRecordDrawn (Signed s) bytes picture =
+    IsSoundSignedText s bytes × (picture ≡ signed_svg (signed_chronicle_told s bytes))
+    × KeepsSignedPromises s (signed_chronicle_told s bytes)
 
 -- the first file's bytes tell a campaign, and the picture is that of its chronicle by the schedule that the second's tell, or of the
 -- chronicle whose text they are; there is no schedule but the empty one, and no byte of a chronicle, where there is no second file

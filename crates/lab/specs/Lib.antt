@@ -7,6 +7,7 @@ pub mod Whys
 pub mod Hints
 pub mod Lines
 pub mod Pages
+pub mod Promises
 pub mod Parts
 pub mod Picturing
 pub mod Reading

@@ -6,7 +6,6 @@ use Rattle.campaign_page.specs.Account.{page_text}
 use Rattle.command_line.specs.declared.tasks.Course.{Course}
 use Rattle.command_line.specs.declared.tasks.Course.TheVariants.{Scheduled, Recorded}
 use Rattle.retold.specs.Retold.{table_of}
-use Rattle.round.specs.Scenario.{Scenario}
 use Rattle.scenario.specs.Told.{TellsAny}
 use Rattle.scenario.specs.declared.messages.Campaign.{Campaign}
 use Rattle.scenario.specs.declared.messages.Campaign.TheVariants.{Oral, Signed}
@@ -17,20 +16,27 @@ use Rattle.trace.specs.SignedAudit.{IsSoundSignedText, signed_chronicle_told}
 use Rattle.world.specs.declared.schedule.Repeat.{Repeat}
 use Rattle.world.specs.Chronicle.{Chronicle}
 use Rattle.lab.specs.Campaigns.{IsSchedule, played, signed_played}
+use Rattle.lab.specs.Promises.{KeepsPromises, KeepsSignedPromises}
 
 -- the page is that of the chronicle, of the message table that its own letters tell, of the scenario's text, and of the schedule, if it was played by one
 abbrev pub IsPage : List ℕ → Option (List (List Repeat)) → Chronicle → List ℕ → Type 0
 IsPage text schedule c page = (table : MessageTable) × (table_told (table_of c) ≡ Ok table) × (page ≡ page_text text schedule table c)
 
--- the page is that of the campaign's chronicle by a schedule, of the scenario's text
+-- the page is that of the campaign's chronicle by a schedule, which keeps what is promised, and of the scenario's text
 abbrev pub IsCampaignPaged : Campaign → List ℕ → List (List Repeat) → List ℕ → Type 0
-IsCampaignPaged (Oral s) text schedule page = IsPage text (Some schedule) (played s schedule) page
-IsCampaignPaged (Signed s) text schedule page = page ≡ signed_page_text text (Some schedule) (signed_played s schedule)
+IsCampaignPaged (Oral s) text schedule page =
+    IsPage text (Some schedule) (played s schedule) page × KeepsPromises s (played s schedule)
+IsCampaignPaged (Signed s) text schedule page =
+    (page ≡ signed_page_text text (Some schedule) (signed_played s schedule))
+    × KeepsSignedPromises s (signed_played s schedule)
 
--- the bytes are the text of a chronicle of the campaign, and this is its page
+-- the bytes are the text of a chronicle of the campaign, which keeps what is promised, and this is its page
 abbrev pub IsRecordTold : Campaign → List ℕ → List ℕ → List ℕ → Type 0
-IsRecordTold (Oral s) text bytes page = IsSoundText s bytes × IsPage text None (chronicle_told s bytes) page
-IsRecordTold (Signed s) text bytes page = IsSoundSignedText s bytes × (page ≡ signed_page_text text None (signed_chronicle_told s bytes))
+IsRecordTold (Oral s) text bytes page =
+    IsSoundText s bytes × IsPage text None (chronicle_told s bytes) page × KeepsPromises s (chronicle_told s bytes)
+IsRecordTold (Signed s) text bytes page =
+    IsSoundSignedText s bytes × (page ≡ signed_page_text text None (signed_chronicle_told s bytes))
+    × KeepsSignedPromises s (signed_chronicle_told s bytes)
 
 -- the first file's bytes tell a campaign, and the page has them, and is that of its chronicle by the schedule that the second's tell, or
 -- of the chronicle whose text they are; there is no schedule but the empty one, and no byte of a chronicle, where there is no second file

@@ -1,5 +1,5 @@
 -- What is drawn of a message table.
-use Rattle.std.specs.Prelude.{ℕ, ◌≡◌, Bool, true, false, List, [], is_some}
+use Rattle.std.specs.Prelude.{ℕ, Bool, true, false, List, [], ◌++◌, is_some}
 use Rattle.command_line.specs.declared.tasks.Drawing.{Drawing}
 use Rattle.command_line.specs.declared.tasks.Drawing.TheVariants as drawings
 use Rattle.drawing.specs.Drawn.{DrawsTable}
@@ -7,7 +7,7 @@ use Rattle.drawing.specs.declared.form.Form.{Form}
 use Rattle.drawing.specs.declared.form.Form.TheVariants.{Lines, Graph, Svg}
 use Rattle.drawing.specs.declared.node.Style.TheVariants.{Ascii, Boxes}
 use Rattle.drawing.specs.declared.node.View.{View}
-use Rattle.retold.specs.Retold.{table_of}
+use Rattle.retold.specs.Retold.{table_of, traitors_of}
 use Rattle.round.specs.Scenario.{Scenario}
 use Rattle.scenario.specs.Told.{Tells}
 use Rattle.toml.specs.Parse.{parse_document}
@@ -24,13 +24,14 @@ form_of drawings.Svg = Svg
 abbrev pub is_toml : List ℕ → Bool
 is_toml text = is_some (parse_document text)
 
--- the message table that a text is, or which the letters of the oral campaign tell that it tells, without a schedule
-abbrev pub IsTableIn : Bool → List ℕ → List ℕ → Type 0
-IsTableIn false text table = table ≡ text
-IsTableIn true text table = (s : Scenario) × Tells text s × (table ≡ table_of (played s []))
+-- what the general was told by a message table, or by the letters of the oral campaign that a text tells, without a schedule;
+-- drawn with these named as traitors, and of a campaign with its own besides
+abbrev pub IsTreeIn : Bool → List ℕ → List ℕ → View → Form → ℕ → List ℕ → Type 0
+IsTreeIn false text named view form general picture = DrawsTable text named view form general picture
+IsTreeIn true text named view form general picture =
+    (s : Scenario) × Tells text s × DrawsTable (table_of (played s [])) (traitors_of s ++ named) view form general picture
 
 -- the file tells a message table or an oral campaign, and this is what the general was told, drawn so far
 abbrev pub Pictures : ℕ → List ℕ → Drawing → ℕ → Bool → List ℕ → List ℕ → Type 0
-Pictures general traitors drawing depth folded first text =
-    (table : List ℕ) × IsTableIn (is_toml first) first table
-    × DrawsTable table traitors (record { depth = depth; folds = folded }) (form_of drawing) general text
+Pictures general named drawing depth folded first text =
+    IsTreeIn (is_toml first) first named (record { depth = depth; folds = folded }) (form_of drawing) general text

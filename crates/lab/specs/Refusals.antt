@@ -1,5 +1,5 @@
 -- Why a task does not take a file of some bytes.
-use Rattle.std.specs.Prelude.{ℕ, ◌≡◌, ◌≢◌, ◌⊎◌, ◌/◌, ◌%◌, Bool, true, false, List, ◌∷◌, Option, Some, None, Ok, Err, length, option_map, string_bytes}
+use Rattle.std.specs.Prelude.{ℕ, ◌≡◌, ◌≢◌, ◌⊎◌, ◌/◌, ◌%◌, Bool, true, false, List, Option, Some, None, Ok, Err, length, option_map, string_bytes}
 use Rattle.std.specs.Str.{IsUtf8}
 use Rattle.insn.specs.declared.insn.Insn.{Insn}
 use Rattle.codec.specs.Program.{IsFirstFault, SpellsProgram}
@@ -47,7 +47,7 @@ use Rattle.partial.specs.Reading.{bytes_said}
 use Rattle.tables.specs.Numbers.{HasGenerals as AreNumbersOf, numbers_in}
 use Rattle.lab.specs.Campaigns.{is_chronicle}
 use Rattle.lab.specs.Picturing.{is_toml}
-use Rattle.lab.specs.Strangers.{HasGenerals, liars, stranger_among}
+use Rattle.lab.specs.Strangers.{HasGenerals, HasNumbers, liars, stranger_among, stranger_to_tree}
 use Rattle.lab.specs.declared.refusal.Refusal.{Refusal}
 use Rattle.lab.specs.declared.refusal.Refusal.TheVariants.{Codec, Object, Verifier, Assembly, Table, Scenario, Setting, Trace, Threads, Accesses, Stranger, NotText, Memory}
 
@@ -143,19 +143,24 @@ RefusesScenario text (Scenario error) = (error ≢ scenario.Memory) × Reads (pa
 RefusesScenario text Memory = Unit {0}
 RefusesScenario text _ = ⊥
 
--- the text tells no table or, where it is TOML, no oral campaign; or it tells one of so many generals, and this is the first of those who
--- are named that is none of them
-abbrev pub RefusesEither : Bool → List ℕ → List ℕ → Refusal → Type 0
-RefusesEither toml named text (Stranger general generals) = HasGenerals toml text generals × (stranger_among generals named ≡ Some general)
-RefusesEither false named text refusal = RefusesTable text refusal
-RefusesEither true named text refusal = RefusesScenario text refusal
-
--- a message table, and those who are named with it
+-- the text tells no table; or it tells one of so many generals, and this is the first of those who are named that is
+-- none of them
 abbrev pub RefusesNaming : List ℕ → List ℕ → Refusal → Type 0
-RefusesNaming named text refusal = RefusesEither false named text refusal
+RefusesNaming named text (Stranger general generals) =
+    HasGenerals text generals × (stranger_among generals named ≡ Some general)
+RefusesNaming named text refusal = RefusesTable text refusal
 
-abbrev pub RefusesTree : List ℕ → List ℕ → Refusal → Type 0
-RefusesTree named text refusal = RefusesEither (is_toml text) named text refusal
+-- the text tells no table or, where it is TOML, no oral campaign; or it tells one, and this is no lieutenant of it whose
+-- tree could be drawn, or else the first of those named as traitors who is none of its generals
+abbrev pub RefusesTreeIn : Bool → ℕ → List ℕ → List ℕ → Refusal → Type 0
+RefusesTreeIn toml general traitors text (Stranger own generals) =
+    (commander : ℕ) × HasNumbers toml text generals commander
+    × (stranger_to_tree generals commander general traitors ≡ Some own)
+RefusesTreeIn false general traitors text refusal = RefusesTable text refusal
+RefusesTreeIn true general traitors text refusal = RefusesScenario text refusal
+
+abbrev pub RefusesTree : ℕ → List ℕ → List ℕ → Refusal → Type 0
+RefusesTree general traitors text refusal = RefusesTreeIn (is_toml text) general traitors text refusal
 
 -- the text tells no campaign, oral or signed, by this first fault
 abbrev pub RefusesCampaign : List ℕ → Refusal → Type 0
@@ -269,7 +274,8 @@ Refuses (Play scenario schedule account explained) bytes refusal = RefusesText (
 Refuses (Muster scenario explained) bytes refusal = RefusesText RefusesScenario bytes refusal
 Refuses (Audit scenario chronicle explained) bytes refusal = RefusesText RefusesCampaign bytes refusal
 Refuses (Explore scenario most folder) bytes refusal = RefusesText RefusesScenario bytes refusal
-Refuses (Tree file general traitors drawing depth folded) bytes refusal = RefusesText (RefusesTree (general ∷ traitors.items)) bytes refusal
+Refuses (Tree file general traitors drawing depth folded) bytes refusal =
+    RefusesText (RefusesTree general traitors.items) bytes refusal
 Refuses (Draw scenario course) bytes refusal = RefusesText RefusesCampaign bytes refusal
 Refuses (Page scenario course target) bytes refusal = RefusesText RefusesCampaign bytes refusal
 Refuses (Retrace scenario (OfChronicle file)) bytes refusal = RefusesText RefusesScenario bytes refusal

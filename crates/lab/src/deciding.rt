@@ -1,4 +1,4 @@
-ghost use Rattle.std.specs.Prelude.{◌≡◌, false, IfOk, IfErr, Ok, OnOk, string_bytes};
+ghost use Rattle.std.specs.Prelude.{◌≡◌, IfOk, IfErr, Ok, OnOk, string_bytes};
 ghost use Rattle.book.specs.Grammar.{table_told};
 ghost use Rattle.tables.specs.Answers.{DecidesTable, ExplainsTable};
 ghost use Rattle.lab.specs.Refusals.{RefusesNaming, RefusesTable};
@@ -28,7 +28,7 @@ pub fn decided(alloc: Global, text: &str) -> Result<String, Refusal>
 /// What the table refuses; the first who is named and is none of its generals; or want of memory.
 #[tactic(auto, using(crate::proofs::StrangerLemmas::of_table, crate::proofs::StrangerLemmas::unread_table, crate::proofs::StrangerLemmas::strange_to_table))]
 pub fn explained(alloc: Global, text: &str, traitors: &[u8]) -> Result<String, Refusal>
-    ensures known { OnOk result (KnowsAll false text.now traitors.now) }
+    ensures known { OnOk result (KnowsAll text.now traitors.now) }
     ensures explained { IfOk result (λ lines. ExplainsTable text.now traitors.now (string_bytes lines)) }
     ensures refused { IfErr result (RefusesNaming traitors.now text.now) }
 {

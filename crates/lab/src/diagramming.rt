@@ -1,6 +1,5 @@
 //! Campaigns as pictures.
 ghost use Rattle.std.specs.Prelude.{◌≡◌, IfErr, IfOk};
-ghost use Rattle.lab.specs.Campaigns.{played, signed_played};
 ghost use Rattle.lab.specs.Diagrams.{IsCampaignDrawn, IsDiagram, IsRecordDrawn};
 ghost use Rattle.lab.specs.Refusals.{RefusesChronicle, RefusesText};
 ghost use Rattle.retold.specs.Retold.{IsWhole};
@@ -38,13 +37,13 @@ pub fn diagrammed(
 }
 
 /// An oral one.
-#[tactic(auto, using(crate::proofs::CampaignLemmas::played_wholly, crate::proofs::DiagramLemmas::of_same))]
+#[tactic(auto, using(crate::proofs::CampaignLemmas::played_wholly, crate::proofs::DiagramLemmas::of_same, crate::proofs::PromiseLemmas::played_kept))]
 fn oral_diagrammed(
     alloc: Global,
     scenario: Scenario,
     schedule: &Schedule,
 ) -> Result<Vec<u8>, AllocError>
-    ensures { IfOk result (λ picture. IsDiagram (played scenario schedule.now) picture.items) }
+    ensures { IfOk result (λ picture. IsCampaignDrawn (Oral scenario) schedule.now picture.items) }
 {
     scenario.recall();
     let chronicle = play(alloc, scenario, schedule)?;
@@ -52,14 +51,15 @@ fn oral_diagrammed(
 }
 
 /// A signed one.
-#[tactic(auto, using(crate::proofs::DiagramLemmas::of_signed))]
+#[tactic(auto, using(crate::proofs::DiagramLemmas::of_signed, crate::proofs::PromiseLemmas::signed_played_kept))]
 fn signed_diagrammed(
     alloc: Global,
     scenario: Scenario,
     schedule: &Schedule,
 ) -> Result<Vec<u8>, AllocError>
-    ensures { IfOk result (λ picture. picture.items ≡ signed_svg (signed_played scenario schedule.now)) }
+    ensures { IfOk result (λ picture. IsCampaignDrawn (Signed scenario) schedule.now picture.items) }
 {
+    scenario.recall();
     let chronicle = play_signed(alloc, scenario, schedule)?;
     Ok(signed_diagram_of(alloc, &chronicle)?)
 }
@@ -84,7 +84,7 @@ pub fn record_diagrammed(
 }
 
 /// An oral one.
-#[tactic(auto, using(crate::proofs::CampaignLemmas::told_wholly, crate::proofs::DiagramLemmas::of_same))]
+#[tactic(auto, using(crate::proofs::CampaignLemmas::told_wholly, crate::proofs::DiagramLemmas::of_same, crate::proofs::PromiseLemmas::told_kept))]
 fn oral_record_diagrammed(
     alloc: Global,
     scenario: &Scenario,
@@ -99,7 +99,7 @@ fn oral_record_diagrammed(
 }
 
 /// A signed one.
-#[tactic(auto, using(crate::proofs::DiagramLemmas::of_signed))]
+#[tactic(auto, using(crate::proofs::DiagramLemmas::of_signed, crate::proofs::PromiseLemmas::signed_told_kept))]
 fn signed_record_diagrammed(
     alloc: Global,
     scenario: &Scenario,
@@ -108,6 +108,7 @@ fn signed_record_diagrammed(
     ensures drawn { IfOk result (λ picture. IsRecordDrawn (Signed scenario.now) bytes.now picture.items) }
     ensures refused { IfErr result (RefusesText (RefusesChronicle (Signed scenario.now)) bytes.now) }
 {
+    scenario.recall();
     let chronicle = sound_signed_chronicle(alloc, scenario, as_text(bytes)?)?;
     Ok(signed_diagram_of(alloc, &chronicle)?)
 }

@@ -1,6 +1,5 @@
 //! Campaigns as pages.
 ghost use Rattle.std.specs.Prelude.{◌≡◌, IfErr, IfOk, None, Some, option_map};
-ghost use Rattle.lab.specs.Campaigns.{played, signed_played};
 ghost use Rattle.lab.specs.Pages.{IsCampaignPaged, IsPage, IsRecordTold};
 ghost use Rattle.lab.specs.Refusals.{RefusesChronicle, RefusesText};
 ghost use Rattle.retold.specs.Retold.{IsWhole};
@@ -39,14 +38,14 @@ pub fn paged(
 }
 
 /// An oral one.
-#[tactic(auto, using(crate::proofs::CampaignLemmas::played_wholly, crate::proofs::PageLemmas::of_same))]
+#[tactic(auto, using(crate::proofs::CampaignLemmas::played_wholly, crate::proofs::PageLemmas::of_same, crate::proofs::PromiseLemmas::played_kept))]
 fn oral_paged(
     alloc: Global,
     text: &str,
     scenario: Scenario,
     schedule: &Schedule,
 ) -> Result<Vec<u8>, AllocError>
-    ensures { IfOk result (λ page. IsPage text.now (Some schedule.now) (played scenario schedule.now) page.items) }
+    ensures { IfOk result (λ page. IsCampaignPaged (Oral scenario) text.now schedule.now page.items) }
 {
     scenario.recall();
     let chronicle = play(alloc, scenario, schedule)?;
@@ -54,15 +53,16 @@ fn oral_paged(
 }
 
 /// A signed one.
-#[tactic(auto, using(crate::proofs::PageLemmas::of_signed))]
+#[tactic(auto, using(crate::proofs::PageLemmas::of_signed, crate::proofs::PromiseLemmas::signed_played_kept))]
 fn signed_paged(
     alloc: Global,
     text: &str,
     scenario: Scenario,
     schedule: &Schedule,
 ) -> Result<Vec<u8>, AllocError>
-    ensures { IfOk result (λ page. page.items ≡ signed_page_text text.now (Some schedule.now) (signed_played scenario schedule.now)) }
+    ensures { IfOk result (λ page. IsCampaignPaged (Signed scenario) text.now schedule.now page.items) }
 {
+    scenario.recall();
     let chronicle = play_signed(alloc, scenario, schedule)?;
     Ok(signed_page_of(alloc, text, Some(schedule), &chronicle)?)
 }
@@ -88,7 +88,7 @@ pub fn record_paged(
 }
 
 /// An oral one.
-#[tactic(auto, using(crate::proofs::CampaignLemmas::told_wholly, crate::proofs::PageLemmas::of_same))]
+#[tactic(auto, using(crate::proofs::CampaignLemmas::told_wholly, crate::proofs::PageLemmas::of_same, crate::proofs::PromiseLemmas::told_kept))]
 fn oral_record_paged(
     alloc: Global,
     text: &str,
@@ -104,7 +104,7 @@ fn oral_record_paged(
 }
 
 /// A signed one.
-#[tactic(auto, using(crate::proofs::PageLemmas::of_signed))]
+#[tactic(auto, using(crate::proofs::PageLemmas::of_signed, crate::proofs::PromiseLemmas::signed_told_kept))]
 fn signed_record_paged(
     alloc: Global,
     text: &str,
@@ -114,6 +114,7 @@ fn signed_record_paged(
     ensures told { IfOk result (λ page. IsRecordTold (Signed scenario.now) text.now bytes.now page.items) }
     ensures refused { IfErr result (RefusesText (RefusesChronicle (Signed scenario.now)) bytes.now) }
 {
+    scenario.recall();
     let chronicle = sound_signed_chronicle(alloc, scenario, as_text(bytes)?)?;
     Ok(signed_page_of(alloc, text, None, &chronicle)?)
 }

@@ -1,29 +1,30 @@
-ghost use Rattle.std.specs.Prelude.{◌≡◌, ◌∷◌, ℕ, List, [], true, false, IfErr, IfOk, OnOk, string_bytes};
+ghost use Rattle.std.specs.Prelude.{◌≡◌, ◌++◌, [], true, false, IfErr, IfOk, OnOk, string_bytes};
 ghost use Rattle.drawing.specs.Drawn.{DrawsTable};
 ghost use Rattle.lab.specs.Campaigns.{played};
-ghost use Rattle.lab.specs.Picturing.{IsTableIn, form_of, is_toml};
-ghost use Rattle.lab.specs.Refusals.{RefusesEither, RefusesNaming, RefusesScenario, RefusesTree};
-ghost use Rattle.lab.specs.Strangers.{KnowsAll};
-ghost use Rattle.retold.specs.Retold.{IsWhole, table_of};
+ghost use Rattle.lab.specs.Picturing.{IsTreeIn, form_of, is_toml};
+ghost use Rattle.lab.specs.Refusals.{RefusesScenario, RefusesTree, RefusesTreeIn};
+ghost use Rattle.lab.specs.Strangers.{KnowsTree};
+ghost use Rattle.retold.specs.Retold.{IsWhole, table_of, traitors_of};
 ghost use Rattle.scenario.specs.Told.{Tells};
 
 use crate::deciding::table_in;
 use crate::refusal::Refusal;
-use crate::strangers::know_each;
+use crate::strangers::know_tree;
 use command_line::Drawing;
 use drawing::{Form, Style, View, drawn, tree_drawn};
-use retold::{hearing, told_table};
+use retold::{hearing, told_table, traitors};
 use round::Scenario;
 use std::alloc::{AllocError, Global};
 use world::{Chronicle, Schedule, play};
 
 /// What this general was told by the message table or, where the text is TOML, in the oral campaign that it tells, without a
-/// schedule; drawn so far, where these generals are named as traitors. Nothing where he is the commander.
+/// schedule; drawn so far, where these generals are named as traitors, and the campaign's own besides.
 ///
 /// # Errors
 ///
-/// What the table or the scenario refuses; he, or else the first who is named, if that is none of its generals; or want of memory.
-#[tactic(auto, using(crate::proofs::PicturingLemmas::of_table, crate::proofs::PicturingLemmas::of_campaign, crate::proofs::PicturingLemmas::no_table, crate::proofs::PicturingLemmas::no_campaign, crate::proofs::PicturingLemmas::known_in))]
+/// What the table or the scenario refuses; he, if he is no lieutenant of it, since a commander is told nothing; the first
+/// who is named and is none of its generals; or want of memory.
+#[tactic(auto, using(crate::proofs::PicturingLemmas::of_table, crate::proofs::PicturingLemmas::of_campaign, crate::proofs::PicturingLemmas::not_drawn, crate::proofs::PicturingLemmas::known_in))]
 pub fn pictured(
     alloc: Global,
     text: &str,
@@ -32,10 +33,9 @@ pub fn pictured(
     drawing: Drawing,
     view: View,
 ) -> Result<String, Refusal>
-    ensures known { OnOk result (KnowsAll (is_toml text.now) text.now (general ∷ traitors.now)) }
-    ensures drawn { IfOk result (λ picture. (table : List ℕ) × IsTableIn (is_toml text.now) text.now table
-        × DrawsTable table traitors.now view (form_of drawing) general (string_bytes picture)) }
-    ensures refused { IfErr result (RefusesTree (general ∷ traitors.now) text.now) }
+    ensures known { OnOk result (KnowsTree (is_toml text.now) text.now general traitors.now) }
+    ensures drawn { IfOk result (λ picture. IsTreeIn (is_toml text.now) text.now traitors.now view (form_of drawing) general (string_bytes picture)) }
+    ensures refused { IfErr result (RefusesTree general traitors.now text.now) }
 {
     let form = form(drawing);
     if !is_toml(alloc, text)? {
@@ -46,7 +46,7 @@ pub fn pictured(
 }
 
 /// What he was told by the message table.
-#[tactic(auto, using(crate::proofs::StrangerLemmas::of_table, crate::proofs::StrangerLemmas::unread_table, crate::proofs::StrangerLemmas::strange_to_table))]
+#[tactic(auto, using(crate::proofs::StrangerLemmas::tree_of_table, crate::proofs::StrangerLemmas::no_table_to_draw, crate::proofs::StrangerLemmas::strange_to_tree))]
 fn table_pictured(
     alloc: Global,
     text: &str,
@@ -55,28 +55,29 @@ fn table_pictured(
     form: Form,
     general: u8,
 ) -> Result<String, Refusal>
-    ensures known { OnOk result (KnowsAll false text.now (general ∷ traitors.now)) }
+    ensures known { OnOk result (KnowsTree false text.now general traitors.now) }
     ensures drawn { IfOk result (λ picture. DrawsTable text.now traitors.now view form general (string_bytes picture)) }
-    ensures refused { IfErr result (RefusesNaming (general ∷ traitors.now) text.now) }
+    ensures refused { IfErr result (RefusesTreeIn false general traitors.now text.now) }
 {
-    know_each(table_in(alloc, text)?.generals(), general, traitors)?;
+    let table = table_in(alloc, text)?;
+    know_tree(table.generals(), table.commander(), general, traitors)?;
     Ok(drawn(alloc, text, traitors, view, form, general)?)
 }
 
-/// The oral campaign that the text tells, of whose generals all are that are named.
-#[tactic(auto, using(crate::proofs::StrangerLemmas::of_scenario, crate::proofs::StrangerLemmas::unread_scenario, crate::proofs::StrangerLemmas::strange_to_scenario))]
+/// The oral campaign that the text tells, of which he is a lieutenant, and all who are named are generals.
+#[tactic(auto, using(crate::proofs::StrangerLemmas::tree_of_scenario, crate::proofs::StrangerLemmas::no_campaign_to_draw, crate::proofs::StrangerLemmas::strange_to_campaign))]
 fn known_scenario(
     alloc: Global,
     text: &str,
     general: u8,
-    others: &[u8],
+    traitors: &[u8],
 ) -> Result<Scenario, Refusal>
-    ensures known { OnOk result (KnowsAll true text.now (general ∷ others.now)) }
+    ensures known { OnOk result (KnowsTree true text.now general traitors.now) }
     ensures told { IfOk result (Tells text.now) }
-    ensures refused { IfErr result (RefusesEither true (general ∷ others.now) text.now) }
+    ensures refused { IfErr result (RefusesTreeIn true general traitors.now text.now) }
 {
     let scenario = scenario_in(alloc, text)?;
-    know_each(scenario.generals(), general, others)?;
+    know_tree(scenario.generals(), scenario.commander(), general, traitors)?;
     Ok(scenario)
 }
 
@@ -103,24 +104,26 @@ fn is_toml(alloc: Global, text: &str) -> Result<bool, AllocError>
     }
 }
 
-/// What he was told in the campaign.
+/// What he was told in the campaign, whose own traitors are named besides.
 #[tactic(auto, using(crate::proofs::CampaignLemmas::played_wholly, crate::proofs::PicturingLemmas::of_same))]
 fn campaign_pictured(
     alloc: Global,
     scenario: Scenario,
-    traitors: &[u8],
+    named: &[u8],
     view: View,
     form: Form,
     general: u8,
 ) -> Result<String, AllocError>
-    ensures { IfOk result (λ picture. DrawsTable (table_of (played scenario [])) traitors.now view form general (string_bytes picture)) }
+    ensures { IfOk result (λ picture. DrawsTable (table_of (played scenario [])) (traitors_of scenario ++ named.now) view form general (string_bytes picture)) }
 {
     scenario.recall();
+    let mut all = traitors(alloc, &scenario)?;
+    all.extend_from_slice(named)?;
     let schedule = Schedule {
         lines: Vec::new(alloc),
     };
     let chronicle = play(alloc, scenario, &schedule)?;
-    Ok(chronicle_pictured(alloc, &chronicle, traitors, view, form, general)?)
+    Ok(chronicle_pictured(alloc, &chronicle, all.as_slice(), view, form, general)?)
 }
 
 /// What he was told in the campaign of a chronicle, by the message table that its letters tell.

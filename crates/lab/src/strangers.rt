@@ -1,6 +1,6 @@
 //! Generals whom the words name, and who may be none of a table's or a campaign's.
-ghost use Rattle.std.specs.Prelude.{◌≡◌, ◌∷◌, nat_le, None, IfErr, OnOk};
-ghost use Rattle.lab.specs.Strangers.{IsStranger, stranger_among};
+ghost use Rattle.std.specs.Prelude.{◌≡◌, nat_le, None, IfErr, OnOk};
+ghost use Rattle.lab.specs.Strangers.{IsStranger, IsStrangerToTree, stranger_among, stranger_to_tree};
 
 use crate::refusal::Refusal;
 
@@ -38,17 +38,23 @@ pub(crate) fn know_all(generals: u8, named: &[u8]) -> Result<(), Refusal>
     }
 }
 
-/// Makes sure that this one and all who are named with him are of so many generals.
+/// Makes sure that this one is a lieutenant of so many generals under this commander, and that all who are named as
+/// traitors are of them.
 ///
 /// # Errors
 ///
-/// The first who is none of them, he before the others.
-pub(crate) fn know_each(generals: u8, general: u8, others: &[u8]) -> Result<(), Refusal>
-    ensures known { OnOk result (stranger_among generals (general ∷ others.now) ≡ None) }
-    ensures refused { IfErr result (IsStranger generals (general ∷ others.now)) }
+/// He, or else the first of the others who is none of them.
+pub(crate) fn know_tree(
+    generals: u8,
+    commander: u8,
+    general: u8,
+    traitors: &[u8],
+) -> Result<(), Refusal>
+    ensures known { OnOk result (stranger_to_tree generals commander general traitors.now ≡ None) }
+    ensures refused { IfErr result (IsStrangerToTree generals commander general traitors.now) }
 {
-    if is_stranger(generals, general) {
+    if is_stranger(generals, general) || general == commander {
         return Err(Refusal::Stranger { general, generals });
     }
-    know_all(generals, others)
+    know_all(generals, traitors)
 }

@@ -1,4 +1,4 @@
-use Rattle.std.proofs.Common.{◌≡◌, ◌∙◌, sym, add-one}
+use Rattle.std.proofs.Common.{◌∙◌, sym, add-one}
 use Rattle.std.specs.Prelude.{nat_le, slice_index}
 use Rattle.std.proofs.lemmas.Option.{slice_get-get_or}
 use Rattle.lab.proofs.StrangerLemmas.{found_here, none_more}
