@@ -30,7 +30,7 @@ use Rattle.trace.specs.Text.{chronicle_text}
 use Rattle.world.specs.Chronicle.{Chronicle}
 use Rattle.world.specs.declared.schedule.Repeat.{Repeat}
 use Rattle.world.specs.declared.verdict.Verdict.{Verdict}
-use Rattle.campaign_page.specs.Account.{access_heads, access_row, accesses_heading, accesses_part, alike_told, bound_told, chronicle_heading, chronicle_shown, chronicle_part, course_told, general_name, helper_words, lieutenant_part, lieutenant_told, lieutenant_words, lieutenants_heading, lieutenants_part, obeyed_told, page_text, parts, picture_heading, picture_name, picture_part, picture_told, program_if, program_part, programs_heading, programs_part, recorded_words, scenario_heading, scenario_part, schedule_heading, schedule_part, title, unscheduled_words, verdict_heading, verdict_part, verdict_told, view, why_part}
+use Rattle.campaign_page.specs.Account.{access_heads, access_row, accesses_heading, accesses_part, alike_told, bound_told, chronicle_heading, chronicle_shown, chronicle_part, course_told, general_name, helper_words, lieutenant_part, lieutenant_told, lieutenant_words, lieutenants_heading, lieutenants_part, obeyed_told, page_text, parts, picture_heading, picture_name, picture_part, picture_told, program_if, program_part, no_programs, programs_heading, programs_part, programs_told, recorded_words, scenario_heading, scenario_part, schedule_heading, schedule_part, title, unscheduled_words, verdict_heading, verdict_part, verdict_told, view, why_part}
 use Rattle.campaign_page.specs.Trees.{item_by, items_below, label_item, node_by, root_told, tree_told}
 use Rattle.campaign_page.specs.Laws.{CampaignPagesAreElements}
 
@@ -59,9 +59,14 @@ program_content g (Some program) =
     proved_parts_are_content.fold (general_name g) (paragraph helper_words ++ begun_lines (explained program))
     (joined (paragraph helper_words) (begun_lines (explained program)) (proved_parts_are_content.paragraph helper_words) (proved_parts_are_content.begun_lines (explained program)))
 
+told_content : (programs : List ℕ) → IsContent programs → IsContent (programs_told programs)
+told_content [] c = proved_parts_are_content.paragraph no_programs
+told_content (x ∷ xs) c = c
+
 pub programs_content : (s : Scenario) → IsContent (programs_part s)
 programs_content s =
-    below programs_heading (flat_map (program_part s) (range_with_len 0 s.generals)) (all (program_part s) (range_with_len 0 s.generals) (λ g. program_content g (program_of s g)))
+    let programs : List ℕ = flat_map (program_part s) (range_with_len 0 s.generals) in
+    below programs_heading (programs_told programs) (told_content programs (all (program_part s) (range_with_len 0 s.generals) (λ g. program_content g (program_of s g))))
 
 -- a picture that is an element, and a line feed
 pub svg_content : (svg element : List ℕ) → IsElement element → svg ≡ element ++ codes "\n" → IsContent (picture_told svg)

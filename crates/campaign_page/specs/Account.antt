@@ -92,8 +92,15 @@ program_if g (Some program) = program_told g program
 abbrev pub program_part : Scenario → ℕ → List ℕ
 program_part s g = program_if g (program_of s g)
 
+unfoldable pub no_programs : List ℕ
+no_programs = codes "None: all generals are loyal."
+
+abbrev pub programs_told : List ℕ → List ℕ
+programs_told [] = paragraph no_programs
+programs_told (c ∷ cs) = c ∷ cs
+
 abbrev pub programs_part : Scenario → List ℕ
-programs_part s = heading programs_heading ++ flat_map (program_part s) (range_with_len 0 s.generals)
+programs_part s = heading programs_heading ++ programs_told (flat_map (program_part s) (range_with_len 0 s.generals))
 
 -- the picture
 abbrev pub picture_told : List ℕ → List ℕ

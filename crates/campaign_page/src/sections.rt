@@ -1,7 +1,7 @@
 //! Sections with a part for each general.
 ghost use Rattle.std.specs.Prelude.{◌≡◌, ◌<◌, ◌++◌, flat_map, option_map, string_bytes, IfOk, OnOk};
 ghost use Rattle.std.specs.List.{range_with_len};
-ghost use Rattle.campaign_page.specs.Account.{lieutenants_heading, programs_heading, lieutenant_part, lieutenant_words, lieutenants_part, program_part, program_told, programs_part, traitor_words, why_part, general_name, helper_words, view};
+ghost use Rattle.campaign_page.specs.Account.{lieutenants_heading, no_programs, programs_heading, programs_told, lieutenant_part, lieutenant_words, lieutenants_part, program_part, program_told, programs_part, traitor_words, why_part, general_name, helper_words, view};
 ghost use Rattle.label.specs.Labels.{on};
 ghost use Rattle.retold.specs.Retold.{traitors_of};
 ghost use Rattle.round.specs.Scenario.{program_of};
@@ -36,8 +36,28 @@ pub(crate) fn put_programs_of(
 pub fn put_programs(alloc: Global, out: &mut String, scenario: &Scenario) -> Result<(), AllocError>
     ensures { OnOk result (string_bytes out.new ≡ string_bytes out.old ++ programs_part scenario.now) }
 {
+    let mut programs = String::new(alloc);
+    put_each_program(alloc, &mut programs, scenario)?;
     put_heading(out, programs_heading())?;
-    put_each_program(alloc, out, scenario)
+    put_programs_told(out, programs.as_str())
+}
+
+/// Adds these programs, or that there is none.
+fn put_programs_told(out: &mut String, programs: &str) -> Result<(), AllocError>
+    ensures { OnOk result (string_bytes out.new ≡ string_bytes out.old ++ programs_told programs.now) }
+{
+    if programs.is_empty() {
+        return put_paragraph(out, no_programs());
+    }
+    out.push_str(programs)
+}
+
+/// What is said where there is no traitor.
+#[tactic(auto, unfolding(crate::specs::Account::no_programs))]
+fn no_programs() -> &'static str
+    ensures { result.now ≡ no_programs }
+{
+    "None: all generals are loyal."
 }
 
 /// Adds that of each traitor.

@@ -480,10 +480,11 @@ foot_content c wide top =
 
 abbrev key_words : List ℕ
 key_words =
-    codes "A column for each general, and a band for each round, from above. In a band a line leads from who tells something to who"
-    ++ codes "m he tells it, as wide as he tells it of labels, and below stands in the column of the receiver what he was told. Circle and p"
-    ++ codes "lain line: as an honest relay tells it. Diamond and dashes: something else. Cross and dots: nothing, where something was to be"
-    ++ codes " told. Above the lines stand the accesses to the board, in its order. Square: a traitor."
+    codes "A column for each general, and a band for each round, from above. In a band a line leads down from who tells something"
+    ++ codes " to whom he tells it, as wide as he tells it of labels, up to 5, and below stands in the column of the receiver what h"
+    ++ codes "e was told. Circle and plain line: as an honest relay tells it. Diamond and dashes: something else. Cross and dots: no"
+    ++ codes "thing, where something was to be told. Above the lines stand the accesses to the board, in its order. Square: a traito"
+    ++ codes "r."
 
 key_content : IsContent key
 unfolding key

@@ -79,12 +79,16 @@ fn push_stroke(
     Ok(())
 }
 
-/// Whether the same was told of a label before this place.
+/// Whether the same was told of a label before this place: mostly it was not long before, so the last are looked at first.
+#[tactic(auto, using(crate::proofs::FoldLemmas::known_backwards))]
 fn is_known(tellings: &[Telling], place: usize, telling: &Telling) -> bool
     requires place { place ≤ length tellings.now }
     ensures { result ≡ list_any (is_same telling.now) (take place tellings.now) }
 {
-    tellings[..place].iter().any(|x| is_same(telling, x))
+    tellings[..place]
+        .iter()
+        .rev()
+        .any(|x| is_same(telling, x))
 }
 
 /// The stroke of what was told, with this row.
