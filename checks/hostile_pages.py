@@ -1,9 +1,9 @@
 """The campaigns that checks/browser has pages and pictures of, besides the examples, and files with faults that it must see."""
 
 
-def campaign(generals, bound, commander, order, traitors, before=""):
+def campaign(generals, bound, commander, order, traitors, before="", more=""):
     """A scenario whose traitors, by their numbers, have these programs."""
-    text = f"{before}generals = {generals}\nbound = {bound}\ncommander = {commander}\norder = {order}\n"
+    text = f"{before}generals = {generals}\nbound = {bound}\ncommander = {commander}\norder = {order}\n{more}"
     for general, program in sorted(traitors.items()):
         text += f"\n[[traitor]]\ngeneral = {general}\nasm = '''\n{program}'''\n"
     return text
@@ -31,6 +31,16 @@ mov.w r2, -1
 call sway
 exit
 """
+# Orders that differ in one unit, signed for half of the generals each; and all that is held, passed on to all.
+SIGNS = """mov.w r1, -1
+mov r2, 2730
+call sign_order
+mov.w r1, -2
+mov r2, 5460
+call sign_order
+exit
+"""
+PASSES = "".join(f"mov r1, {place}\nmov r2, 8191\ncall pass_on\n" for place in range(8)) + "exit\n"
 MARKUP = f"""# </pre></p></details></main><script>document.title = "taken"</script>
 # <img src="https://example.org/a.png" onerror="alert(1)"/><svg onload="alert(2)">
 # <!-- a comment without an end, ]]> <![CDATA[ &lt; &amp; &#0; &nosuch; '"` </style></title>
@@ -52,6 +62,7 @@ SCENARIOS = {
     "large.toml": campaign(5, 1, 4, 2**32 - 1, {0: LARGEST, 4: LARGEST}),
     "two.toml": campaign(2, 0, 1, 0, {1: SILENT}),
     "thirteen.toml": campaign(13, 4, 0, 2**32 - 1, {general: LIAR for general in (2, 4, 8, 12)}, "# Thirteen generals.\n"),
+    "signed.toml": campaign(13, 4, 0, 2**32 - 1, {0: SIGNS, 3: PASSES, 11: PASSES, 12: SILENT}, more='messages = "signed"\n'),
     "thirteen_traitors.toml": campaign(13, 4, 12, 2**32 - 1, {general: COUNTS for general in range(13)}),
 }
 
