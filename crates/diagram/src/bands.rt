@@ -5,7 +5,7 @@ ghost use Rattle.diagram.specs.Shapes.{text_at, title};
 ghost use Rattle.diagram.specs.Words.{access_words, row_words, shown_words, stroke_words};
 ghost use Rattle.diagram.specs.Bands.{access_at, accesses_from, band, bands, board_line, drawn, general_life, inside, life, lives, point, round_words, row, stroke_line};
 
-use crate::layout::{access_top, board, column, fan_top, height, rows_top, top_of};
+use crate::layout::{access_top, accesses_before, board, column, fan_top, height, rows_top, top_of};
 use crate::shapes::{
     put_group_end, put_group_start, put_line, put_mark, put_stroke_end, put_stroke_start,
     put_text_end, put_text_start, put_title_end, put_title_start,
@@ -163,14 +163,9 @@ pub fn put_accesses(
 ) -> Result<(), AllocError>
     ensures { OnOk result (string_bytes out.new ≡ string_bytes out.old ++ accesses_from generals accesses.now round 0 accesses.now) }
 {
+    let before = accesses_before(accesses, round);
     for (place, access) in accesses.iter().enumerate() {
-        put_access(
-            out,
-            generals,
-            access_top(accesses, round, place),
-            round,
-            access,
-        )?;
+        put_access(out, generals, access_top(before, place), round, access)?;
     }
     Ok(())
 }
