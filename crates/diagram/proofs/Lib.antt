@@ -1,3 +1,4 @@
+pub mod ExactLaws
 pub mod FoldLemmas
 pub mod LayoutLemmas
 pub mod LoyalLaws

@@ -2,7 +2,7 @@
 use Rattle.std.proofs.Common.{ℕ, zero, suc, ◌+◌, ◌<◌, ◌≤◌, ◌≡◌, ◌≢◌, Bool, true, false, not, List, [], ◌∷◌, ◌++◌, length, length-append, refl, sym, ap, subst, ◌∙◌, arith, inl, inr, Option, Some, None}
 use Rattle.std.proofs.lemmas.Bool.{cases_Bool, cond_both, eq-eqb, eqb-false, or_parts}
 use Rattle.std.proofs.lemmas.List.Elements.{All-from_recursion}
-use Rattle.std.specs.Prelude.{◌==◌, codes}
+use Rattle.std.specs.Prelude.{◌==◌, codes, count_by, take}
 use Rattle.std.specs.List.{AllByRecursion, flat_map, list_any}
 use Rattle.label.specs.Labels.{on, others}
 use Rattle.label.specs.Oral.{IsFaithful, IsLabel, Messages, heard, taken}
@@ -22,7 +22,7 @@ use Rattle.world.specs.World.{opening, run}
 use Rattle.world.proofs.Agreeing.{proved_worlds_agree}
 use Rattle.diagram.specs.declared.stroke.Stroke.{Stroke}
 use Rattle.diagram.specs.declared.telling.Telling.{Telling}
-use Rattle.diagram.specs.Facts.{added, first_telling, is_same, made, strokes_below, strokes_of, strokes_to, strokes_with, telling_at, tellings_below, tellings_by, tellings_of}
+use Rattle.diagram.specs.Facts.{added, first_telling, is_before, is_same, made, strokes_below, strokes_of, strokes_to, strokes_with, telling_at, tellings_below, tellings_by, tellings_of}
 use Rattle.diagram.specs.Laws.{OnlyTraitorsDiffer}
 use Rattle.diagram.specs.Words.{kind, kind_of}
 
@@ -56,7 +56,9 @@ added_plain : (traitor : ℕ → Bool) (p : ℕ) (all : List Telling) (place : �
     → IsHonest traitor telling → AllByRecursion (IsPlain traitor) done → AllByRecursion (IsPlain traitor) (added p all place done telling)
 unfolding added
 added_plain traitor p all place done telling here a =
-    cond_both (list_any (is_same telling) _) done _ (AllByRecursion (IsPlain traitor)) (λ _. a) (λ _. all-append (IsPlain traitor) done _ a (here, tt))
+    let new : List Stroke = made p all telling (count_by (is_before telling.round p) done) ∷ [] in
+    let last : AllByRecursion (IsPlain traitor) new = (here, tt) in
+    cond_both (list_any (is_same telling) (take place all)) done (done ++ new) (AllByRecursion (IsPlain traitor)) (λ _. a) (λ _. all-append (IsPlain traitor) done new a last)
 
 below_plain : (traitor : ℕ → Bool) (p : ℕ) (all : List Telling) (place : ℕ) (done : List Stroke) (rest : List Telling)
     → AllByRecursion (IsHonest traitor) rest → AllByRecursion (IsPlain traitor) done → AllByRecursion (IsPlain traitor) (strokes_below p all place done rest)
@@ -132,8 +134,9 @@ proved_only_traitors_differ = record {
       let present : s.commander < s.generals = is.commander in
       let n = table.generals in
       let c = table.commander in
-      All-from_recursion _ (strokes_of t s.order)
-      (weaker (IsPlain (is_traitor s)) _ (strokes_of t s.order) (λ stroke plain loyal. (plain loyal, drawn_plain stroke.differs stroke.told (plain loyal)))
+      let R : Stroke → Type 0 = λ stroke. is_traitor s stroke.teller ≡ false → (stroke.differs ≡ false) × (kind stroke ≡ codes "told") in
+      All-from_recursion R (strokes_of t s.order)
+      (weaker (IsPlain (is_traitor s)) R (strokes_of t s.order) (λ stroke plain loyal. (plain loyal, drawn_plain stroke.differs stroke.told (plain loyal)))
       (to_plain M s.order (is_traitor s) t table.told (omega arith) third t.generals (omega arith)));
   honest = λ t w j p e. told_so (taken (told t.messages) w j) (told t.messages (w ++ j ∷ []) p) e;
 }

@@ -1,6 +1,6 @@
 -- Laws of what is drawn. Each is the contract of a function of this crate.
-use Rattle.std.specs.Prelude.{ℕ, ◌≡◌, false, List, [], ◌∷◌, ◌++◌, codes, Some}
-use Rattle.std.specs.List.{All}
+use Rattle.std.specs.Prelude.{ℕ, ◌≡◌, ◌≢◌, ◌<◌, ◌==◌, ◌&&◌, Bool, false, if◌then◌else◌, List, [], ◌∷◌, ◌++◌, count_by, codes, Some}
+use Rattle.std.specs.List.{All, list_any}
 use Rattle.label.specs.Oral.{taken}
 use Rattle.markup.specs.Grammar.{IsElement}
 use Rattle.book.specs.Table.{MessageTable, told}
@@ -11,7 +11,9 @@ use Rattle.world.specs.Agreement.{IsFinished}
 use Rattle.world.specs.Chronicle.{Chronicle}
 use Rattle.world.specs.World.{opening, run}
 use Rattle.world.specs.declared.event.Event.{Event}
-use Rattle.diagram.specs.Facts.{strokes_of, telling_at}
+use Rattle.diagram.specs.declared.stroke.Stroke.{Stroke}
+use Rattle.diagram.specs.declared.telling.Telling.{Telling}
+use Rattle.diagram.specs.Facts.{is_same, strokes_of, telling_at, tellings_of}
 use Rattle.diagram.specs.Svg.{svg_text}
 use Rattle.diagram.specs.Words.{kind}
 
@@ -27,3 +29,18 @@ pub record OnlyTraitorsDiffer : Type 0 where
       All (λ stroke. is_traitor s stroke.teller ≡ false → (stroke.differs ≡ false) × (kind stroke ≡ codes "told")) (strokes_of t s.order)
   pub honest : (t : MessageTable) (w : List ℕ) (j p : ℕ) → told t.messages (w ++ j ∷ []) p ≡ Some (taken (told t.messages) w j) →
       (telling_at t w j p).differs ≡ false
+
+-- what a stroke tells of each of its labels, and that it is the one of what p was told
+abbrev pub told_by : Stroke → Telling
+told_by stroke = record { round = stroke.round; teller = stroke.teller; told = stroke.told; differs = stroke.differs }
+
+abbrev pub is_of : ℕ → Telling → Stroke → Bool
+is_of p telling stroke = stroke.receiver == p && is_same telling (told_by stroke)
+
+-- of all labels of a round of which one general told a lieutenant the same there is one stroke, and none of what he was not told;
+-- and each is as wide as it has labels
+pub record StrokesAreExact : Type 0 where
+  pub once : (t : MessageTable) (order p : ℕ) (telling : Telling) → p < t.generals → p ≢ t.commander →
+      count_by (is_of p telling) (strokes_of t order) ≡ (if list_any (is_same telling) (tellings_of t order p) then 1 else 0)
+  pub wide : (t : MessageTable) (order : ℕ) →
+      All (λ stroke. stroke.labels ≡ count_by (is_same (told_by stroke)) (tellings_of t order stroke.receiver)) (strokes_of t order)

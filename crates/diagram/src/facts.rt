@@ -80,7 +80,6 @@ fn push_stroke(
 }
 
 /// Whether the same was told of a label before this place: mostly it was not long before, so the last are looked at first.
-#[tactic(auto, using(crate::proofs::FoldLemmas::known_backwards))]
 fn is_known(tellings: &[Telling], place: usize, telling: &Telling) -> bool
     requires place { place ≤ length tellings.now }
     ensures { result ≡ list_any (is_same telling.now) (take place tellings.now) }

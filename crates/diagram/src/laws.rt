@@ -1,5 +1,5 @@
 //! Laws of what is drawn: each function does nothing, and its contract is the law.
-ghost use Rattle.diagram.specs.Laws.{DiagramsAreElements, OnlyTraitorsDiffer};
+ghost use Rattle.diagram.specs.Laws.{DiagramsAreElements, OnlyTraitorsDiffer, StrokesAreExact};
 
 /// A picture is one element of XML, whatever the table and the chronicle.
 pub fn diagrams_are_elements()
@@ -10,4 +10,9 @@ pub fn diagrams_are_elements()
 /// red.
 pub fn only_traitors_differ()
     ensures { OnlyTraitorsDiffer }
+{}
+
+/// There is one stroke for each round, sender, receiver and order, as wide as the labels of which it was told.
+pub fn strokes_are_exact()
+    ensures { StrokesAreExact }
 {}
