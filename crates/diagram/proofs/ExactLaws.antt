@@ -30,13 +30,13 @@ same_bool false false e = refl
 
 same_is : (x y : Telling) → is_same x y ≡ true → x ≡ y
 same_is x y e =
-    let a : Bool = x.round == y.round in
-    let b : Bool = x.teller == y.teller in
+    let a : Bool = x.teller == y.teller in
+    let b : Bool = x.round == y.round in
     let three = and_parts (a && b && is_same_told x.told y.told) (is_alike x.differs y.differs) e in
     let two = and_parts (a && b) (is_same_told x.told y.told) three.0 in
     let one = and_parts a b two.0 in
-    let er : x.round ≡ y.round = eqb-true x.round y.round one.0 in
-    let et : x.teller ≡ y.teller = eqb-true x.teller y.teller one.1 in
+    let er : x.round ≡ y.round = eqb-true x.round y.round one.1 in
+    let et : x.teller ≡ y.teller = eqb-true x.teller y.teller one.0 in
     let eo : x.told ≡ y.told = same_told x.told y.told two.1 in
     let ed : x.differs ≡ y.differs = same_bool x.differs y.differs three.1 in
     λ i. record { round = er i; teller = et i; told = eo i; differs = ed i }

@@ -140,12 +140,13 @@ fn is_alike(one: bool, other: bool) -> bool
     if one { other } else { !other }
 }
 
-/// Whether both make one stroke.
+/// Whether both make one stroke: mostly another general tells it, so this is looked at first.
+#[inline(always)]
 fn is_same(one: &Telling, other: &Telling) -> bool
     ensures { result ≡ is_same one.now other.now }
 {
-    one.round == other.round
-        && one.teller == other.teller
+    one.teller == other.teller
+        && one.round == other.round
         && is_same_told(one.told, other.told)
         && is_alike(one.differs, other.differs)
 }
