@@ -20,7 +20,7 @@ use Rattle.trace.specs.Text.{chronicle_text}
 use Rattle.world.specs.Chronicle.{Chronicle}
 use Rattle.world.specs.declared.schedule.Repeat.{Repeat}
 use Rattle.campaign_page.specs.Account.{accesses_part, chronicle_part, lieutenant_part, lieutenant_told, lieutenant_words, lieutenants_heading, lieutenants_part, page_text, parts, picture_part, programs_part, scenario_part, schedule_part, title, verdict_part, view, why_part}
-use Rattle.campaign_page.specs.Laws.{FoldsHideNothing, StandsIn}
+use Rattle.campaign_page.specs.Laws.{FoldsHideNothing, StandsIn, IsShownIn as Shows}
 use Rattle.campaign_page.specs.Trees.{item_by, items_below, label_item, root_told, tree_told}
 
 -- what stands in a text stands in a longer one
@@ -32,10 +32,6 @@ ahead part whole after is = (is.0, is.1 ++ after, ap (λ v. v ++ after) is.2 ∙
 
 between : (part whole before after : List ℕ) → StandsIn part whole → StandsIn part (before ++ whole ++ after)
 between part whole before after is = ahead part (before ++ whole) after (behind part whole before is)
-
--- what is said of a label stands in a text
-abbrev Shows : List ℕ → Node → Type 0
-Shows whole node = StandsIn (shown (said node)) whole
 
 weaker : (P Q : Node → Type 0) (xs : List Node) → ((x : Node) → P x → Q x) → AllByRecursion P xs → AllByRecursion Q xs
 weaker P Q [] h a = tt
@@ -129,8 +125,8 @@ lieutenant_stands part t traitors p general lieutenant is =
 pub proved_folds_hide_nothing : FoldsHideNothing
 proved_folds_hide_nothing words schedule t c p general lieutenant =
     let traitors : List ℕ = traitors_of c.scenario in
-    All-from_recursion _ (nodes_of t traitors view p)
-    (weaker (Shows (tree_told t traitors view p)) _ (nodes_of t traitors view p)
+    All-from_recursion (Shows (page_text words schedule t c)) (nodes_of t traitors view p)
+    (weaker (Shows (tree_told t traitors view p)) (Shows (page_text words schedule t c)) (nodes_of t traitors view p)
     (λ node is.
     let part : List ℕ = shown (said node) in
     part_stands part words schedule t c (lieutenant_stands part t traitors p general lieutenant is))

@@ -120,7 +120,9 @@ lieutenant_words g is_traitor order = codes "Lieutenant " ++ (decimal g ++ (trai
 
 -- of five rounds, in which he may have more than a thousand lists, who tells them
 unfoldable pub elsewhere_words : ℕ → List ℕ
-elsewhere_words g = codes "Of five rounds a page has no room for the lists by which he decides so: play, of a chronicle audit, tells them with --explain --of " ++ (decimal g ++ codes ".")
+elsewhere_words g =
+    codes "Of five rounds a page has no room for the lists by which he decides so: play, of a chronicle audit, tells them"
+    ++ codes " with --explain --of " ++ (decimal g ++ codes ".")
 
 abbrev pub why_part : MessageTable → List ℕ → ℕ → List ℕ
 why_part t traitors g = if nat_lt t.bound 4 then lines (explained_one t traitors g) else paragraph (elsewhere_words g)
@@ -155,14 +157,17 @@ chronicle_part c = chronicle_shown (chronicle_text c)
 
 -- the verdict, and which promise holds (TOPLAS 1982, IC1 and IC2)
 unfoldable pub promise_words : List ℕ
-promise_words = codes "The bound holds: there are few enough traitors, so that loyal lieutenants decide alike, and obey a loyal commander, whatever the traitors do."
+promise_words =
+    codes "The bound holds: there are few enough traitors, so that loyal lieutenants decide alike, and obey a loyal "
+    ++ codes "commander, whatever the traitors do."
 
 abbrev pub bound_told : Bool → List ℕ
 bound_told true = promise_words
 bound_told false = bound_words false
 
 abbrev pub verdict_told : Verdict → List ℕ → List ℕ
-verdict_told v bound = heading verdict_heading ++ paragraph (alike_words v.alike) ++ paragraph (obeyed_words v.obeyed) ++ paragraph bound
+verdict_told v bound =
+    heading verdict_heading ++ paragraph (alike_words v.alike) ++ paragraph (obeyed_words v.obeyed) ++ paragraph bound
 
 abbrev pub verdict_part : Verdict → List ℕ
 verdict_part v = verdict_told v (bound_told v.bound)

@@ -6,6 +6,7 @@ use Rattle.asm.specs.Helper.{helper_of as number_of}
 use Rattle.book.specs.Table.{MessageTable}
 use Rattle.drawing.specs.Shown.{nodes_of}
 use Rattle.drawing.specs.Words.{said}
+use Rattle.drawing.specs.declared.node.Node.{Node}
 use Rattle.page.specs.Page.{shown}
 use Rattle.retold.specs.Retold.{traitors_of}
 use Rattle.semantics.specs.Call.{helper_of}
@@ -25,12 +26,19 @@ CampaignPagesAreElements =
 abbrev pub StandsIn : List ℕ → List ℕ → Type 0
 StandsIn part whole = (before : List ℕ) × (after : List ℕ) × (whole ≡ before ++ part ++ after)
 
--- of each lieutenant, what is said of every label that his tree shows stands in the page: a fold that is shut leaves none out
+-- what is said of a label stands in a page
+abbrev pub IsShownIn : List ℕ → Node → Type 0
+IsShownIn text node = StandsIn (shown (said node)) text
+
+-- so it is of every label that a lieutenant's tree shows: a fold that is shut leaves none out
 abbrev pub FoldsHideNothing : Type 0
 FoldsHideNothing =
-    (scenario : List ℕ) (schedule : Option (List (List Repeat))) (t : MessageTable) (c : Chronicle) (p : ℕ) → p < t.generals → p ≢ t.commander
-    → All (λ node. StandsIn (shown (said node)) (page_text scenario schedule t c)) (nodes_of t (traitors_of c.scenario) view p)
+    (scenario : List ℕ) (schedule : Option (List (List Repeat))) (t : MessageTable) (c : Chronicle) (p : ℕ)
+    → p < t.generals → p ≢ t.commander
+    → All (IsShownIn (page_text scenario schedule t c)) (nodes_of t (traitors_of c.scenario) view p)
 
 -- the assembler takes a name that stands in a call for the number of that helper
 abbrev pub NamesAreRead : Type 0
-NamesAreRead = (helper : Helper) → (number : ℤ) × (helper_of number ≡ Some helper) × (number_of (helper_name helper) ≡ Some number)
+NamesAreRead =
+    (helper : Helper)
+    → (number : ℤ) × (helper_of number ≡ Some helper) × (number_of (helper_name helper) ≡ Some number)

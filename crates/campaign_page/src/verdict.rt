@@ -45,7 +45,8 @@ fn bound_told(bound: bool) -> &'static str
 pub fn promise_words() -> &'static str
     ensures { result.now ≡ promise_words }
 {
-    "The bound holds: there are few enough traitors, so that loyal lieutenants decide alike, and obey a loyal commander, whatever the traitors do."
+    "The bound holds: there are few enough traitors, so that loyal lieutenants decide alike, and obey a loyal \
+     commander, whatever the traitors do."
 }
 
 /// The heading of the verdict.

@@ -1,7 +1,7 @@
 -- Each thing that a lieutenant was told has one stroke.
-use Rattle.std.proofs.Common.{ℕ, zero, suc, ◌+◌, ◌-◌, ◌<◌, ◌≤◌, ◌≡◌, ◌≢◌, Bool, true, false, not, ◌&&◌, ◌||◌, cond, List, [], ◌∷◌, ◌++◌, length, length-append, refl, sym, ap, subst, ◌∙◌, append_assoc, append-nil, arith, inl, inr, Option, Some, None}
+use Rattle.std.proofs.Common.{ℕ, zero, suc, ◌+◌, ◌-◌, ◌≤◌, ◌≡◌, ◌≢◌, Bool, true, false, ◌&&◌, ◌||◌, cond, List, [], ◌∷◌, ◌++◌, length, length-append, refl, sym, ap, ◌∙◌, append_assoc, append-nil, arith, inl, inr, Option, Some, None}
 use Rattle.std.proofs.Math.Seq.{take-append_seam}
-use Rattle.std.proofs.lemmas.Bool.{and_parts, cases_Bool, cond-true, cond-false, cond_both, eq-eqb, eqb-true, ne_eqb}
+use Rattle.std.proofs.lemmas.Bool.{and_parts, cases_Bool, cond-false, cond_both, eq-eqb, eqb-true, ne_eqb}
 use Rattle.std.proofs.lemmas.List.Elements.{All-from_recursion}
 use Rattle.std.proofs.lemmas.List.Folds.{list_any-append}
 use Rattle.std.proofs.lemmas.List.Sums.{sum_by-append}
@@ -12,7 +12,7 @@ use Rattle.book.specs.Table.{MessageTable}
 use Rattle.diagram.specs.declared.stroke.Stroke.{Stroke}
 use Rattle.diagram.specs.declared.telling.Telling.{Telling}
 use Rattle.diagram.specs.Facts.{added, is_alike, is_before, is_same, is_same_told, made, strokes_below, strokes_of, strokes_to, strokes_with, tellings_of}
-use Rattle.diagram.specs.Laws.{StrokesAreExact, is_of, told_by}
+use Rattle.diagram.specs.Laws.{StrokesAreExact, is_of, labels_told}
 
 -- ---- what is the same is equal
 
@@ -154,7 +154,7 @@ module _ (p : ℕ) (q : Telling) where
 -- ---- how wide
 
 abbrev IsWide : MessageTable → ℕ → Stroke → Type 0
-IsWide t order stroke = stroke.labels ≡ count_by (is_same (told_by stroke)) (tellings_of t order stroke.receiver)
+IsWide t order stroke = stroke.labels ≡ labels_told t order stroke
 
 added_wide : (t : MessageTable) (order p place : ℕ) (done : List Stroke) (x : Telling) → AllByRecursion (IsWide t order) done → AllByRecursion (IsWide t order) (added p (tellings_of t order p) place done x)
 unfolding added

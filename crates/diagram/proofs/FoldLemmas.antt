@@ -1,5 +1,5 @@
 -- What is gathered of a list, one of it after another.
-use Rattle.std.proofs.Common.{ℕ, zero, suc, ◌+◌, ◌<◌, ◌≤◌, ◌≡◌, List, [], ◌∷◌, ◌++◌, length, drop, get_or, ap, sym, ◌∙◌, append_assoc, append-nil, arith}
+use Rattle.std.proofs.Common.{ℕ, suc, ◌+◌, ◌<◌, ◌≤◌, ◌≡◌, List, ◌∷◌, ◌++◌, length, drop, get_or, ap, sym, ◌∙◌, append_assoc, append-nil, arith}
 use Rattle.std.proofs.lemmas.List.{drop_all, drop_more}
 use Rattle.std.proofs.lemmas.List.Sorted.{IsPermutation-reverse, list_any-IsPermutation}
 use Rattle.std.specs.List.{list_any}
@@ -9,7 +9,7 @@ use Rattle.book.specs.Table.{MessageTable}
 use Rattle.diagram.specs.declared.stroke.Stroke.{Stroke}
 use Rattle.diagram.specs.declared.telling.Telling.{Telling}
 use Rattle.diagram.specs.Bands.{access_at, accesses_from}
-use Rattle.diagram.specs.Facts.{added, strokes_below, strokes_of, strokes_to, strokes_with}
+use Rattle.diagram.specs.Facts.{added, strokes_below, strokes_to, strokes_with}
 use Rattle.diagram.specs.Layout.{access_top}
 
 -- one access more, and all of them

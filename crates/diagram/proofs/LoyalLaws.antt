@@ -1,11 +1,11 @@
 -- What is drawn of loyal generals.
-use Rattle.std.proofs.Common.{ℕ, zero, suc, ◌+◌, ◌<◌, ◌≤◌, ◌≡◌, ◌≢◌, Bool, true, false, not, List, [], ◌∷◌, ◌++◌, length, length-append, refl, sym, ap, subst, ◌∙◌, arith, inl, inr, Option, Some, None}
-use Rattle.std.proofs.lemmas.Bool.{cases_Bool, cond_both, eq-eqb, eqb-false, or_parts}
+use Rattle.std.proofs.Common.{ℕ, zero, suc, ◌+◌, ◌<◌, ◌≤◌, ◌≡◌, ◌≢◌, Bool, true, false, not, List, [], ◌∷◌, ◌++◌, length, length-append, refl, sym, ap, subst, ◌∙◌, arith, Option, Some}
+use Rattle.std.proofs.lemmas.Bool.{cond_both, eq-eqb, eqb-false, or_parts}
 use Rattle.std.proofs.lemmas.List.Elements.{All-from_recursion}
 use Rattle.std.specs.Prelude.{◌==◌, codes, count_by, take}
-use Rattle.std.specs.List.{AllByRecursion, flat_map, list_any}
+use Rattle.std.specs.List.{AllByRecursion, list_any}
 use Rattle.label.specs.Labels.{on, others}
-use Rattle.label.specs.Oral.{IsFaithful, IsLabel, Messages, heard, taken}
+use Rattle.label.specs.Oral.{IsFaithful, Messages, heard, taken}
 use Rattle.label.proofs.Counting.{others-on}
 use Rattle.label.proofs.Places.{all-append}
 use Rattle.book.specs.Conditions.{is_told}
@@ -15,16 +15,15 @@ use Rattle.book.proofs.Places.{all_flat}
 use Rattle.book.proofs.TreeLemmas.{place_of_tree}
 use Rattle.drawing.proofs.PlaceLemmas.{place_next, teller_told}
 use Rattle.round.specs.Letters.{messages}
-use Rattle.round.specs.Scenario.{Scenario, is_traitor}
-use Rattle.tables.specs.Laws.{IsTableOf}
+use Rattle.round.specs.Scenario.{is_traitor}
 use Rattle.tables.proofs.Reread.{apart_first, first_label, place_from}
 use Rattle.world.specs.World.{opening, run}
 use Rattle.world.proofs.Agreeing.{proved_worlds_agree}
 use Rattle.diagram.specs.declared.stroke.Stroke.{Stroke}
 use Rattle.diagram.specs.declared.telling.Telling.{Telling}
-use Rattle.diagram.specs.Facts.{added, first_telling, is_before, is_same, made, strokes_below, strokes_of, strokes_to, strokes_with, telling_at, tellings_below, tellings_by, tellings_of}
-use Rattle.diagram.specs.Laws.{OnlyTraitorsDiffer}
-use Rattle.diagram.specs.Words.{kind, kind_of}
+use Rattle.diagram.specs.Facts.{added, is_before, is_same, made, strokes_below, strokes_of, strokes_to, strokes_with, telling_at, tellings_below, tellings_by, tellings_of}
+use Rattle.diagram.specs.Laws.{IsDrawnHonest, OnlyTraitorsDiffer}
+use Rattle.diagram.specs.Words.{kind_of}
 
 -- who tells what he took does not differ
 told_so : (order : ℕ) (o : Option ℕ) → o ≡ Some order → not (is_told order o) ≡ false
@@ -125,16 +124,17 @@ weaker P Q (x ∷ xs) h a = (h x a.0, weaker P Q xs h a.1)
 pub proved_only_traitors_differ : OnlyTraitorsDiffer
 unfolding strokes_of
 proved_only_traitors_differ = record {
-  drawn = λ s events t is done table.
+  drawn = λ s events t is.
+      let table = is.table in
       let M : Messages = messages (run (opening s) events).closed in
       let P : ℕ → ℕ → ℕ → Type 0 = λ n m c. (g : ℕ) → g < n → is_traitor s g ≡ false → IsFaithful n c m s.order M g in
-      let first : P t.generals s.bound s.commander = subst (λ (n : ℕ). P n s.bound s.commander) (sym table.generals) (proved_worlds_agree.faithful s events is done) in
+      let first : P t.generals s.bound s.commander = subst (λ (n : ℕ). P n s.bound s.commander) (sym table.generals) (proved_worlds_agree.faithful s events is.scenario is.finished) in
       let second : P t.generals t.bound s.commander = subst (λ (m : ℕ). P t.generals m s.commander) (sym table.bound) first in
       let third : P t.generals t.bound t.commander = subst (λ (c : ℕ). P t.generals t.bound c) (sym table.commander) second in
-      let present : s.commander < s.generals = is.commander in
+      let present : s.commander < s.generals = is.scenario.commander in
       let n = table.generals in
       let c = table.commander in
-      let R : Stroke → Type 0 = λ stroke. is_traitor s stroke.teller ≡ false → (stroke.differs ≡ false) × (kind stroke ≡ codes "told") in
+      let R : Stroke → Type 0 = λ stroke. is_traitor s stroke.teller ≡ false → IsDrawnHonest stroke in
       All-from_recursion R (strokes_of t s.order)
       (weaker (IsPlain (is_traitor s)) R (strokes_of t s.order) (λ stroke plain loyal. (plain loyal, drawn_plain stroke.differs stroke.told (plain loyal)))
       (to_plain M s.order (is_traitor s) t table.told (omega arith) third t.generals (omega arith)));

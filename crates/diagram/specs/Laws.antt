@@ -21,14 +21,22 @@ use Rattle.diagram.specs.Words.{kind}
 abbrev pub DiagramsAreElements : Type 0
 DiagramsAreElements = (t : MessageTable) (c : Chronicle) → (text : List ℕ) × IsElement text × (svg_text t c ≡ text ++ codes "\n")
 
--- in a finished campaign, of whose messages t is the table, all strokes of a loyal general are drawn as an honest relay's, and
--- not in red; and whoever tells of a label what he took of it does not differ
+-- t is the table of the messages of a finished campaign of s, and tells them at all its places
+pub record IsFinishedTable (s : Scenario) (events : List Event) (t : MessageTable) : Type 0 where
+  pub scenario : IsScenario s
+  pub finished : IsFinished (run (opening s) events)
+  pub table : IsTableOf (messages (run (opening s) events).closed) s.generals s.bound s.commander s.rule t
+
+-- drawn as an honest relay's, and not in red
+abbrev pub IsDrawnHonest : Stroke → Type 0
+IsDrawnHonest stroke = (stroke.differs ≡ false) × (kind stroke ≡ codes "told")
+
+-- there all strokes of a loyal general are drawn so; and whoever tells of a label what he took of it does not differ
 pub record OnlyTraitorsDiffer : Type 0 where
-  pub drawn : (s : Scenario) (events : List Event) (t : MessageTable) → IsScenario s → IsFinished (run (opening s) events) →
-      IsTableOf (messages (run (opening s) events).closed) s.generals s.bound s.commander s.rule t →
-      All (λ stroke. is_traitor s stroke.teller ≡ false → (stroke.differs ≡ false) × (kind stroke ≡ codes "told")) (strokes_of t s.order)
-  pub honest : (t : MessageTable) (w : List ℕ) (j p : ℕ) → told t.messages (w ++ j ∷ []) p ≡ Some (taken (told t.messages) w j) →
-      (telling_at t w j p).differs ≡ false
+  pub drawn : (s : Scenario) (events : List Event) (t : MessageTable) → IsFinishedTable s events t →
+      All (λ stroke. is_traitor s stroke.teller ≡ false → IsDrawnHonest stroke) (strokes_of t s.order)
+  pub honest : (t : MessageTable) (w : List ℕ) (j p : ℕ) →
+      told t.messages (w ++ j ∷ []) p ≡ Some (taken (told t.messages) w j) → (telling_at t w j p).differs ≡ false
 
 -- what a stroke tells of each of its labels, and that it is the one of what p was told
 abbrev pub told_by : Stroke → Telling
@@ -37,10 +45,14 @@ told_by stroke = record { round = stroke.round; teller = stroke.teller; told = s
 abbrev pub is_of : ℕ → Telling → Stroke → Bool
 is_of p telling stroke = stroke.receiver == p && is_same telling (told_by stroke)
 
--- of all labels of a round of which one general told a lieutenant the same there is one stroke, and none of what he was not told;
--- and each is as wide as it has labels
+-- of how many labels the receiver was told so
+abbrev pub labels_told : MessageTable → ℕ → Stroke → ℕ
+labels_told t order stroke = count_by (is_same (told_by stroke)) (tellings_of t order stroke.receiver)
+
+-- of all labels of a round of which one general told a lieutenant the same there is one stroke, and none of what he was
+-- not told; and each is as wide as it has labels
 pub record StrokesAreExact : Type 0 where
   pub once : (t : MessageTable) (order p : ℕ) (telling : Telling) → p < t.generals → p ≢ t.commander →
-      count_by (is_of p telling) (strokes_of t order) ≡ (if list_any (is_same telling) (tellings_of t order p) then 1 else 0)
-  pub wide : (t : MessageTable) (order : ℕ) →
-      All (λ stroke. stroke.labels ≡ count_by (is_same (told_by stroke)) (tellings_of t order stroke.receiver)) (strokes_of t order)
+      count_by (is_of p telling) (strokes_of t order)
+      ≡ (if list_any (is_same telling) (tellings_of t order p) then 1 else 0)
+  pub wide : (t : MessageTable) (order : ℕ) → All (λ stroke. stroke.labels ≡ labels_told t order stroke) (strokes_of t order)

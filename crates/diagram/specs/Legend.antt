@@ -1,5 +1,5 @@
 -- What the marks of a picture mean, below its foot.
-use Rattle.std.specs.Prelude.{ℕ, true, false, List, ◌++◌, codes, Option, None, Some}
+use Rattle.std.specs.Prelude.{ℕ, true, false, List, ◌++◌, codes, None, Some}
 use Rattle.diagram.specs.Shapes.{group_at, mark, stroke_at, text_at}
 use Rattle.diagram.specs.Words.{outline_of}
 

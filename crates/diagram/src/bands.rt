@@ -5,7 +5,9 @@ ghost use Rattle.diagram.specs.Shapes.{text_at, title};
 ghost use Rattle.diagram.specs.Words.{access_words, row_words, shown_words, stroke_words};
 ghost use Rattle.diagram.specs.Bands.{access_at, accesses_from, band, bands, board_line, drawn, drawn_at, general_life, inside, life, lives, point, round_words, row, stroke_line};
 
-use crate::layout::{access_top, accesses_before, board, column, fan_top, height, rows_top, top_of};
+use crate::layout::{
+    access_top, accesses_before, board, column, fan_top, height, rows_top, top_of,
+};
 use crate::shapes::{
     put_group_end, put_group_start, put_line, put_mark, put_stroke_end, put_stroke_start,
     put_text_end, put_text_start, put_title_end, put_title_start,
@@ -247,7 +249,8 @@ fn put_drawn(
 ) -> Result<(), AllocError>
     requires top { top < 2 ^ 80 }
     requires below { below < 2 ^ 81 }
-    ensures { OnOk result (string_bytes out.new ≡ string_bytes out.old ++ drawn_at generals top below round stroke.now) }
+    ensures { OnOk result (string_bytes out.new
+        ≡ string_bytes out.old ++ drawn_at generals top below round stroke.now) }
 {
     if stroke.round != round as usize {
         return Ok(());

@@ -79,15 +79,13 @@ fn push_stroke(
     Ok(())
 }
 
-/// Whether the same was told of a label before this place: mostly it was not long before, so the last are looked at first.
+/// Whether the same was told of a label before this place: mostly it was not long before, so the last are looked at
+/// first.
 fn is_known(tellings: &[Telling], place: usize, telling: &Telling) -> bool
     requires place { place ≤ length tellings.now }
     ensures { result ≡ list_any (is_same telling.now) (take place tellings.now) }
 {
-    tellings[..place]
-        .iter()
-        .rev()
-        .any(|x| is_same(telling, x))
+    tellings[..place].iter().rev().any(|x| is_same(telling, x))
 }
 
 /// The stroke of what was told, with this row.

@@ -6,8 +6,8 @@ pub fn diagrams_are_elements()
     ensures { DiagramsAreElements }
 {}
 
-/// In a finished campaign only traitors tell something else than an honest relay, and who tells what he took is never drawn in
-/// red.
+/// In a finished campaign only traitors tell something else than an honest relay, and who tells what he took is never
+/// drawn in red.
 pub fn only_traitors_differ()
     ensures { OnlyTraitorsDiffer }
 {}

@@ -105,7 +105,8 @@ fn put_drawn(
 ) -> Result<(), AllocError>
     requires top { top < 2 ^ 80 }
     requires below { below < 2 ^ 81 }
-    ensures { OnOk result (string_bytes out.new ≡ string_bytes out.old ++ drawn_at generals top below round stroke.now) }
+    ensures { OnOk result (string_bytes out.new
+        ≡ string_bytes out.old ++ drawn_at generals top below round stroke.now) }
 {
     if stroke.stroke().round != round as usize {
         return Ok(());

@@ -1,6 +1,5 @@
-use Rattle.std.proofs.Common.{◌∙◌, ap, arith}
+use Rattle.std.proofs.Common.{arith}
 use Rattle.std.specs.String.{string_bytes}
-use Rattle.diagram.specs.Bands.{access_at}
 use Rattle.diagram.proofs.FoldLemmas.{access_more, accesses_all}
 use Rattle.diagram.proofs.bands.put_accesses.Goals as goal
 
