@@ -1,5 +1,5 @@
 -- Characters that are written as they are.
-use Rattle.std.proofs.Common.{ℕ, ◌+◌, ◌<◌, ◌≤◌, ◌≡◌, Bool, true, false, not, ◌&&◌, ◌||◌, List, [], ◌∷◌, ◌++◌, Option, Some, None, refl, sym, ap, ◌∙◌, arith, inl, inr, append-nil, encode_utf8, encode_utf8_all}
+use Rattle.std.proofs.Common.{ℕ, ◌<◌, ◌≤◌, ◌≡◌, Bool, true, not, ◌&&◌, ◌||◌, List, [], ◌∷◌, Option, Some, None, refl, sym, ap, ◌∙◌, arith, inl, inr, append-nil, encode_utf8, encode_utf8_all}
 use Rattle.std.specs.Prelude.{◌==◌, nat_le, is_none, unwrap_or}
 use Rattle.std.proofs.Math.Utf8.{encode}
 use Rattle.std.proofs.lemmas.Bool.{agree_below_at, and_parts, cond-false, cond-true, eqb-true, leb-true, not-true, or_cases, true≢false}

@@ -3,9 +3,7 @@ ghost use Rattle.std.specs.Prelude.{◌≡◌, ◌++◌, string_bytes, OnOk};
 ghost use Rattle.signed_diagram.specs.Foot.{bound_words, foot, verdict_lines};
 
 use crate::legend::put_legend;
-use diagram::foot::{
-    alike_words, bound_words as oral_bound_words, obeyed_words, put_decisions,
-};
+use diagram::foot::{alike_words, bound_words as oral_bound_words, obeyed_words, put_decisions};
 use diagram::shapes::{put_group_end, put_group_start, put_line, put_words};
 use signed::SignedChronicle;
 use std::alloc::AllocError;
