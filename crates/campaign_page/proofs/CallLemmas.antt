@@ -62,6 +62,7 @@ one_named program old new count text is so e =
 
 -- those of all
 pub all_named : (program : List Insn) (texts : List (String Global)) (count : ℕ) → AreNamed program texts count → count ≡ length (slots_of program) → in_lists [] texts ≡ named_calls program
+unfolding named_calls
 all_named program texts count is whole = λ i unit. (nothing unit i, told unit i)
   where
     nothing : (unit : ℕ) → text_or_none (slice_get [] unit) ≡ []

@@ -48,9 +48,9 @@ label_shows true node nodes below a =
     let first : StandsIn words whole = ahead words (fold_start (said node) ++ inner) fold_end (ahead words (fold_start (said node)) inner own) in (
       between words whole item_start item_end first,
       weaker (Shows below) (Shows (item whole)) nodes
-      (λ x is.
-      let said_so : List ℕ = shown (said x) in
-      between said_so whole item_start item_end (between said_so inner (fold_start (said node)) fold_end (between said_so below list_start list_end is))) a,
+          (λ x is.
+          let said_so : List ℕ = shown (said x) in
+          between said_so whole item_start item_end (between said_so inner (fold_start (said node)) fold_end (between said_so below list_start list_end is))) a,
     )
 label_shows false node nodes below a = ((codes "<li>", codes "</li>\n", refl), tt)
 
@@ -62,15 +62,15 @@ all_show F G (x ∷ xs) h =
     (weaker (Shows (G x)) (Shows (G x ++ flat_map G xs)) (F x) (λ node is. ahead (shown (said node)) (G x) (flat_map G xs) is) (h x))
     (weaker (Shows (flat_map G xs)) (Shows (G x ++ flat_map G xs)) (flat_map F xs) (λ node is. behind (shown (said node)) (flat_map G xs) (G x) is) (all_show F G xs h))
 
-items_show : (t : MessageTable) (traitors : List ℕ) (view : View) (k : ℕ) (w : List ℕ) (p : ℕ) → AllByRecursion (Shows (items_below t traitors view k w p)) (nodes_below t traitors view k w p)
+items_show : (t : MessageTable) (traitors : List ℕ) (v : View) (k : ℕ) (w : List ℕ) (p : ℕ) → AllByRecursion (Shows (items_below t traitors v k w p)) (nodes_below t traitors v k w p)
 unfolding items_below nodes_below
-items_show t traitors view zero w p = tt
-items_show t traitors view (suc k) w p =
-    all_show (λ j. nodes_by t traitors view k w j p) (item_by t traitors view k w p) (others t.generals (p ∷ w))
+items_show t traitors v zero w p = tt
+items_show t traitors v (suc k) w p =
+    all_show (λ j. nodes_by t traitors v k w j p) (item_by t traitors v k w p) (others t.generals (p ∷ w))
     (λ j.
-    let node : Node = node_at t traitors view (mark_at t traitors w j p) k (w ++ j ∷ []) p in
-    label_shows (is_open node.extent) node (nodes_below t traitors (deeper view) k (w ++ j ∷ []) p) (items_below t traitors (deeper view) k (w ++ j ∷ []) p)
-    (items_show t traitors (deeper view) k (w ++ j ∷ []) p))
+    let node : Node = node_at t traitors v (mark_at t traitors w j p) k (w ++ j ∷ []) p in
+    label_shows (is_open node.extent) node (nodes_below t traitors (deeper v) k (w ++ j ∷ []) p) (items_below t traitors (deeper v) k (w ++ j ∷ []) p)
+    (items_show t traitors (deeper v) k (w ++ j ∷ []) p))
 
 root_shows : (b : Bool) (node : Node) (nodes : List Node) (below : List ℕ) → AllByRecursion (Shows below) nodes
     → AllByRecursion (Shows (paragraph (said node) ++ (if b then list below else []))) (node ∷ (if b then nodes else []))
@@ -78,7 +78,7 @@ root_shows true node nodes below a =
     let words : List ℕ = shown (said node) in (
       ahead words (paragraph (said node)) (list below) (codes "<p>", codes "</p>\n", refl),
       weaker (Shows below) (Shows (paragraph (said node) ++ list below)) nodes
-      (λ x is. behind (shown (said x)) (list below) (paragraph (said node)) (between (shown (said x)) below list_start list_end is)) a,
+          (λ x is. behind (shown (said x)) (list below) (paragraph (said node)) (between (shown (said x)) below list_start list_end is)) a,
     )
 root_shows false node nodes below a = (ahead (shown (said node)) (paragraph (said node)) [] (codes "<p>", codes "</p>\n", refl), tt)
 
@@ -120,7 +120,7 @@ lieutenant_stands part t traitors p general lieutenant is =
     let his : StandsIn part (lieutenant_told t traitors p) = between part told (fold_start words) fold_end (ahead part (tree_told t traitors view p) (why_part t traitors p) is) in
     let own : lieutenant_told t traitors p ≡ lieutenant_part t traitors p = sym (cond-false (p == t.commander) [] (lieutenant_told t traitors p) (ne_eqb p t.commander lieutenant)) in
     behind part (flat_map (lieutenant_part t traitors) (range_with_len 0 t.generals)) (heading lieutenants_heading)
-    (among_all part (lieutenant_part t traitors) (range_with_len 0 t.generals) p (range-on 0 t.generals p (omega arith) general) (subst (StandsIn part) own his))
+    (among_all part (lieutenant_part t traitors) (range_with_len 0 t.generals) p (range-on 0 t.generals p (omega arith) (omega arith)) (subst (StandsIn part) own his))
 
 pub proved_folds_hide_nothing : FoldsHideNothing
 proved_folds_hide_nothing words schedule t c p general lieutenant =

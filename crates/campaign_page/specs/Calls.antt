@@ -36,5 +36,5 @@ call_if None = []
 call_if (Some i) = call_text i
 
 -- of the units of a program
-abbrev pub named_calls : List Insn → Writing
+unfoldable pub named_calls : List Insn → Writing
 named_calls program unit = ([], call_if (instruction_at program unit))
