@@ -1,13 +1,13 @@
 -- What stands in the folds of a page.
 use Rattle.std.proofs.Common.{ℕ, zero, suc, ◌<◌, ◌≡◌, ◌≢◌, Bool, true, false, List, [], ◌∷◌, ◌++◌, refl, sym, ap, subst, ◌∙◌, append_assoc, arith, inl, inr, Option, codes}
-use Rattle.std.specs.Prelude.{◌==◌, nat_lt, if◌then◌else◌}
+use Rattle.std.specs.Prelude.{◌==◌, if◌then◌else◌}
 use Rattle.std.specs.List.{AllByRecursion, flat_map, range_with_len}
 use Rattle.std.proofs.lemmas.Bool.{cond-false, eqb-true, ne_eqb, or_cases}
 use Rattle.std.proofs.lemmas.List.Elements.{All-from_recursion}
 use Rattle.book.specs.Decisions.{decision_of}
 use Rattle.book.specs.Table.{MessageTable}
 use Rattle.drawing.specs.Facts.{mark_at, node_at}
-use Rattle.drawing.specs.Shown.{deeper, is_open, nodes_below, nodes_by, nodes_of, root_mark, with_those}
+use Rattle.drawing.specs.Shown.{deeper, is_open, nodes_below, nodes_by, nodes_of, root_mark}
 use Rattle.drawing.specs.Words.{said}
 use Rattle.drawing.specs.declared.node.Node.{Node}
 use Rattle.drawing.specs.declared.node.View.{View}
@@ -16,12 +16,11 @@ use Rattle.label.proofs.Counting.{range-on}
 use Rattle.label.proofs.Places.{all-append}
 use Rattle.page.specs.Page.{fold, fold_end, fold_start, heading, item, item_end, item_start, list, list_end, list_start, page_end, page_start, paragraph, shown, text_item}
 use Rattle.retold.specs.Retold.{traitors_of}
-use Rattle.trace.specs.Text.{chronicle_text}
 use Rattle.world.specs.Chronicle.{Chronicle}
 use Rattle.world.specs.declared.schedule.Repeat.{Repeat}
 use Rattle.campaign_page.specs.Account.{accesses_part, chronicle_part, lieutenant_part, lieutenant_told, lieutenant_words, lieutenants_heading, lieutenants_part, page_text, parts, picture_part, programs_part, scenario_part, schedule_part, title, verdict_part, view, why_part}
 use Rattle.campaign_page.specs.Laws.{FoldsHideNothing, StandsIn, IsShownIn as Shows}
-use Rattle.campaign_page.specs.Trees.{item_by, items_below, label_item, root_told, tree_told}
+use Rattle.campaign_page.specs.Trees.{item_by, items_below, tree_told}
 
 -- what stands in a text stands in a longer one
 behind : (part whole before : List ℕ) → StandsIn part whole → StandsIn part (before ++ whole)
