@@ -1,9 +1,9 @@
 """The campaigns that checks/browser has pages and pictures of, besides the examples, and files with faults that it must see."""
 
 
-def campaign(generals, bound, commander, order, traitors, before=""):
+def campaign(generals, bound, commander, order, traitors, before="", more=""):
     """A scenario whose traitors, by their numbers, have these programs."""
-    text = f"{before}generals = {generals}\nbound = {bound}\ncommander = {commander}\norder = {order}\n"
+    text = f"{before}generals = {generals}\nbound = {bound}\ncommander = {commander}\norder = {order}\n{more}"
     for general, program in sorted(traitors.items()):
         text += f"\n[[traitor]]\ngeneral = {general}\nasm = '''\n{program}'''\n"
     return text
@@ -14,7 +14,7 @@ LIAR = "mov r1, 1\nmov r2, 0\ncall sway\nmov r1, 6\nmov r2, 7\ncall sway\nexit\n
 COUNTS = "mov r1, 0\nmov r2, 1\ncall board_add\nmov r6, r0\nmov r1, 1\nmov r2, r6\ncall sway\nexit\n"
 # A commander who signs two orders, and lieutenants who pass on to one what they hold.
 TWO_FACED = "mov r1, 1\nmov r2, 126\ncall sign_order\nmov r1, 0\nmov r2, 3968\ncall sign_order\nexit\n"
-PASSES = "mov r1, 0\nmov r2, 2\ncall pass_on\nmov r1, 1\nmov r2, 512\ncall pass_on\nexit\n"
+PASSES_TWO = "mov r1, 0\nmov r2, 2\ncall pass_on\nmov r1, 1\nmov r2, 512\ncall pass_on\nexit\n"
 SIGNED = 'messages = "signed"\n'
 # The largest numbers that the board and an order have, and all of the board at once.
 LARGEST = """lddw r7, 9223372036854775807
@@ -35,6 +35,16 @@ mov.w r2, -1
 call sway
 exit
 """
+# Orders that differ in one unit, signed for half of the generals each; and all that is held, passed on to all.
+SIGNS = """mov.w r1, -1
+mov r2, 2730
+call sign_order
+mov.w r1, -2
+mov r2, 5460
+call sign_order
+exit
+"""
+PASSES = "".join(f"mov r1, {place}\nmov r2, 8191\ncall pass_on\n" for place in range(8)) + "exit\n"
 MARKUP = f"""# </pre></p></details></main><script>document.title = "taken"</script>
 # <img src="https://example.org/a.png" onerror="alert(1)"/><svg onload="alert(2)">
 # <!-- a comment without an end, ]]> <![CDATA[ &lt; &amp; &#0; &nosuch; '"` </style></title>
@@ -56,7 +66,8 @@ SCENARIOS = {
     "large.toml": campaign(5, 1, 4, 2**32 - 1, {0: LARGEST, 4: LARGEST}),
     "two.toml": campaign(2, 0, 1, 0, {1: SILENT}),
     "thirteen.toml": campaign(13, 4, 0, 2**32 - 1, {general: LIAR for general in (2, 4, 8, 12)}, "# Thirteen generals.\n"),
-    "signed_thirteen.toml": campaign(13, 4, 0, 1, {0: TWO_FACED} | {general: PASSES for general in (4, 8, 12)}, SIGNED),
+    "signed_thirteen.toml": campaign(13, 4, 0, 1, {0: TWO_FACED} | {general: PASSES_TWO for general in (4, 8, 12)}, SIGNED),
+    "signed.toml": campaign(13, 4, 0, 2**32 - 1, {0: SIGNS, 3: PASSES, 11: PASSES, 12: SILENT}, more='messages = "signed"\n'),
     "thirteen_traitors.toml": campaign(13, 4, 12, 2**32 - 1, {general: COUNTS for general in range(13)}),
 }
 

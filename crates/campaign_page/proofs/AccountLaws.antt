@@ -13,6 +13,7 @@ use Rattle.board.specs.Board.{Access}
 use Rattle.book.specs.Decisions.{decision_of}
 use Rattle.book.specs.Explained.{explained_one}
 use Rattle.book.specs.Table.{MessageTable}
+use Rattle.diagram.specs.Foot.{alike_words, obeyed_words}
 use Rattle.diagram.specs.Svg.{svg_text}
 use Rattle.diagram.proofs.SvgLaws.{proved_diagrams_are_elements}
 use Rattle.diagram.specs.Words.{answered_words, asked_words}
@@ -20,7 +21,7 @@ use Rattle.drawing.specs.Shown.{deeper, is_open}
 use Rattle.drawing.specs.Words.{said}
 use Rattle.drawing.specs.declared.node.Node.{Node}
 use Rattle.drawing.specs.declared.node.View.{View}
-use Rattle.explain.specs.Explained.{explained}
+use Rattle.explain.specs.Explained.{explained_at}
 use Rattle.explore.specs.Text.{schedule_text}
 use Rattle.label.specs.Labels.{on, others}
 use Rattle.insn.specs.declared.insn.Insn.{Insn}
@@ -30,7 +31,8 @@ use Rattle.trace.specs.Text.{chronicle_text}
 use Rattle.world.specs.Chronicle.{Chronicle}
 use Rattle.world.specs.declared.schedule.Repeat.{Repeat}
 use Rattle.world.specs.declared.verdict.Verdict.{Verdict}
-use Rattle.campaign_page.specs.Account.{access_heads, access_row, accesses_heading, accesses_part, alike_told, bound_told, chronicle_heading, chronicle_shown, chronicle_part, course_told, general_name, helper_words, lieutenant_part, lieutenant_told, lieutenant_words, lieutenants_heading, lieutenants_part, obeyed_told, page_text, parts, picture_heading, picture_name, picture_part, picture_told, program_if, program_part, programs_heading, programs_part, recorded_words, scenario_heading, scenario_part, schedule_heading, schedule_part, title, unscheduled_words, verdict_heading, verdict_part, verdict_told, view, why_part}
+use Rattle.campaign_page.specs.Account.{access_heads, access_row, accesses_heading, accesses_part, bound_told, chronicle_heading, chronicle_shown, chronicle_part, course_told, elsewhere_words, general_name, lieutenant_part, lieutenant_told, lieutenant_words, lieutenants_heading, lieutenants_part, parts, picture_heading, picture_name, picture_part, picture_told, program_if, program_part, no_programs, programs_heading, programs_part, programs_told, recorded_words, scenario_heading, scenario_part, schedule_heading, schedule_part, title, unscheduled_words, verdict_heading, verdict_part, verdict_told, view, why_part}
+use Rattle.campaign_page.specs.Calls.{named_calls}
 use Rattle.campaign_page.specs.Trees.{item_by, items_below, label_item, node_by, root_told, tree_told}
 use Rattle.campaign_page.specs.Laws.{CampaignPagesAreElements}
 
@@ -56,12 +58,17 @@ schedule_content schedule = below schedule_heading (course_told schedule) (cours
 program_content : (g : ℕ) (program : Option (List Insn)) → IsContent (program_if g program)
 program_content g None = text [] no_text
 program_content g (Some program) =
-    proved_parts_are_content.fold (general_name g) (paragraph helper_words ++ begun_lines (explained program))
-    (joined (paragraph helper_words) (begun_lines (explained program)) (proved_parts_are_content.paragraph helper_words) (proved_parts_are_content.begun_lines (explained program)))
+    let told : List ℕ = explained_at (named_calls program) program in
+    proved_parts_are_content.fold (general_name g) (begun_lines told) (proved_parts_are_content.begun_lines told)
+
+told_content : (programs : List ℕ) → IsContent programs → IsContent (programs_told programs)
+told_content [] c = proved_parts_are_content.paragraph no_programs
+told_content (x ∷ xs) c = c
 
 pub programs_content : (s : Scenario) → IsContent (programs_part s)
 programs_content s =
-    below programs_heading (flat_map (program_part s) (range_with_len 0 s.generals)) (all (program_part s) (range_with_len 0 s.generals) (λ g. program_content g (program_of s g)))
+    let programs : List ℕ = flat_map (program_part s) (range_with_len 0 s.generals) in
+    below programs_heading (programs_told programs) (told_content programs (all (program_part s) (range_with_len 0 s.generals) (λ g. program_content g (program_of s g))))
 
 -- a picture that is an element, and a line feed
 pub svg_content : (svg element : List ℕ) → IsElement element → svg ≡ element ++ codes "\n" → IsContent (picture_told svg)
@@ -75,7 +82,8 @@ picture_content t c = let drawn = proved_diagrams_are_elements t c in svg_conten
 
 why_content : (t : MessageTable) (traitors : List ℕ) (g : ℕ) → IsContent (why_part t traitors g)
 why_content t traitors g =
-    cond_both (nat_lt t.bound 4) (lines (explained_one t traitors g)) [] IsContent (λ _. proved_parts_are_content.lines (explained_one t traitors g)) (λ _. text [] no_text)
+    cond_both (nat_lt t.bound 4) (lines (explained_one t traitors g)) (paragraph (elsewhere_words g)) IsContent
+    (λ _. proved_parts_are_content.lines (explained_one t traitors g)) (λ _. proved_parts_are_content.paragraph (elsewhere_words g))
 
 node_content : (node : Node) (inside : List ℕ) → IsContent inside → IsContent (label_item node inside)
 node_content node inside c =
@@ -144,10 +152,10 @@ chronicle_content words = below chronicle_heading (lines (flat_map encode_utf8 w
 
 pub verdict_content : (v : Verdict) (bound : List ℕ) → IsContent (verdict_told v bound)
 verdict_content v bound =
-    joined (heading verdict_heading ++ paragraph (alike_told v.alike) ++ paragraph (obeyed_told v.obeyed)) (paragraph bound)
-    (joined (heading verdict_heading ++ paragraph (alike_told v.alike)) (paragraph (obeyed_told v.obeyed))
-    (below verdict_heading (paragraph (alike_told v.alike)) (proved_parts_are_content.paragraph (alike_told v.alike)))
-    (proved_parts_are_content.paragraph (obeyed_told v.obeyed)))
+    joined (heading verdict_heading ++ paragraph (alike_words v.alike) ++ paragraph (obeyed_words v.obeyed)) (paragraph bound)
+    (joined (heading verdict_heading ++ paragraph (alike_words v.alike)) (paragraph (obeyed_words v.obeyed))
+    (below verdict_heading (paragraph (alike_words v.alike)) (proved_parts_are_content.paragraph (alike_words v.alike)))
+    (proved_parts_are_content.paragraph (obeyed_words v.obeyed)))
     (proved_parts_are_content.paragraph bound)
 
 parts_content : (words : List ℕ) (schedule : Option (List (List Repeat))) (t : MessageTable) (c : Chronicle) → IsContent (parts words schedule t c)

@@ -1,3 +1,5 @@
 pub mod AccountLaws
+pub mod CallLemmas
 pub mod ChainLemmas
+pub mod FoldLaws
 mod TreeLemmas

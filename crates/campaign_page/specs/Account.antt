@@ -6,10 +6,11 @@ use Rattle.board.specs.Board.{Access}
 use Rattle.book.specs.Decisions.{decision_of}
 use Rattle.book.specs.Explained.{explained_one}
 use Rattle.book.specs.Table.{MessageTable}
+use Rattle.diagram.specs.Foot.{alike_words, bound_words, obeyed_words}
 use Rattle.diagram.specs.Svg.{svg_text}
 use Rattle.diagram.specs.Words.{answered_words, asked_words}
 use Rattle.drawing.specs.declared.node.View.{View}
-use Rattle.explain.specs.Explained.{explained}
+use Rattle.explain.specs.Explained.{explained_at}
 use Rattle.explore.specs.Text.{schedule_text}
 use Rattle.insn.specs.declared.insn.Insn.{Insn}
 use Rattle.label.specs.Labels.{on}
@@ -20,6 +21,7 @@ use Rattle.trace.specs.Text.{chronicle_text}
 use Rattle.world.specs.Chronicle.{Chronicle}
 use Rattle.world.specs.declared.schedule.Repeat.{Repeat}
 use Rattle.world.specs.declared.verdict.Verdict.{Verdict}
+use Rattle.campaign_page.specs.Calls.{named_calls}
 use Rattle.campaign_page.specs.Trees.{tree_told}
 
 -- ---- headings
@@ -75,15 +77,12 @@ course_told (Some schedule) = schedule_told schedule
 abbrev pub schedule_part : Option (List (List Repeat)) → List ℕ
 schedule_part schedule = heading schedule_heading ++ course_told schedule
 
--- the program of a traitor, and what the verifier knows of it, in which a helper is called by its number
-unfoldable pub helper_words : List ℕ
-helper_words = codes "Helpers are called by numbers: 1 board_get, 2 board_swap, 3 board_add, 4 board_cas, 5 board_copy, 6 send, 7 send_row, 8 sway, 9 honest, 10 sign_order, 11 pass_on."
-
+-- the program of a traitor, and what the verifier knows of it
 abbrev pub general_name : ℕ → List ℕ
 general_name g = codes "General " ++ decimal g
 
 abbrev pub program_told : ℕ → List Insn → List ℕ
-program_told g program = fold (general_name g) (paragraph helper_words ++ begun_lines (explained program))
+program_told g program = fold (general_name g) (begun_lines (explained_at (named_calls program) program))
 
 abbrev pub program_if : ℕ → Option (List Insn) → List ℕ
 program_if g None = []
@@ -92,8 +91,15 @@ program_if g (Some program) = program_told g program
 abbrev pub program_part : Scenario → ℕ → List ℕ
 program_part s g = program_if g (program_of s g)
 
+unfoldable pub no_programs : List ℕ
+no_programs = codes "None: all generals are loyal."
+
+abbrev pub programs_told : List ℕ → List ℕ
+programs_told [] = paragraph no_programs
+programs_told (c ∷ cs) = c ∷ cs
+
 abbrev pub programs_part : Scenario → List ℕ
-programs_part s = heading programs_heading ++ flat_map (program_part s) (range_with_len 0 s.generals)
+programs_part s = heading programs_heading ++ programs_told (flat_map (program_part s) (range_with_len 0 s.generals))
 
 -- the picture
 abbrev pub picture_told : List ℕ → List ℕ
@@ -112,9 +118,14 @@ traitor_words is_traitor = if is_traitor then codes ", a traitor," else []
 unfoldable pub lieutenant_words : ℕ → Bool → ℕ → List ℕ
 lieutenant_words g is_traitor order = codes "Lieutenant " ++ (decimal g ++ (traitor_words is_traitor ++ (codes " decides " ++ decimal order)))
 
--- of five rounds, in which a lieutenant may have more than a thousand lists, only the tree tells how
+-- of five rounds, in which he may have more than a thousand lists, who tells them
+unfoldable pub elsewhere_words : ℕ → List ℕ
+elsewhere_words g =
+    codes "Of five rounds a page has no room for the lists by which he decides so: play, of a chronicle audit, tells them"
+    ++ codes " with --explain --of " ++ (decimal g ++ codes ".")
+
 abbrev pub why_part : MessageTable → List ℕ → ℕ → List ℕ
-why_part t traitors g = if nat_lt t.bound 4 then lines (explained_one t traitors g) else []
+why_part t traitors g = if nat_lt t.bound 4 then lines (explained_one t traitors g) else paragraph (elsewhere_words g)
 
 abbrev pub lieutenant_told : MessageTable → List ℕ → ℕ → List ℕ
 lieutenant_told t traitors g = fold (lieutenant_words g (on traitors g) (decision_of t g)) (tree_told t traitors view g ++ why_part t traitors g)
@@ -145,21 +156,18 @@ abbrev pub chronicle_part : Chronicle → List ℕ
 chronicle_part c = chronicle_shown (chronicle_text c)
 
 -- the verdict, and which promise holds (TOPLAS 1982, IC1 and IC2)
-unfoldable pub alike_told : Bool → List ℕ
-alike_told true = codes "The loyal lieutenants decide alike."
-alike_told false = codes "The loyal lieutenants do not decide alike."
+unfoldable pub promise_words : List ℕ
+promise_words =
+    codes "The bound holds: there are few enough traitors, so that loyal lieutenants decide alike, and obey a loyal "
+    ++ codes "commander, whatever the traitors do."
 
-unfoldable pub obeyed_told : Option Bool → List ℕ
-obeyed_told (Some true) = codes "They obey the loyal commander."
-obeyed_told (Some false) = codes "They do not obey the loyal commander."
-obeyed_told None = codes "The commander is a traitor, whom nobody has to obey."
-
-unfoldable pub bound_told : Bool → List ℕ
-bound_told true = codes "The bound holds: there are few enough traitors, so that loyal lieutenants decide alike, and obey a loyal commander, whatever the traitors do."
-bound_told false = codes "The bound does not hold, by too few generals or too many traitors: no promise."
+abbrev pub bound_told : Bool → List ℕ
+bound_told true = promise_words
+bound_told false = bound_words false
 
 abbrev pub verdict_told : Verdict → List ℕ → List ℕ
-verdict_told v bound = heading verdict_heading ++ paragraph (alike_told v.alike) ++ paragraph (obeyed_told v.obeyed) ++ paragraph bound
+verdict_told v bound =
+    heading verdict_heading ++ paragraph (alike_words v.alike) ++ paragraph (obeyed_words v.obeyed) ++ paragraph bound
 
 abbrev pub verdict_part : Verdict → List ℕ
 verdict_part v = verdict_told v (bound_told v.bound)

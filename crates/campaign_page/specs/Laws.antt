@@ -1,13 +1,44 @@
--- A law of such pages, the contract of a function of this crate.
-use Rattle.std.specs.Prelude.{ℕ, ◌≡◌, List, ◌++◌, Option, codes}
+-- Laws of such pages, each the contract of a function of this crate.
+use Rattle.std.specs.Prelude.{ℕ, ◌≡◌, ◌≢◌, ◌<◌, List, ◌++◌, ℤ, Option, Some, codes}
+use Rattle.std.specs.List.{All}
 use Rattle.markup.specs.Grammar.{IsElement}
+use Rattle.asm.specs.Helper.{helper_of as number_of}
 use Rattle.book.specs.Table.{MessageTable}
+use Rattle.drawing.specs.Shown.{nodes_of}
+use Rattle.drawing.specs.Words.{said}
+use Rattle.drawing.specs.declared.node.Node.{Node}
+use Rattle.page.specs.Page.{shown}
+use Rattle.retold.specs.Retold.{traitors_of}
+use Rattle.semantics.specs.Call.{helper_of}
+use Rattle.semantics.specs.declared.request.Helper.{Helper}
 use Rattle.world.specs.Chronicle.{Chronicle}
 use Rattle.world.specs.declared.schedule.Repeat.{Repeat}
-use Rattle.campaign_page.specs.Account.{page_text}
+use Rattle.campaign_page.specs.Account.{page_text, view}
+use Rattle.campaign_page.specs.Calls.{helper_name}
 
 -- a page is one element of XML, between the line that says that it is HTML and a line feed, whatever stands in the scenario
 abbrev pub CampaignPagesAreElements : Type 0
 CampaignPagesAreElements =
     (scenario : List ℕ) (schedule : Option (List (List Repeat))) (t : MessageTable) (c : Chronicle)
     → (text : List ℕ) × IsElement text × (page_text scenario schedule t c ≡ codes "<!DOCTYPE html>\n" ++ text ++ codes "\n")
+
+-- a text stands in another
+abbrev pub StandsIn : List ℕ → List ℕ → Type 0
+StandsIn part whole = (before : List ℕ) × (after : List ℕ) × (whole ≡ before ++ part ++ after)
+
+-- what is said of a label stands in a page
+abbrev pub IsShownIn : List ℕ → Node → Type 0
+IsShownIn text node = StandsIn (shown (said node)) text
+
+-- so it is of every label that a lieutenant's tree shows: a fold that is shut leaves none out
+abbrev pub FoldsHideNothing : Type 0
+FoldsHideNothing =
+    (scenario : List ℕ) (schedule : Option (List (List Repeat))) (t : MessageTable) (c : Chronicle) (p : ℕ)
+    → p < t.generals → p ≢ t.commander
+    → All (IsShownIn (page_text scenario schedule t c)) (nodes_of t (traitors_of c.scenario) view p)
+
+-- the assembler takes a name that stands in a call for the number of that helper
+abbrev pub NamesAreRead : Type 0
+NamesAreRead =
+    (helper : Helper)
+    → (number : ℤ) × (helper_of number ≡ Some helper) × (number_of (helper_name helper) ≡ Some number)

@@ -1,8 +1,18 @@
-//! A law of such pages: the function does nothing, and its contract is the law.
-ghost use Rattle.campaign_page.specs.Laws.{CampaignPagesAreElements};
+//! Laws of such pages: each function does nothing, and its contract is the law.
+ghost use Rattle.campaign_page.specs.Laws.{CampaignPagesAreElements, FoldsHideNothing, NamesAreRead};
 
 /// A campaign's page is a line that says that it is HTML, and one element, whatever the scenario's text, the table and the
 /// chronicle.
 pub fn campaign_pages_are_elements()
     ensures { CampaignPagesAreElements }
+{}
+
+/// What is said of the labels of a lieutenant's tree stands in the page, whichever folds are open.
+pub fn folds_hide_nothing()
+    ensures { FoldsHideNothing }
+{}
+
+/// By the name that stands in a call on a page the assembler knows the helper.
+pub fn names_are_read()
+    ensures { NamesAreRead }
 {}

@@ -4,6 +4,7 @@
 
 mod accesses;
 mod account;
+mod calls;
 mod laws;
 mod listing;
 mod schedule;
@@ -12,7 +13,7 @@ mod verdict;
 
 pub use accesses::put_listed;
 pub use account::{page_text, put_chronicle_text, put_scenario, put_svg, title};
-pub use laws::campaign_pages_are_elements;
+pub use laws::{campaign_pages_are_elements, folds_hide_nothing, names_are_read};
 pub use schedule::put_schedule;
 pub use sections::put_programs;
-pub use verdict::put_verdict_told;
+pub use verdict::{promise_words, put_verdict_told};

@@ -1,15 +1,15 @@
 //! Sections with a part for each general.
 ghost use Rattle.std.specs.Prelude.{◌≡◌, ◌<◌, ◌++◌, flat_map, option_map, string_bytes, IfOk, OnOk};
 ghost use Rattle.std.specs.List.{range_with_len};
-ghost use Rattle.campaign_page.specs.Account.{lieutenants_heading, programs_heading, lieutenant_part, lieutenant_words, lieutenants_part, program_part, program_told, programs_part, traitor_words, why_part, general_name, helper_words, view};
+ghost use Rattle.campaign_page.specs.Account.{lieutenants_heading, no_programs, programs_heading, programs_told, lieutenant_part, lieutenant_words, lieutenants_part, program_part, program_told, programs_part, traitor_words, why_part, elsewhere_words, general_name, view};
 ghost use Rattle.label.specs.Labels.{on};
 ghost use Rattle.retold.specs.Retold.{traitors_of};
 ghost use Rattle.round.specs.Scenario.{program_of};
 
+use crate::calls::explanation;
 use crate::listing::put_tree;
 use book::{Heard, decision, explain_one};
 use drawing::View;
-use explain::explanation;
 use insn::Program;
 use page::{put_begun_lines, put_fold_end, put_fold_start, put_heading, put_lines, put_paragraph};
 use retold::traitors;
@@ -36,8 +36,28 @@ pub(crate) fn put_programs_of(
 pub fn put_programs(alloc: Global, out: &mut String, scenario: &Scenario) -> Result<(), AllocError>
     ensures { OnOk result (string_bytes out.new ≡ string_bytes out.old ++ programs_part scenario.now) }
 {
+    let mut programs = String::new(alloc);
+    put_each_program(alloc, &mut programs, scenario)?;
     put_heading(out, programs_heading())?;
-    put_each_program(alloc, out, scenario)
+    put_programs_told(out, programs.as_str())
+}
+
+/// Adds these programs, or that there is none.
+fn put_programs_told(out: &mut String, programs: &str) -> Result<(), AllocError>
+    ensures { OnOk result (string_bytes out.new ≡ string_bytes out.old ++ programs_told programs.now) }
+{
+    if programs.is_empty() {
+        return put_paragraph(out, no_programs());
+    }
+    out.push_str(programs)
+}
+
+/// What is said where there is no traitor.
+#[tactic(auto, unfolding(crate::specs::Account::no_programs))]
+fn no_programs() -> &'static str
+    ensures { result.now ≡ no_programs }
+{
+    "None: all generals are loyal."
 }
 
 /// Adds that of each traitor.
@@ -78,18 +98,8 @@ fn put_program(
     let told = explanation(alloc, program)?;
     let name = general_name(alloc, general)?;
     put_fold_start(out, name.as_str())?;
-    put_paragraph(out, helper_words())?;
     put_begun_lines(out, told.as_str())?;
     put_fold_end(out)
-}
-
-/// Which helper has which number.
-#[tactic(auto, unfolding(crate::specs::Account::helper_words))]
-fn helper_words() -> &'static str
-    ensures { result.now ≡ helper_words }
-{
-    "Helpers are called by numbers: 1 board_get, 2 board_swap, 3 board_add, 4 board_cas, 5 board_copy, 6 send, \
-     7 send_row, 8 sway, 9 honest, 10 sign_order, 11 pass_on."
 }
 
 /// A general's name.
@@ -167,7 +177,7 @@ fn has(generals: &[u8], general: u8) -> bool
     generals.iter().any(|x| *x == general)
 }
 
-/// Adds how a lieutenant's decision comes about, if there are at most four rounds.
+/// Adds how a lieutenant's decision comes about, of five rounds who tells it.
 fn put_why<H: Heard>(
     alloc: Global,
     out: &mut String,
@@ -178,10 +188,22 @@ fn put_why<H: Heard>(
     ensures { OnOk result (string_bytes out.new ≡ string_bytes out.old ++ why_part (H.seen table.now) traitors.now general) }
 {
     if table.bound() >= 4 {
-        return Ok(());
+        let words = elsewhere_words(alloc, general)?;
+        return put_paragraph(out, words.as_str());
     }
     let why = explain_one(alloc, table, traitors, general)?;
     put_lines(out, why.as_str())
+}
+
+/// Who tells how a lieutenant's decision comes about.
+#[tactic(auto, unfolding(crate::specs::Account::elsewhere_words))]
+fn elsewhere_words(alloc: Global, general: u8) -> Result<String, AllocError>
+    ensures { IfOk result (λ words. string_bytes words ≡ elsewhere_words general) }
+{
+    format!(in alloc;
+        "Of five rounds a page has no room for the lists by which he decides so: play, of a chronicle audit, tells them \
+         with --explain --of {general}."
+    )
 }
 
 /// A lieutenant's name, and what he decides.

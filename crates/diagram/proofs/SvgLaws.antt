@@ -1,5 +1,5 @@
 -- Pictures are elements of XML.
-use Rattle.std.proofs.Common.{ℕ, zero, suc, ◌+◌, ◌-◌, ◌*◌, ◌≡◌, Bool, true, false, List, [], ◌∷◌, ◌++◌, Option, Some, None, refl, sym, ap, ◌∙◌, subst, append_assoc, append-nil}
+use Rattle.std.proofs.Common.{ℕ, ◌+◌, ◌-◌, ◌*◌, ◌≡◌, Bool, true, false, List, [], ◌∷◌, ◌++◌, Option, Some, None, refl, sym, ap, ◌∙◌, subst, append_assoc, append-nil}
 use Rattle.std.proofs.lemmas.Bool.{cond_both}
 use Rattle.std.specs.Prelude.{codes, ◌==◌, min, slice_get}
 use Rattle.std.specs.Fmt.{decimal}
@@ -16,12 +16,12 @@ use Rattle.world.specs.declared.verdict.Verdict.{Verdict}
 use Rattle.diagram.specs.declared.stroke.Stroke.{Stroke}
 use Rattle.diagram.specs.Bands.{access_at, accesses_from, band, bands, board_line, drawn, general_life, inside, life, lives, point, round_words, row, stroke_line}
 use Rattle.diagram.specs.Facts.{strokes_of}
-use Rattle.diagram.specs.Foot.{alike_words, bound_words, decided, decided_all, decided_at, decided_if, decides_words, foot, obeyed_words, place_of, shape_of, sort_of, verdict_lines}
+use Rattle.diagram.specs.Foot.{alike_words, bound_words, decided, decided_all, decided_if, decides_words, foot, obeyed_words, place_of, shape_of, sort_of, verdict_lines}
 use Rattle.diagram.specs.Laws.{DiagramsAreElements}
 use Rattle.diagram.specs.Legend.{differs_meaning, legend, legend_of, marks_words, meaning_at, missing_meaning, told_meaning, wide_meaning}
 use Rattle.diagram.specs.Layout.{access_top, board, column, fan_top, height, rows_top, top_of, width}
 use Rattle.diagram.specs.Shapes.{group_at, group_start, line, mark, stroke_at, stroke_open, stroke_way, text_at, text_start, title}
-use Rattle.diagram.specs.Svg.{board_head, box_words, campaign_words, general_head, head, head_of, heads, key, look, picture, start, svg_text, svg_with}
+use Rattle.diagram.specs.Svg.{board_head, box_words, campaign_words, general_head, head, head_of, heads, key, look, picture, start, svg_text}
 use Rattle.diagram.specs.Words.{access_words, answer_words, asked_words, copy_words, differs_words, from_words, general_words, is_copy, kind, kind_of, labels_words, order_words, outline, outline_of, role_words, row_words, shown_words, stroke_words, swap_words, tells_words, word_words}
 
 -- ---- words
@@ -480,10 +480,11 @@ foot_content c wide top =
 
 abbrev key_words : List ℕ
 key_words =
-    codes "A column for each general, and a band for each round, from above. In a band a line leads from who tells something to who"
-    ++ codes "m he tells it, as wide as he tells it of labels, and below stands in the column of the receiver what he was told. Circle and p"
-    ++ codes "lain line: as an honest relay tells it. Diamond and dashes: something else. Cross and dots: nothing, where something was to be"
-    ++ codes " told. Above the lines stand the accesses to the board, in its order. Square: a traitor."
+    codes "A column for each general, and a band for each round, from above. In a band a line leads down from who tells something"
+    ++ codes " to whom he tells it, as wide as he tells it of labels, up to 5, and below stands in the column of the receiver what h"
+    ++ codes "e was told. Circle and plain line: as an honest relay tells it. Diamond and dashes: something else. Cross and dots: no"
+    ++ codes "thing, where something was to be told. Above the lines stand the accesses to the board, in its order. Square: a traito"
+    ++ codes "r."
 
 key_content : IsContent key
 unfolding key

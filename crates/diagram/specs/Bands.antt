@@ -48,9 +48,12 @@ abbrev pub row : ℕ → Stroke → List ℕ
 row top st =
     group_at (column st.receiver) (top + 12 + 18 * st.row) (title (stroke_words st) ++ mark (kind st) (outline st) ++ text_at (codes "small") 12 4 (row_words st))
 
--- both, where it is of this round
+-- both, where it is of this round; they begin at these heights
+abbrev pub drawn_at : ℕ → ℕ → ℕ → ℕ → Stroke → List ℕ
+drawn_at n top below round st = if st.round == round then stroke_line n top st ++ row below st else []
+
 abbrev pub drawn : ℕ → List Access → ℕ → Stroke → List ℕ
-drawn n accesses round st = if st.round == round then stroke_line n (fan_top accesses round) st ++ row (rows_top n accesses round) st else []
+drawn n accesses round st = drawn_at n (fan_top accesses round) (rows_top n accesses round) round st
 
 -- what a round's band has, of this width, and its place, behind so many rounds
 abbrev pub inside : ℕ → List Stroke → List Access → ℕ → ℕ → List ℕ

@@ -51,7 +51,9 @@ is_alike false other = not other
 
 -- both make one stroke: the same general told the same in the same round
 abbrev pub is_same : Telling → Telling → Bool
-is_same one other = one.round == other.round && one.teller == other.teller && is_same_told one.told other.told && is_alike one.differs other.differs
+is_same one other =
+    one.teller == other.teller && one.round == other.round && is_same_told one.told other.told
+    && is_alike one.differs other.differs
 
 abbrev pub is_before : ℕ → ℕ → Stroke → Bool
 is_before round p stroke = stroke.round == round && stroke.receiver == p

@@ -38,6 +38,7 @@ decided s ds g = if g == s.commander then [] else decided_if g (is_traitor s g) 
 abbrev pub decided_all : Scenario → List ℕ → List ℕ
 decided_all s ds = flat_map (decided s ds) (range_with_len 0 s.generals)
 
+-- the sentences of a verdict, in pictures and on pages; of the bound those of pictures of oral messages
 abbrev pub alike_words : Bool → List ℕ
 alike_words true = codes "The loyal lieutenants decide alike."
 alike_words false = codes "The loyal lieutenants do not decide alike."

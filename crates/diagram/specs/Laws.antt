@@ -1,10 +1,58 @@
 -- Laws of what is drawn. Each is the contract of a function of this crate.
-use Rattle.std.specs.Prelude.{ℕ, ◌≡◌, List, ◌++◌, codes}
+use Rattle.std.specs.Prelude.{ℕ, ◌≡◌, ◌≢◌, ◌<◌, ◌==◌, ◌&&◌, Bool, false, if◌then◌else◌, List, [], ◌∷◌, ◌++◌, count_by, codes, Some}
+use Rattle.std.specs.List.{All, list_any}
+use Rattle.label.specs.Oral.{taken}
 use Rattle.markup.specs.Grammar.{IsElement}
-use Rattle.book.specs.Table.{MessageTable}
+use Rattle.book.specs.Table.{MessageTable, told}
+use Rattle.round.specs.Letters.{messages}
+use Rattle.round.specs.Scenario.{Scenario, IsScenario, is_traitor}
+use Rattle.tables.specs.Laws.{IsTableOf}
+use Rattle.world.specs.Agreement.{IsFinished}
 use Rattle.world.specs.Chronicle.{Chronicle}
+use Rattle.world.specs.World.{opening, run}
+use Rattle.world.specs.declared.event.Event.{Event}
+use Rattle.diagram.specs.declared.stroke.Stroke.{Stroke}
+use Rattle.diagram.specs.declared.telling.Telling.{Telling}
+use Rattle.diagram.specs.Facts.{is_same, strokes_of, telling_at, tellings_of}
 use Rattle.diagram.specs.Svg.{svg_text}
+use Rattle.diagram.specs.Words.{kind}
 
 -- each picture is one element of XML, and a line feed
 abbrev pub DiagramsAreElements : Type 0
 DiagramsAreElements = (t : MessageTable) (c : Chronicle) → (text : List ℕ) × IsElement text × (svg_text t c ≡ text ++ codes "\n")
+
+-- t is the table of the messages of a finished campaign of s, and tells them at all its places
+pub record IsFinishedTable (s : Scenario) (events : List Event) (t : MessageTable) : Type 0 where
+  pub scenario : IsScenario s
+  pub finished : IsFinished (run (opening s) events)
+  pub table : IsTableOf (messages (run (opening s) events).closed) s.generals s.bound s.commander s.rule t
+
+-- drawn as an honest relay's, and not in red
+abbrev pub IsDrawnHonest : Stroke → Type 0
+IsDrawnHonest stroke = (stroke.differs ≡ false) × (kind stroke ≡ codes "told")
+
+-- there all strokes of a loyal general are drawn so; and whoever tells of a label what he took of it does not differ
+pub record OnlyTraitorsDiffer : Type 0 where
+  pub drawn : (s : Scenario) (events : List Event) (t : MessageTable) → IsFinishedTable s events t →
+      All (λ stroke. is_traitor s stroke.teller ≡ false → IsDrawnHonest stroke) (strokes_of t s.order)
+  pub honest : (t : MessageTable) (w : List ℕ) (j p : ℕ) →
+      told t.messages (w ++ j ∷ []) p ≡ Some (taken (told t.messages) w j) → (telling_at t w j p).differs ≡ false
+
+-- what a stroke tells of each of its labels, and that it is the one of what p was told
+abbrev pub told_by : Stroke → Telling
+told_by stroke = record { round = stroke.round; teller = stroke.teller; told = stroke.told; differs = stroke.differs }
+
+abbrev pub is_of : ℕ → Telling → Stroke → Bool
+is_of p telling stroke = stroke.receiver == p && is_same telling (told_by stroke)
+
+-- of how many labels the receiver was told so
+abbrev pub labels_told : MessageTable → ℕ → Stroke → ℕ
+labels_told t order stroke = count_by (is_same (told_by stroke)) (tellings_of t order stroke.receiver)
+
+-- of all labels of a round of which one general told a lieutenant the same there is one stroke, and none of what he was
+-- not told; and each is as wide as it has labels
+pub record StrokesAreExact : Type 0 where
+  pub once : (t : MessageTable) (order p : ℕ) (telling : Telling) → p < t.generals → p ≢ t.commander →
+      count_by (is_of p telling) (strokes_of t order)
+      ≡ (if list_any (is_same telling) (tellings_of t order p) then 1 else 0)
+  pub wide : (t : MessageTable) (order : ℕ) → All (λ stroke. stroke.labels ≡ labels_told t order stroke) (strokes_of t order)

@@ -1,5 +1,5 @@
 -- What the marks of a picture mean, below its foot.
-use Rattle.std.specs.Prelude.{ℕ, true, false, List, ◌++◌, codes, Option, None, Some}
+use Rattle.std.specs.Prelude.{ℕ, true, false, List, ◌++◌, codes, None, Some}
 use Rattle.diagram.specs.Shapes.{group_at, mark, stroke_at, text_at}
 use Rattle.diagram.specs.Words.{outline_of}
 
@@ -32,7 +32,7 @@ unfoldable pub missing_meaning : List ℕ
 missing_meaning = codes "nothing told, where something was to be told"
 
 unfoldable pub wide_meaning : List ℕ
-wide_meaning = codes "A line is as wide as it has labels, up to 5."
+wide_meaning = codes "A line leads down to who is told, as wide as it has labels, up to 5."
 
 abbrev pub legend : List ℕ
 legend = legend_of told_meaning differs_meaning missing_meaning wide_meaning

@@ -30,10 +30,11 @@ campaign_words n m c order =
 -- what is told of the picture to those who do not see it
 unfoldable pub key : List ℕ
 key =
-    codes "<desc>A column for each general, and a band for each round, from above. In a band a line leads from who tells something to who"
-    ++ codes "m he tells it, as wide as he tells it of labels, and below stands in the column of the receiver what he was told. Circle and p"
-    ++ codes "lain line: as an honest relay tells it. Diamond and dashes: something else. Cross and dots: nothing, where something was to be"
-    ++ codes " told. Above the lines stand the accesses to the board, in its order. Square: a traitor.</desc>\n"
+    codes "<desc>A column for each general, and a band for each round, from above. In a band a line leads down from who tells som"
+    ++ codes "ething to whom he tells it, as wide as he tells it of labels, up to 5, and below stands in the column of the receiver "
+    ++ codes "what he was told. Circle and plain line: as an honest relay tells it. Diamond and dashes: something else. Cross and do"
+    ++ codes "ts: nothing, where something was to be told. Above the lines stand the accesses to the board, in its order. Square: a "
+    ++ codes "traitor.</desc>\n"
 
 -- how it looks: on paper, and on a dark ground where one is wished for
 unfoldable pub look : List ℕ

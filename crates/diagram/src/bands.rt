@@ -3,9 +3,11 @@ ghost use Rattle.std.specs.Prelude.{◌≡◌, ◌++◌, ◌+◌, ◌<◌, ◌�
 ghost use Rattle.std.specs.List.{range_with_len};
 ghost use Rattle.diagram.specs.Shapes.{text_at, title};
 ghost use Rattle.diagram.specs.Words.{access_words, row_words, shown_words, stroke_words};
-ghost use Rattle.diagram.specs.Bands.{access_at, accesses_from, band, bands, board_line, drawn, general_life, inside, life, lives, point, round_words, row, stroke_line};
+ghost use Rattle.diagram.specs.Bands.{access_at, accesses_from, band, bands, board_line, drawn, drawn_at, general_life, inside, life, lives, point, round_words, row, stroke_line};
 
-use crate::layout::{access_top, board, column, fan_top, height, rows_top, top_of};
+use crate::layout::{
+    access_top, accesses_before, board, column, fan_top, height, rows_top, top_of,
+};
 use crate::shapes::{
     put_group_end, put_group_start, put_line, put_mark, put_stroke_end, put_stroke_start,
     put_text_end, put_text_start, put_title_end, put_title_start,
@@ -163,14 +165,9 @@ pub fn put_accesses(
 ) -> Result<(), AllocError>
     ensures { OnOk result (string_bytes out.new ≡ string_bytes out.old ++ accesses_from generals accesses.now round 0 accesses.now) }
 {
+    let before = accesses_before(accesses, round);
     for (place, access) in accesses.iter().enumerate() {
-        put_access(
-            out,
-            generals,
-            access_top(accesses, round, place),
-            round,
-            access,
-        )?;
+        put_access(out, generals, access_top(before, place), round, access)?;
     }
     Ok(())
 }
@@ -233,27 +230,33 @@ fn put_strokes(
 ) -> Result<(), AllocError>
     ensures { OnOk result (string_bytes out.new ≡ string_bytes out.old ++ flat_map (drawn generals accesses.now round) strokes.now) }
 {
+    let top = fan_top(accesses, round);
+    let below = rows_top(generals, accesses, round);
     for stroke in strokes {
-        put_drawn(out, generals, accesses, round, stroke)?;
+        put_drawn(out, generals, top, below, round, stroke)?;
     }
     Ok(())
 }
 
-/// Adds a stroke, where it is of this round, and its row in the receiver's list.
+/// Adds a stroke, where it is of this round, and its row in the receiver's list: they begin at these heights.
 fn put_drawn(
     out: &mut String,
     generals: u8,
-    accesses: &[Access],
+    top: u128,
+    below: u128,
     round: u32,
     stroke: &Stroke,
 ) -> Result<(), AllocError>
-    ensures { OnOk result (string_bytes out.new ≡ string_bytes out.old ++ drawn generals accesses.now round stroke.now) }
+    requires top { top < 2 ^ 80 }
+    requires below { below < 2 ^ 81 }
+    ensures { OnOk result (string_bytes out.new
+        ≡ string_bytes out.old ++ drawn_at generals top below round stroke.now) }
 {
     if stroke.round != round as usize {
         return Ok(());
     }
-    put_stroke(out, generals, fan_top(accesses, round), stroke)?;
-    put_row(out, rows_top(generals, accesses, round), stroke)
+    put_stroke(out, generals, top, stroke)?;
+    put_row(out, below, stroke)
 }
 
 /// Adds a stroke that begins at this height.

@@ -79,12 +79,13 @@ fn push_stroke(
     Ok(())
 }
 
-/// Whether the same was told of a label before this place.
+/// Whether the same was told of a label before this place: mostly it was not long before, so the last are looked at
+/// first.
 fn is_known(tellings: &[Telling], place: usize, telling: &Telling) -> bool
     requires place { place ≤ length tellings.now }
     ensures { result ≡ list_any (is_same telling.now) (take place tellings.now) }
 {
-    tellings[..place].iter().any(|x| is_same(telling, x))
+    tellings[..place].iter().rev().any(|x| is_same(telling, x))
 }
 
 /// The stroke of what was told, with this row.
@@ -137,12 +138,13 @@ fn is_alike(one: bool, other: bool) -> bool
     if one { other } else { !other }
 }
 
-/// Whether both make one stroke.
+/// Whether both make one stroke: mostly another general tells it, so this is looked at first.
+#[inline(always)]
 fn is_same(one: &Telling, other: &Telling) -> bool
     ensures { result ≡ is_same one.now other.now }
 {
-    one.round == other.round
-        && one.teller == other.teller
+    one.teller == other.teller
+        && one.round == other.round
         && is_same_told(one.told, other.told)
         && is_alike(one.differs, other.differs)
 }

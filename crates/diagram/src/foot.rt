@@ -154,8 +154,8 @@ pub fn obeyed_words(obeyed: Option<bool>) -> &'static str
     }
 }
 
-/// Whether they had to.
-fn bound_words(bound: bool) -> &'static str
+/// Whether they had to, of oral messages.
+pub fn bound_words(bound: bool) -> &'static str
     ensures { result.now ≡ bound_words bound }
 {
     if bound {

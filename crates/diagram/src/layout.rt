@@ -1,6 +1,6 @@
 //! Where the parts of a picture stand, in units of it: a column for each general, and a band for each round.
-ghost use Rattle.std.specs.Prelude.{◌≡◌, ◌<◌, ◌+◌, ◌*◌, ◌^◌, count_by, IfOk};
-ghost use Rattle.diagram.specs.Layout.{access_top, board, column, fan_top, height, is_earlier, is_in, most, reach, rows_top, room, top_of, widest, width};
+ghost use Rattle.std.specs.Prelude.{◌≡◌, ◌<◌, ◌+◌, ◌-◌, ◌*◌, ◌^◌, count_by, IfOk};
+ghost use Rattle.diagram.specs.Layout.{board, column, fan_top, height, is_earlier, is_in, most, reach, rows_top, room, top_of, widest, width};
 
 use crate::stroke::Stroke;
 use crate::words::put_shown;
@@ -66,17 +66,17 @@ fn accesses_in(accesses: &[Access], round: u32) -> usize
 }
 
 /// How many accesses the rounds before have.
-fn accesses_before(accesses: &[Access], round: u32) -> usize
+pub(crate) fn accesses_before(accesses: &[Access], round: u32) -> usize
     ensures { result ≡ count_by (is_earlier round) accesses.now }
 {
     accesses.iter().filter(|x| x.round < round).count()
 }
 
-/// Where an access with this place among all is in the band of its round.
-pub(crate) fn access_top(accesses: &[Access], round: u32, place: usize) -> u128
-    ensures { result ≡ access_top accesses.now round place }
+/// Where an access with this place among all is in the band of its round, before which so many are of others.
+pub(crate) fn access_top(before: usize, place: usize) -> u128
+    ensures { result ≡ 16 + 20 * (place - before) }
 {
-    16 + 20 * place.saturating_sub(accesses_before(accesses, round)) as u128
+    16 + 20 * place.saturating_sub(before) as u128
 }
 
 /// Where the strokes of a round begin in its band.

@@ -112,5 +112,5 @@ fn missing_meaning() -> &'static str
 fn wide_meaning() -> &'static str
     ensures { result.now ≡ wide_meaning }
 {
-    "A line is as wide as it has labels, up to 5."
+    "A line leads down to who is told, as wide as it has labels, up to 5."
 }

@@ -16,7 +16,7 @@ mod tellings;
 pub mod words;
 
 pub use facts::strokes;
-pub use laws::diagrams_are_elements;
+pub use laws::{diagrams_are_elements, only_traitors_differ, strokes_are_exact};
 pub use stroke::Stroke;
 pub use svg::campaign_svg;
 pub use words::put_access_words;

@@ -1,5 +1,5 @@
 -- Escaped texts in UTF-8 are texts without tags, byte by byte.
-use Rattle.std.proofs.Common.{ℕ, ◌+◌, ◌/◌, ◌%◌, ◌<◌, ◌≤◌, ◌≡◌, ◌≢◌, Bool, true, false, ◌&&◌, ◌||◌, List, [], ◌∷◌, ◌++◌, refl, sym, ap, ◌∙◌, subst, inl, inr, arith, codes, encode_utf8, encode_utf8_all, chars, append-nil}
+use Rattle.std.proofs.Common.{ℕ, ◌+◌, ◌/◌, ◌<◌, ◌≤◌, ◌≡◌, ◌≢◌, Bool, true, false, ◌&&◌, ◌||◌, List, [], ◌∷◌, ◌++◌, refl, sym, ◌∙◌, subst, inl, inr, arith, codes, encode_utf8, encode_utf8_all, chars, append-nil}
 use Rattle.std.specs.Prelude.{◌==◌, nat_le}
 use Rattle.std.proofs.lemmas.Bool.{cases_lt, cases_eq, le-leb, le-ltb, lt-leb, lt-ltb, ne_eqb, or_from, or_left, or_right, and_from, cond_both, true≢false}
 use Rattle.std.proofs.lemmas.Str.{encodes-append, encode_ascii}

@@ -2,3 +2,4 @@ mod EncodedLaws
 pub mod NumberLemmas
 mod VisibleLaws
 pub mod PageLaws
+pub mod PlainLemmas

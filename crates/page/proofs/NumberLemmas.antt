@@ -1,5 +1,5 @@
 -- The number of a character, as it is written.
-use Rattle.std.proofs.Common.{ℕ, ◌≡◌, List, [], ◌∷◌, ◌++◌, refl, sym, ap, ◌∙◌, append_assoc, codes, encode_utf8_all}
+use Rattle.std.proofs.Common.{ℕ, ◌≡◌, List, ◌∷◌, ◌++◌, sym, ap, ◌∙◌, append_assoc, codes, encode_utf8_all}
 use Rattle.std.proofs.lemmas.Str.{encodes-append}
 use Rattle.std.proofs.Math.Utf8.{encode}
 use Rattle.markup.specs.Escaped.{escaped, written}

@@ -1,8 +1,8 @@
 -- Of what is shown of a text each character is seen.
-use Rattle.std.proofs.Common.{ℕ, ◌+◌, ◌/◌, ◌%◌, ◌<◌, ◌≤◌, ◌≡◌, Bool, true, false, not, ◌&&◌, ◌||◌, List, [], ◌∷◌, ◌++◌, refl, sym, ap, ◌∙◌, arith, codes}
-use Rattle.std.specs.Prelude.{◌==◌, nat_le, nat_lt}
+use Rattle.std.proofs.Common.{ℕ, ◌+◌, ◌/◌, ◌%◌, ◌<◌, ◌≤◌, ◌≡◌, Bool, true, false, not, ◌&&◌, List, [], ◌∷◌, ◌++◌, refl, ap, ◌∙◌, arith}
+use Rattle.std.specs.Prelude.{nat_le, nat_lt}
 use Rattle.std.specs.List.{list_all}
-use Rattle.std.proofs.lemmas.Bool.{and_from, and_parts, cond-false, cond_both, lt-leb, ltb-true, ltb-false, ne_eqb, not-true, or_from}
+use Rattle.std.proofs.lemmas.Bool.{and_from, and_parts, cond-false, cond_both, lt-leb, ltb-true, ne_eqb, not-true, or_from}
 use Rattle.std.proofs.lemmas.List.Folds.{list_all-append}
 use Rattle.markup.specs.Escaped.{is_within}
 use Rattle.page.specs.Laws.{TextsAreVisible}

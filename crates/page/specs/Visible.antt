@@ -10,6 +10,10 @@ is_hidden c =
     is_within 0 8 c || is_within 11 12 c || is_within 14 31 c || is_within 127 159 c || c == 0x61C || c == 0x200B || is_within 0x200E 0x200F c || is_within 0x202A 0x202E c
     || c == 0x2060 || is_within 0x2066 0x2069 c || c == 0xFEFF
 
+-- written as it is: what ASCII prints, but for markup
+abbrev pub is_plain : ℕ → Bool
+is_plain c = is_within 32 33 c || is_within 35 37 c || is_within 40 59 c || c == 61 || is_within 63 126 c
+
 -- a digit to the base of 16
 abbrev pub digit : ℕ → ℕ
 digit d = if nat_lt d 10 then 48 + d else 55 + d

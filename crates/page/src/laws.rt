@@ -6,7 +6,8 @@ pub fn texts_are_text()
     ensures { TextsAreText }
 {}
 
-/// Of a text of others each character is seen, and none turns the order of the others.
+/// Of a text of others no control but white space, no mark of direction and no character of no width is left, of those
+/// in specs/Visible.
 pub fn texts_are_visible()
     ensures { TextsAreVisible }
 {}

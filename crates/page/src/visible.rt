@@ -3,7 +3,7 @@ ghost use Rattle.std.specs.Prelude.{◌≡◌, ◌<◌, ◌++◌, string_bytes, 
 ghost use Rattle.std.specs.Str.{encode_utf8_all};
 ghost use Rattle.markup.specs.Escaped.{escaped};
 ghost use Rattle.page.specs.Page.{shown};
-ghost use Rattle.page.specs.Visible.{digit, is_hidden, made_visible, numbered};
+ghost use Rattle.page.specs.Visible.{digit, is_hidden, is_plain, made_visible, numbered};
 
 use markup::put_character;
 use std::alloc::AllocError;
@@ -22,10 +22,14 @@ pub(crate) fn put_shown(out: &mut String, text: &str) -> Result<(), AllocError>
     Ok(())
 }
 
-/// Adds a character, escaped, or its number.
+/// Adds a character, escaped, or its number: most are written as they are, which is seen first.
+#[tactic(auto, using(crate::proofs::PlainLemmas::plain_written))]
 fn put_visible(out: &mut String, character: char) -> Result<(), AllocError>
     ensures { OnOk result (string_bytes out.new ≡ string_bytes out.old ++ encode_utf8_all (escaped (made_visible character))) }
 {
+    if is_plain(character) {
+        return out.push(character);
+    }
     if is_hidden(character) {
         put_number(out, u32::from(character))
     } else {
@@ -56,6 +60,14 @@ fn digit(value: u32) -> char
     } else {
         char::from(55 + value as u8)
     }
+}
+
+/// Whether a character is written as it is: what ASCII prints, but for markup.
+#[inline(always)]
+fn is_plain(character: char) -> bool
+    ensures { result ≡ is_plain character }
+{
+    matches!(character, ' '..='!' | '#'..='%' | '('..=';' | '=' | '?'..='~')
 }
 
 /// Whether a character is not seen, or turns the order of others.

@@ -27,7 +27,7 @@ use Rattle.signed_diagram.specs.Laws.{SignedDiagramsAreElements}
 use Rattle.signed_diagram.specs.Legend.{differs_meaning, legend, missing_meaning, sent_meaning, wide_meaning}
 use Rattle.signed_diagram.specs.Strokes.{Drawn, bare, strokes_of}
 use Rattle.signed_diagram.specs.Svg.{head, headline, key, signed_svg, signed_words}
-use Rattle.signed_diagram.specs.Words.{chain_words, chains_words, count_words, differs_words, first_words, further_words, lead_words, row_words, sends_words, stroke_words, withheld_words, withholds_words}
+use Rattle.signed_diagram.specs.Words.{chain_words, chains_words, count_words, differs_words, first_words, further_words, lead_words, row_words, sends_words, short_words, stroke_words, withholds_words}
 
 -- ---- words
 
@@ -78,23 +78,22 @@ stroke_text x =
     (many (lead_words st.teller st.receiver st.told) (chains_words x.chains) (lead_text st.teller st.receiver st.told) (chains_text x.chains))
     (differs_text st.differs st.told)
 
+short_text : (ch : Chain) → IsText (short_words ch)
+short_text ch =
+    many (decimal ch.order ++ codes " by ") (dotted ch.signers) (many (decimal ch.order) (codes " by ") (decimal_text ch.order) (bare_text (codes " by ") refl)) (dotted_text ch.signers)
+
 first_text : (chains : List Chain) → IsText (first_words chains)
 first_text [] = no_text
-first_text (ch ∷ chains) = chain_text ch
+first_text (ch ∷ chains) = short_text ch
 
 count_text : (chains : ℕ) → IsText (count_words chains)
 count_text chains =
-    cond_both (chains == 1) [] (codes ", " ++ decimal chains ++ codes " chains") IsText (λ _. no_text)
-    (λ _. many (codes ", " ++ decimal chains) (codes " chains") (numbered (codes ", ") chains (bare_text (codes ", ") refl)) (bare_text (codes " chains") refl))
-
-withheld_text : (told : Option ℕ) → IsText (withheld_words told)
-withheld_text None = bare_text (codes "not sent: ") refl
-withheld_text (Some order) = no_text
+    cond_both (chains == 1) [] (codes " (" ++ decimal chains ++ codes ")") IsText (λ _. no_text)
+    (λ _. many (codes " (" ++ decimal chains) (codes ")") (numbered (codes " (") chains (bare_text (codes " (") refl)) (bare_text (codes ")") refl))
 
 row_text : (x : Drawn) → IsText (row_words x)
 row_text x =
-    many (withheld_words x.stroke.told ++ first_words x.chains) (count_words x.stroke.labels)
-    (many (withheld_words x.stroke.told) (first_words x.chains) (withheld_text x.stroke.told) (first_text x.chains)) (count_text x.stroke.labels)
+    many (first_words x.chains) (count_words x.stroke.labels) (first_text x.chains) (count_text x.stroke.labels)
 
 bound_text : (b : Bool) → IsText (bound_words b)
 bound_text true = bare_text (codes "The bound holds: there are few enough traitors.") refl

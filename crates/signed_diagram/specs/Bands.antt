@@ -24,12 +24,12 @@ row top x =
     group_at (column st.receiver) (top + 12 + 18 * st.row)
     (title (stroke_words x) ++ mark (kind st) (outline st) ++ text_at (codes "small") 12 4 (row_words x))
 
--- both, where it is of this round
+-- both, where it is of this round; they begin at these heights
+abbrev pub drawn_at : ℕ → ℕ → ℕ → ℕ → Drawn → List ℕ
+drawn_at n top below round x = if x.stroke.round == round then stroke_line n top x ++ row below x else []
+
 abbrev pub drawn : ℕ → List Access → ℕ → Drawn → List ℕ
-drawn n accesses round x =
-    if x.stroke.round == round
-    then stroke_line n (fan_top accesses round) x ++ row (rows_top n accesses round) x
-    else []
+drawn n accesses round x = drawn_at n (fan_top accesses round) (rows_top n accesses round) round x
 
 -- what a round's band has, of this width and height
 abbrev pub inside : ℕ → List Drawn → List Access → ℕ → ℕ → ℕ → List ℕ

@@ -2,12 +2,12 @@
 use Rattle.std.specs.Prelude.{ℕ, Bool, true, false, List, ◌++◌, codes}
 use Rattle.world.specs.Chronicle.{Chronicle}
 use Rattle.world.specs.declared.verdict.Verdict.{Verdict}
-use Rattle.diagram.specs.Foot.{alike_words, decided_all, obeyed_words}
+use Rattle.diagram.specs.Foot.{alike_words, decided_all, obeyed_words, bound_words as oral_bound}
 use Rattle.diagram.specs.Shapes.{group_at, line, text_at}
 use Rattle.signed_diagram.specs.Legend.{legend}
 
 abbrev pub bound_words : Bool → List ℕ
-bound_words true = codes "The bound holds: there are few enough traitors."
+bound_words true = oral_bound true
 bound_words false = codes "The bound does not hold, by too many traitors: no promise."
 
 abbrev pub verdict_lines : Verdict → List ℕ

@@ -12,7 +12,7 @@ unfoldable pub missing_meaning : List ℕ
 missing_meaning = codes "not sent, and a loyal general would send it"
 
 unfoldable pub wide_meaning : List ℕ
-wide_meaning = codes "A line is as wide as it has chains, up to 5."
+wide_meaning = codes "A line leads down, as wide as it has chains, up to 5; its row has the first, and how many."
 
 abbrev pub legend : List ℕ
 legend = legend_of sent_meaning differs_meaning missing_meaning wide_meaning

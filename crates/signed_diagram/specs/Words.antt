@@ -39,16 +39,15 @@ stroke_words x =
     ++ differs_words x.stroke.differs x.stroke.told
 
 -- what is written of it in the receiver's column: its first chain, and of how many it is
+abbrev pub short_words : Chain → List ℕ
+short_words ch = decimal ch.order ++ codes " by " ++ dotted ch.signers
+
 abbrev pub first_words : List Chain → List ℕ
 first_words [] = []
-first_words (ch ∷ chains) = chain_words ch
+first_words (ch ∷ chains) = short_words ch
 
 abbrev pub count_words : ℕ → List ℕ
-count_words chains = if chains == 1 then [] else codes ", " ++ decimal chains ++ codes " chains"
-
-abbrev pub withheld_words : Option ℕ → List ℕ
-withheld_words None = codes "not sent: "
-withheld_words (Some order) = []
+count_words chains = if chains == 1 then [] else codes " (" ++ decimal chains ++ codes ")"
 
 abbrev pub row_words : Drawn → List ℕ
-row_words x = withheld_words x.stroke.told ++ first_words x.chains ++ count_words x.stroke.labels
+row_words x = first_words x.chains ++ count_words x.stroke.labels

@@ -1,7 +1,7 @@
 //! The bands of a picture, one for each round.
 ghost use Rattle.std.specs.Prelude.{◌≡◌, ◌++◌, ◌+◌, ◌<◌, ◌^◌, codes, flat_map, string_bytes, OnOk};
 ghost use Rattle.diagram.specs.Shapes.{text_at, title};
-ghost use Rattle.signed_diagram.specs.Bands.{band, bands, drawn, inside, row, stroke_line};
+ghost use Rattle.signed_diagram.specs.Bands.{band, bands, drawn, drawn_at, inside, row, stroke_line};
 ghost use Rattle.signed_diagram.specs.Words.{row_words, stroke_words};
 
 use crate::stroke::ChainStroke;
@@ -86,27 +86,33 @@ fn put_strokes(
 ) -> Result<(), AllocError>
     ensures { OnOk result (string_bytes out.new ≡ string_bytes out.old ++ flat_map (drawn generals accesses.now round) strokes.now) }
 {
+    let top = fan_top(accesses, round);
+    let below = rows_top(generals, accesses, round);
     for stroke in strokes {
-        put_drawn(out, generals, accesses, round, stroke)?;
+        put_drawn(out, generals, top, below, round, stroke)?;
     }
     Ok(())
 }
 
-/// Adds a stroke, where it is of this round, and its row in the receiver's list.
+/// Adds a stroke, where it is of this round, and its row in the receiver's list: they begin at these heights.
 fn put_drawn(
     out: &mut String,
     generals: u8,
-    accesses: &[Access],
+    top: u128,
+    below: u128,
     round: u32,
     stroke: &ChainStroke,
 ) -> Result<(), AllocError>
-    ensures { OnOk result (string_bytes out.new ≡ string_bytes out.old ++ drawn generals accesses.now round stroke.now) }
+    requires top { top < 2 ^ 80 }
+    requires below { below < 2 ^ 81 }
+    ensures { OnOk result (string_bytes out.new
+        ≡ string_bytes out.old ++ drawn_at generals top below round stroke.now) }
 {
     if stroke.stroke().round != round as usize {
         return Ok(());
     }
-    put_stroke(out, generals, fan_top(accesses, round), stroke)?;
-    put_row(out, rows_top(generals, accesses, round), stroke)
+    put_stroke(out, generals, top, stroke)?;
+    put_row(out, below, stroke)
 }
 
 /// Adds a stroke that begins at this height.

@@ -3,7 +3,7 @@ ghost use Rattle.std.specs.Prelude.{◌≡◌, ◌++◌, string_bytes, OnOk};
 ghost use Rattle.signed_diagram.specs.Foot.{bound_words, foot, verdict_lines};
 
 use crate::legend::put_legend;
-use diagram::foot::{alike_words, obeyed_words, put_decisions};
+use diagram::foot::{alike_words, bound_words as oral_bound_words, obeyed_words, put_decisions};
 use diagram::shapes::{put_group_end, put_group_start, put_line, put_words};
 use signed::SignedChronicle;
 use std::alloc::AllocError;
@@ -38,11 +38,11 @@ fn put_verdict(out: &mut String, verdict: Verdict) -> Result<(), AllocError>
 }
 
 /// Whether the loyal lieutenants had to agree.
-fn bound_words(bound: bool) -> &'static str
+pub fn bound_words(bound: bool) -> &'static str
     ensures { result.now ≡ bound_words bound }
 {
     if bound {
-        "The bound holds: there are few enough traitors."
+        oral_bound_words(true)
     } else {
         "The bound does not hold, by too many traitors: no promise."
     }

@@ -47,5 +47,5 @@ fn missing_meaning() -> &'static str
 fn wide_meaning() -> &'static str
     ensures { result.now ≡ wide_meaning }
 {
-    "A line is as wide as it has chains, up to 5."
+    "A line leads down, as wide as it has chains, up to 5; its row has the first, and how many."
 }

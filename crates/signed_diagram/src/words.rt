@@ -2,7 +2,7 @@
 ghost use Rattle.std.specs.Prelude.{◌≡◌, ◌++◌, codes, flat_map, string_bytes, OnOk};
 ghost use Rattle.std.specs.Fmt.{decimal};
 ghost use Rattle.book.specs.Explained.{dotted};
-ghost use Rattle.signed_diagram.specs.Words.{chain_words, chains_words, count_words, differs_words, first_words, further_words, lead_words, row_words, sends_words, stroke_words, withheld_words, withholds_words};
+ghost use Rattle.signed_diagram.specs.Words.{chain_words, chains_words, count_words, differs_words, first_words, further_words, lead_words, row_words, sends_words, short_words, stroke_words, withholds_words};
 
 use crate::signed_order::SignedOrder;
 use crate::stroke::ChainStroke;
@@ -123,13 +123,22 @@ pub(crate) fn put_stroke_words(out: &mut String, stroke: &ChainStroke) -> Result
     out.push_str(differs_words(plain.differs, plain.told))
 }
 
+/// Adds a chain in few words, which a column has room for.
+fn put_short(out: &mut String, chain: &SignedOrder) -> Result<(), AllocError>
+    ensures { OnOk result (string_bytes out.new ≡ string_bytes out.old ++ short_words chain.now) }
+{
+    let order = chain.order();
+    write!(out, "{order} by ")?;
+    put_signers(out, chain.signers())
+}
+
 /// Adds the first of these chains.
 fn put_first(out: &mut String, chains: &[SignedOrder]) -> Result<(), AllocError>
     ensures { OnOk result (string_bytes out.new ≡ string_bytes out.old ++ first_words chains.now) }
 {
     match chains {
         [] => Ok(()),
-        [first, ..] => put_chain(out, first),
+        [first, ..] => put_short(out, first),
     }
 }
 
@@ -140,17 +149,7 @@ fn put_count(out: &mut String, chains: usize) -> Result<(), AllocError>
     if chains == 1 {
         return Ok(());
     }
-    write!(out, ", {chains} chains")
-}
-
-/// What is said of chains that were not sent.
-fn withheld_words(told: Option<u32>) -> &'static str
-    ensures { result.now ≡ withheld_words told }
-{
-    match told {
-        None => "not sent: ",
-        Some(_) => "",
-    }
+    write!(out, " ({chains})")
 }
 
 /// Adds what is written of a stroke in its receiver's column.
@@ -158,7 +157,6 @@ pub(crate) fn put_row_words(out: &mut String, stroke: &ChainStroke) -> Result<()
     ensures { OnOk result (string_bytes out.new ≡ string_bytes out.old ++ row_words stroke.now) }
 {
     let plain = *stroke.stroke();
-    out.push_str(withheld_words(plain.told))?;
     put_first(out, stroke.chains())?;
     put_count(out, plain.labels)
 }

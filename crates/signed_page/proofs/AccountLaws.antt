@@ -1,11 +1,11 @@
 -- Signed campaigns' pages are elements.
-use Rattle.std.proofs.Common.{ℕ, ◌≡◌, ◌==◌, List, [], ◌++◌, Option}
+use Rattle.std.proofs.Common.{ℕ, ◌==◌, List, [], Option}
 use Rattle.std.specs.List.{flat_map, range_with_len}
 use Rattle.std.proofs.lemmas.Bool.{cond_both}
 use Rattle.markup.specs.Grammar.{IsContent, joined, no_text, text}
-use Rattle.page.specs.Page.{heading, lines}
+use Rattle.page.specs.Page.{lines}
 use Rattle.page.proofs.PageLaws.{proved_pages_are_elements, proved_parts_are_content}
-use Rattle.round.specs.Scenario.{Scenario, is_traitor}
+use Rattle.round.specs.Scenario.{is_traitor}
 use Rattle.signed.specs.Explained.{acceptance_of}
 use Rattle.signed_diagram.specs.Svg.{signed_svg}
 use Rattle.signed_diagram.proofs.PictureLaws.{proved_signed_diagrams_are_elements}
@@ -14,7 +14,7 @@ use Rattle.world.specs.Chronicle.{Chronicle}
 use Rattle.world.specs.declared.schedule.Repeat.{Repeat}
 use Rattle.campaign_page.specs.Account.{accesses_part, chronicle_shown, picture_told, programs_part, scenario_part, schedule_part, verdict_told}
 use Rattle.campaign_page.proofs.AccountLaws.{accesses_content, all, below, chronicle_content, programs_content, scenario_content, schedule_content, svg_content, verdict_content}
-use Rattle.signed_page.specs.Account.{bound_told, lieutenant_part, lieutenant_told, lieutenant_words, lieutenants_heading, lieutenants_part, parts, signed_page_text, signed_title}
+use Rattle.signed_page.specs.Account.{bound_told, lieutenant_part, lieutenant_told, lieutenant_words, lieutenants_heading, lieutenants_part, parts, signed_title}
 use Rattle.signed_page.specs.Laws.{SignedPagesAreElements}
 
 picture_content : (c : Chronicle) → IsContent (picture_told (signed_svg c))

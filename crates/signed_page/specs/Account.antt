@@ -5,11 +5,12 @@ use Rattle.std.specs.List.{range_with_len}
 use Rattle.page.specs.Page.{fold, heading, lines, page}
 use Rattle.round.specs.Scenario.{Scenario, is_traitor}
 use Rattle.signed.specs.Explained.{acceptance_of}
+use Rattle.signed_diagram.specs.Foot.{bound_words}
 use Rattle.signed_diagram.specs.Svg.{signed_svg}
 use Rattle.trace.specs.SignedText.{signed_text}
 use Rattle.world.specs.Chronicle.{Chronicle}
 use Rattle.world.specs.declared.schedule.Repeat.{Repeat}
-use Rattle.campaign_page.specs.Account.{accesses_part, chronicle_shown, picture_told, programs_part, scenario_part, schedule_part, title, verdict_told}
+use Rattle.campaign_page.specs.Account.{accesses_part, chronicle_shown, picture_told, programs_part, promise_words, scenario_part, schedule_part, title, verdict_told}
 
 -- which orders a lieutenant accepts, by which chains, and what he decides of them
 unfoldable pub lieutenants_heading : List ℕ
@@ -31,9 +32,9 @@ abbrev pub lieutenants_part : Chronicle → List ℕ
 lieutenants_part c = heading lieutenants_heading ++ flat_map (lieutenant_part c) (range_with_len 0 c.scenario.generals)
 
 -- which promise holds (TOPLAS 1982, Theorem 2)
-unfoldable pub bound_told : Bool → List ℕ
-bound_told true = codes "The bound holds: there are few enough traitors, so that loyal lieutenants decide alike, and obey a loyal commander, whatever the traitors do."
-bound_told false = codes "The bound does not hold, by too many traitors: no promise."
+abbrev pub bound_told : Bool → List ℕ
+bound_told true = promise_words
+bound_told false = bound_words false
 
 -- all sections, of a chronicle whose scenario this text tells, and which was played by this schedule, if by one
 unfoldable pub parts : List ℕ → Option (List (List Repeat)) → Chronicle → List ℕ

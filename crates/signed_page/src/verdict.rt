@@ -3,7 +3,8 @@ ghost use Rattle.std.specs.Prelude.{◌≡◌, ◌++◌, string_bytes, OnOk};
 ghost use Rattle.campaign_page.specs.Account.{verdict_told};
 ghost use Rattle.signed_page.specs.Account.{bound_told};
 
-use campaign_page::put_verdict_told;
+use campaign_page::{promise_words, put_verdict_told};
+use signed_diagram::bound_words;
 use std::alloc::AllocError;
 use world::Verdict;
 
@@ -11,17 +12,16 @@ use world::Verdict;
 pub(crate) fn put_verdict(out: &mut String, verdict: Verdict) -> Result<(), AllocError>
     ensures { OnOk result (string_bytes out.new ≡ string_bytes out.old ++ verdict_told verdict (bound_told verdict.bound)) }
 {
-    put_verdict_told(out, verdict, bound_words(verdict.bound))
+    put_verdict_told(out, verdict, bound_told(verdict.bound))
 }
 
 /// Which promise holds (TOPLAS 1982, Theorem 2).
-#[tactic(auto, unfolding(crate::specs::Account::bound_told))]
-fn bound_words(bound: bool) -> &'static str
+fn bound_told(bound: bool) -> &'static str
     ensures { result.now ≡ bound_told bound }
 {
     if bound {
-        "The bound holds: there are few enough traitors, so that loyal lieutenants decide alike, and obey a loyal commander, whatever the traitors do."
+        promise_words()
     } else {
-        "The bound does not hold, by too many traitors: no promise."
+        bound_words(false)
     }
 }

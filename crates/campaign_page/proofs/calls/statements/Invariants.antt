@@ -1,0 +1,6 @@
+use Rattle.campaign_page.proofs.CallLemmas.{AreNamed}
+use Rattle.campaign_page.proofs.calls.statements.Given as goal
+
+-- the units so far
+abbrev pub invariant-loop-unit : goal.invariant-loop-unit
+invariant-loop-unit l = AreNamed l.program l.statements.items l.unit

@@ -1,0 +1,75 @@
+//! The calls of a program, as the assembly writes them.
+ghost use Rattle.std.specs.Prelude.{◌≡◌, [], IfOk, string_bytes};
+ghost use Rattle.explain.specs.Explained.{explained_at};
+ghost use Rattle.explain.specs.Units.{in_lists};
+ghost use Rattle.campaign_page.specs.Calls.{call_if, call_of, call_text, named_calls};
+
+use explain::{Written, explanation_at};
+use helper::{Helper, helper_of};
+use insn::{Insn, Program};
+use std::alloc::{AllocError, Global};
+
+/// What the verifier knows of a program, in which helpers are called by name.
+pub(crate) fn explanation(alloc: Global, program: &Program) -> Result<String, AllocError>
+    ensures { IfOk result (λ text. string_bytes text ≡ explained_at (named_calls program.now) program.now) }
+{
+    let statements = statements(alloc, program)?;
+    let written = Written {
+        places: &[],
+        statements: statements.as_slice(),
+    };
+    explanation_at(alloc, program, &written)
+}
+
+/// How each unit's call is written; an empty text of other instructions.
+#[tactic(auto, using(crate::proofs::CallLemmas::all_named, crate::proofs::CallLemmas::none_named, crate::proofs::CallLemmas::one_named))]
+fn statements(alloc: Global, program: &Program) -> Result<Vec<String>, AllocError>
+    ensures { IfOk result (λ texts. in_lists [] texts.items ≡ named_calls program.now) }
+{
+    let mut statements = Vec::with_capacity(alloc, program.units())?;
+    for unit in 0..program.units() {
+        let text = String::from_str(alloc, call_if(program.at(unit)))?;
+        statements.push(text)?;
+    }
+    Ok(statements)
+}
+
+/// How the call of a unit is written, if an instruction starts there.
+fn call_if(insn: Option<Insn>) -> &'static str
+    ensures { result.now ≡ call_if insn }
+{
+    match insn {
+        Some(insn) => call_text(insn),
+        None => "",
+    }
+}
+
+/// How a call is written.
+fn call_text(insn: Insn) -> &'static str
+    ensures { result.now ≡ call_text insn }
+{
+    match insn {
+        Insn::Call { helper } => call_of(helper_of(helper)),
+        _ => "",
+    }
+}
+
+/// How a call of the helper is written, if there is one.
+fn call_of(helper: Option<Helper>) -> &'static str
+    ensures { result.now ≡ call_of helper }
+{
+    match helper {
+        None => "",
+        Some(Helper::BoardGet) => "call board_get",
+        Some(Helper::BoardSwap) => "call board_swap",
+        Some(Helper::BoardAdd) => "call board_add",
+        Some(Helper::BoardCas) => "call board_cas",
+        Some(Helper::BoardCopy) => "call board_copy",
+        Some(Helper::Send) => "call send",
+        Some(Helper::SendRow) => "call send_row",
+        Some(Helper::Sway) => "call sway",
+        Some(Helper::Honest) => "call honest",
+        Some(Helper::SignOrder) => "call sign_order",
+        Some(Helper::PassOn) => "call pass_on",
+    }
+}

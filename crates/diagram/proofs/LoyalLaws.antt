@@ -1,0 +1,142 @@
+-- What is drawn of loyal generals.
+use Rattle.std.proofs.Common.{ℕ, zero, suc, ◌+◌, ◌<◌, ◌≤◌, ◌≡◌, ◌≢◌, Bool, true, false, not, List, [], ◌∷◌, ◌++◌, length, length-append, refl, sym, ap, subst, ◌∙◌, arith, Option, Some}
+use Rattle.std.proofs.lemmas.Bool.{cond_both, eq-eqb, eqb-false, or_parts}
+use Rattle.std.proofs.lemmas.List.Elements.{All-from_recursion}
+use Rattle.std.specs.Prelude.{◌==◌, codes, count_by, take}
+use Rattle.std.specs.List.{AllByRecursion, list_any}
+use Rattle.label.specs.Labels.{on, others}
+use Rattle.label.specs.Oral.{IsFaithful, Messages, heard, taken}
+use Rattle.label.proofs.Counting.{others-on}
+use Rattle.label.proofs.Places.{all-append}
+use Rattle.book.specs.Conditions.{is_told}
+use Rattle.book.specs.Grammar.{is_place}
+use Rattle.book.specs.Table.{MessageTable, told}
+use Rattle.book.proofs.Places.{all_flat}
+use Rattle.book.proofs.TreeLemmas.{place_of_tree}
+use Rattle.drawing.proofs.PlaceLemmas.{place_next, teller_told}
+use Rattle.round.specs.Letters.{messages}
+use Rattle.round.specs.Scenario.{is_traitor}
+use Rattle.tables.proofs.Reread.{apart_first, first_label, place_from}
+use Rattle.world.specs.World.{opening, run}
+use Rattle.world.proofs.Agreeing.{proved_worlds_agree}
+use Rattle.diagram.specs.declared.stroke.Stroke.{Stroke}
+use Rattle.diagram.specs.declared.telling.Telling.{Telling}
+use Rattle.diagram.specs.Facts.{added, is_before, is_same, made, strokes_below, strokes_of, strokes_to, strokes_with, telling_at, tellings_below, tellings_by, tellings_of}
+use Rattle.diagram.specs.Laws.{IsDrawnHonest, OnlyTraitorsDiffer}
+use Rattle.diagram.specs.Words.{kind_of}
+
+-- who tells what he took does not differ
+told_so : (order : ℕ) (o : Option ℕ) → o ≡ Some order → not (is_told order o) ≡ false
+told_so order o e = ap (λ (x : Option ℕ). not (is_told order x)) e ∙ ap not (eq-eqb order order refl)
+
+-- of a label that is not empty a general heard what he took
+took : (M : Messages) (order : ℕ) (w : List ℕ) (g : ℕ) → 0 < length w → heard M order w g ≡ taken M w g
+took M order [] g some = absurd (omega arith)
+took M order (x ∷ xs) g some = refl
+
+-- a general who is not on a list is not its first
+apart : (c p : ℕ) → (p == c) ≡ false → p ≢ c
+apart c p e = eqb-false p c e
+
+-- a stroke of a loyal general is plain
+abbrev IsPlain : (ℕ → Bool) → Stroke → Type 0
+IsPlain traitor stroke = traitor stroke.teller ≡ false → stroke.differs ≡ false
+
+-- and so is what he told
+abbrev IsHonest : (ℕ → Bool) → Telling → Type 0
+IsHonest traitor telling = traitor telling.teller ≡ false → telling.differs ≡ false
+
+drawn_plain : (differs : Bool) (o : Option ℕ) → differs ≡ false → kind_of differs o ≡ codes "told"
+drawn_plain differs o e = ap (λ (b : Bool). kind_of b o) e
+
+-- ---- strokes of what was told
+
+added_plain : (traitor : ℕ → Bool) (p : ℕ) (all : List Telling) (place : ℕ) (done : List Stroke) (telling : Telling)
+    → IsHonest traitor telling → AllByRecursion (IsPlain traitor) done → AllByRecursion (IsPlain traitor) (added p all place done telling)
+unfolding added
+added_plain traitor p all place done telling here a =
+    let new : List Stroke = made p all telling (count_by (is_before telling.round p) done) ∷ [] in
+    let last : AllByRecursion (IsPlain traitor) new = (here, tt) in
+    cond_both (list_any (is_same telling) (take place all)) done (done ++ new) (AllByRecursion (IsPlain traitor)) (λ _. a) (λ _. all-append (IsPlain traitor) done new a last)
+
+below_plain : (traitor : ℕ → Bool) (p : ℕ) (all : List Telling) (place : ℕ) (done : List Stroke) (rest : List Telling)
+    → AllByRecursion (IsHonest traitor) rest → AllByRecursion (IsPlain traitor) done → AllByRecursion (IsPlain traitor) (strokes_below p all place done rest)
+unfolding strokes_below
+below_plain traitor p all place done [] h a = a
+below_plain traitor p all place done (telling ∷ rest) h a =
+    below_plain traitor p all (place + 1) (added p all place done telling) rest h.1 (added_plain traitor p all place done telling h.0 a)
+
+-- ---- a campaign whose loyal generals are faithful, and its table
+
+module _ (M : Messages) (order : ℕ) (traitor : ℕ → Bool) (t : MessageTable)
+    (same : (w : List ℕ) (p : ℕ) → is_place t w p ≡ true → told t.messages w p ≡ M w p)
+    (inside : t.commander < t.generals)
+    (faithful : (g : ℕ) → g < t.generals → traitor g ≡ false → IsFaithful t.generals t.commander t.bound order M g) where
+  -- what a loyal general tells of a label
+  tells_so : (w : List ℕ) (j p : ℕ) → length w ≤ t.bound → j < t.generals → is_place t (w ++ j ∷ []) p ≡ true → traitor j ≡ false → told t.messages (w ++ j ∷ []) p ≡ Some (heard M order w j)
+  tells_so w j p short general place loyal =
+      let own = place_of_tree t M (w ++ j ∷ []) p place in
+      same (w ++ j ∷ []) p place ∙ faithful j general loyal w p own.0.label short own.1 own.0.without
+
+  telling_honest : (w : List ℕ) (j p : ℕ) → 0 < length w → length w ≤ t.bound → j < t.generals → is_place t (w ++ j ∷ []) p ≡ true → IsHonest traitor (telling_at t w j p)
+  telling_honest w j p some short general place loyal =
+      let his : told t.messages w j ≡ M w j = same w j (teller_told t w j p some place) in
+      let took_it : heard M order w j ≡ taken (told t.messages) w j = took M order w j some ∙ ap (λ (o : Option ℕ). taken (λ v q. o) w j) (sym his) in
+      told_so (taken (told t.messages) w j) (told t.messages (w ++ j ∷ []) p) (tells_so w j p short general place loyal ∙ ap Some took_it)
+
+  all_below : (k : ℕ) (w : List ℕ) (p : ℕ) → 0 < length w → length w + k ≡ t.bound + 1 → is_place t w p ≡ true → AllByRecursion (IsHonest traitor) (tellings_below t k w p)
+  unfolding tellings_below
+  all_below zero w p some size place = tt
+  all_below (suc k) w p some size place =
+      all_flat (IsHonest traitor) (tellings_by t k w p) (others t.generals (p ∷ w))
+      (λ j there.
+      let off = others-on t.generals (p ∷ w) j there in
+      let parts = or_parts (p == j) (on w j) off.1 in
+      let next : is_place t (w ++ j ∷ []) p ≡ true = place_next t w j p place (omega arith) off.0 parts.1 (λ e. eqb-false p j parts.0 (sym e)) in
+      let long : length (w ++ j ∷ []) ≡ length w + 1 = length-append w (j ∷ []) in
+      (telling_honest w j p some (omega arith) off.0 next, all_below k (w ++ j ∷ []) p (omega arith) (omega arith) next))
+
+  all_told : (p : ℕ) → p < t.generals → p ≢ t.commander → AllByRecursion (IsHonest traitor) (tellings_of t order p)
+  unfolding tellings_of
+  all_told p general lieutenant =
+      let place : is_place t (t.commander ∷ []) p ≡ true =
+      place_from t.generals t.bound t.commander (t.commander ∷ []) p (first_label t.generals t.commander inside) general (apart_first t.commander p lieutenant) (omega arith)
+      in (
+        λ loyal. told_so order (told t.messages (t.commander ∷ []) p) (tells_so [] t.commander p (omega arith) inside place loyal),
+        all_below t.bound (t.commander ∷ []) p (omega arith) (omega arith) place,
+      )
+
+  with_plain : (p : ℕ) (done : List Stroke) → p < t.generals → AllByRecursion (IsPlain traitor) done → AllByRecursion (IsPlain traitor) (strokes_with t order p done)
+  unfolding strokes_with
+  with_plain p done general a =
+      cond_both (p == t.commander) done (strokes_below p (tellings_of t order p) 0 done (tellings_of t order p)) (AllByRecursion (IsPlain traitor)) (λ _. a)
+      (λ e. below_plain traitor p (tellings_of t order p) 0 done (tellings_of t order p) (all_told p general (apart t.commander p e)) a)
+
+  to_plain : (p : ℕ) → p ≤ t.generals → AllByRecursion (IsPlain traitor) (strokes_to t order p)
+  unfolding strokes_to
+  to_plain zero l = tt
+  to_plain (suc p) l = with_plain p (strokes_to t order p) (omega arith) (to_plain p (omega arith))
+
+weaker : {A : Type 0} (P Q : A → Type 0) (xs : List A) → ((x : A) → P x → Q x) → AllByRecursion P xs → AllByRecursion Q xs
+weaker P Q [] h a = tt
+weaker P Q (x ∷ xs) h a = (h x a.0, weaker P Q xs h a.1)
+
+pub proved_only_traitors_differ : OnlyTraitorsDiffer
+unfolding strokes_of
+proved_only_traitors_differ = record {
+  drawn = λ s events t is.
+      let table = is.table in
+      let M : Messages = messages (run (opening s) events).closed in
+      let P : ℕ → ℕ → ℕ → Type 0 = λ n m c. (g : ℕ) → g < n → is_traitor s g ≡ false → IsFaithful n c m s.order M g in
+      let first : P t.generals s.bound s.commander = subst (λ (n : ℕ). P n s.bound s.commander) (sym table.generals) (proved_worlds_agree.faithful s events is.scenario is.finished) in
+      let second : P t.generals t.bound s.commander = subst (λ (m : ℕ). P t.generals m s.commander) (sym table.bound) first in
+      let third : P t.generals t.bound t.commander = subst (λ (c : ℕ). P t.generals t.bound c) (sym table.commander) second in
+      let present : s.commander < s.generals = is.scenario.commander in
+      let n = table.generals in
+      let c = table.commander in
+      let R : Stroke → Type 0 = λ stroke. is_traitor s stroke.teller ≡ false → IsDrawnHonest stroke in
+      All-from_recursion R (strokes_of t s.order)
+      (weaker (IsPlain (is_traitor s)) R (strokes_of t s.order) (λ stroke plain loyal. (plain loyal, drawn_plain stroke.differs stroke.told (plain loyal)))
+      (to_plain M s.order (is_traitor s) t table.told (omega arith) third t.generals (omega arith)));
+  honest = λ t w j p e. told_so (taken (told t.messages) w j) (told t.messages (w ++ j ∷ []) p) e;
+}
