@@ -16,7 +16,7 @@ use Rattle.world.proofs.Moves.{run-append}
 use Rattle.explore.specs.declared.exploration.Reach.TheVariants.{Whole, Beyond, InPart}
 use Rattle.explore.specs.Exploring.{Finding, outcomes_of, counted_in, ways_to, IsReal, IsCappedFinding, IsExplored, IsExploredBeyond, IsExploration}
 use Rattle.explore.specs.Gathering.{IsOfState, tallied, AreGathered}
-use Rattle.explore.specs.Layers.{State, kept, AsKept, IsFreshOf, AreRounds, behind_all, reached, IsCommon, over_rounds, AreLayers}
+use Rattle.explore.specs.Layers.{State, kept, AsKept, IsFreshOf, AreRounds, behind_all, IsCommon, over_rounds, AreLayers}
 use Rattle.explore.specs.Listing.{Has, AreDifferent, orders, most_in_round}
 use Rattle.explore.specs.Orders.{IsFrom, IsOrder, behind, order_of}
 use Rattle.explore.specs.Outcomes.{oral_outcome, outcome_of, outcome_in}

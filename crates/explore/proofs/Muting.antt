@@ -7,7 +7,6 @@ use Rattle.world.specs.declared.event.Event.TheVariants.{Tick, Post, Close}
 use Rattle.round.specs.Activation.{Activation, Turn, Goes, Asks, Ended, turn}
 use Rattle.round.specs.Scenario.{Scenario}
 use Rattle.round.proofs.Going.{ended_over}
-use Rattle.world.specs.declared.part.Part.{Part}
 use Rattle.world.specs.declared.part.Part.TheVariants.{Acting}
 use Rattle.world.specs.Kind.{World, happen, posting, run}
 use Rattle.world.specs.KindLists.{IsMove, AreMoves, wound_up}
@@ -20,7 +19,7 @@ use Rattle.world.proofs.Moves.{run-append}
 use Rattle.world.proofs.Punctual.{run_scenario}
 use Rattle.world.proofs.Ticking.{still_tick}
 use Rattle.explore.specs.Orders.{asks_or, asks_within, will_ask, behind}
-use Rattle.explore.proofs.RunningOn.{GoesOn, goes_is, never, on, tick_on, post_on, tick_at, post_at, within}
+use Rattle.explore.proofs.RunningOn.{GoesOn, goes_is, never, tick_on, post_on, tick_at, post_at, within}
 
 -- he makes no access any more
 record IsMute (x : ℕ) (w : World) : Type 0 where

@@ -24,7 +24,7 @@ use Rattle.explore.specs.Orders.{will_ask, past, behind, IsRoundFrom}
 use Rattle.explore.specs.Listing.{askers}
 use Rattle.explore.specs.Walks.{IsWalk}
 use Rattle.explore.specs.Ahead.{RunsOn, IsRunOn}
-use Rattle.explore.specs.Layers.{State, behind_all, reached, AreRounds, IsStateOf, IsFreshOf, IsAhead, IsPastOf, or_sum}
+use Rattle.explore.specs.Layers.{State, behind_all, reached, AreRounds, IsStateOf, IsFreshOf, IsPastOf, or_sum}
 use Rattle.explore.proofs.Bounded.{get_of}
 use Rattle.explore.proofs.Listed.{nobody}
 use Rattle.explore.proofs.Steady.{reached_time, run_more, runs_asks, runs_behind, runs_past, runs_scenario, runs_time}

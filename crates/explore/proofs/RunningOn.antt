@@ -1,17 +1,16 @@
 -- Turns that ask nothing may be taken before their time.
-use Rattle.std.proofs.Common.{◌≡◌, ◌≢◌, ℕ, zero, suc, ◌≤◌, List, [], ◌∷◌, ◌++◌, length, true, false, refl, sym, ap, subst, ◌∙◌, ◌⊎◌, inl, inr, ⊎_elim, Option, Some, None, arith}
+use Rattle.std.proofs.Common.{◌≡◌, ◌≢◌, ℕ, zero, suc, List, [], ◌∷◌, length, true, false, refl, sym, ap, subst, ◌∙◌, ◌⊎◌, inl, inr, ⊎_elim, Option, Some, None}
 use Rattle.std.specs.Prelude.{slice_get, slice_set, replicate, ◌==◌}
 use Rattle.std.proofs.lemmas.Bool.Decides.{eqb_tells}
 use Rattle.board.specs.Board.{reply}
-use Rattle.world.specs.declared.event.Event.{Event}
-use Rattle.world.specs.declared.event.Event.TheVariants.{Tick, Post, Close}
-use Rattle.round.specs.Activation.{Activation, Turn, Goes, Asks, Ended, turn, has_ended}
+use Rattle.world.specs.declared.event.Event.TheVariants.{Tick, Post}
+use Rattle.round.specs.Activation.{Activation, Turn, Goes, Asks, Ended, turn}
 use Rattle.round.specs.Scenario.{Scenario}
 use Rattle.round.proofs.Going.{over_ended, ended_over}
 use Rattle.world.specs.declared.part.Part.{Part}
 use Rattle.world.specs.declared.part.Part.TheVariants.{Acting, Silent, Posted}
 use Rattle.world.specs.Kind.{World, happen, posting, run, served, ticked}
-use Rattle.world.specs.KindLists.{IsMove, AreMoves, further_turns, until_access, ticks_named}
+use Rattle.world.specs.KindLists.{further_turns, until_access, ticks_named}
 use Rattle.world.specs.Playing.{IsStill}
 use Rattle.world.specs.World.{oral_kind}
 use Rattle.world.proofs.Complete.{Within, WithinAfter, turn_left, due_within}
