@@ -304,7 +304,7 @@ const EXPLORE: Subcommand<'static> = Subcommand {
         Flag::Option {
             name: "most",
             value: "N",
-            help: "Stops after this many orders; without it all are played, however many",
+            help: "Stops after this many orders; without it all are counted, however many",
         },
         Flag::Option {
             name: "keep",

@@ -16,7 +16,7 @@ use Rattle.world.proofs.Moves.{run-append}
 use Rattle.explore.specs.declared.exploration.Reach.TheVariants.{Whole, Beyond, InPart}
 use Rattle.explore.specs.Exploring.{Finding, outcomes_of, counted_in, ways_to, IsReal, IsCappedFinding, IsExplored, IsExploredBeyond, IsExploration}
 use Rattle.explore.specs.Gathering.{IsOfState, tallied, AreGathered}
-use Rattle.explore.specs.Layers.{State, kept, AsKept, IsFreshOf, AreRounds, behind_all, reached, IsCommon, over_rounds, AreLayers}
+use Rattle.explore.specs.Layers.{State, kept, AsKept, IsFreshOf, AreRounds, behind_all, IsCommon, over_rounds, AreLayers}
 use Rattle.explore.specs.Listing.{Has, AreDifferent, orders, most_in_round}
 use Rattle.explore.specs.Orders.{IsFrom, IsOrder, behind, order_of}
 use Rattle.explore.specs.Outcomes.{oral_outcome, outcome_of, outcome_in}
@@ -145,8 +145,7 @@ module _ (s : Scenario) (is : IsScenario s) (states : List State) (findings : Li
       let st = fresh.state in
       let from : IsFrom oral_kind (opening oral_kind s) (suc s.bound) h.t.rows = rounds_from (suc s.bound) h.t.rows (opening oral_kind s) st.rounds st.count in
       let order : IsOrder oral_kind s h.t.rows = ((orders_decide oral_kind oral_campaigns).steps s h.t.rows is).1 from in
-      let there : h.t.world ≡ behind_all (opening oral_kind s) h.t.rows =
-      st.world ∙ ap (λ (names : List ℕ). reached (opening oral_kind s) h.t.rows names) fresh.fresh in
+      let there : h.t.world ≡ behind_all (opening oral_kind s) h.t.rows = fresh.begins in
       let outcome : outcome_of oral_kind oral_outcome s h.t.rows ≡ oral_outcome h.t.world = ap oral_outcome (rounds_run (suc s.bound) h.t.rows (opening oral_kind s) st.count ∙ sym there) in
       let A : List (List ℕ) → Type 0 = λ o. IsOrder oral_kind s o in
       let example : IsOrder oral_kind s f.example = subst A (sym h.example) order in
@@ -197,6 +196,7 @@ module _ (s : Scenario) (is : IsScenario s) (states : List State) (findings : Li
     all = λ e. absurd (let f : Beyond ≡ Whole = e in cc);
     beyond = λ e. explored_beyond h;
     part = λ e. absurd (let f : Beyond ≡ InPart = e in cc);
+    least = λ lt. absurd (omega arith);
   }
 
   pub is_whole : kept (counted_in findings) < 2 ^ 64 - 1 → IsExploration oral_kind oral_outcome s (2 ^ 64 - 1) (record { findings = findings; reach = Whole })
@@ -205,4 +205,5 @@ module _ (s : Scenario) (is : IsScenario s) (states : List State) (findings : Li
     all = λ e. explored_whole h;
     beyond = λ e. absurd (let f : Whole ≡ Beyond = e in cc);
     part = λ e. absurd (let f : Whole ≡ InPart = e in cc);
+    least = λ lt. absurd (omega arith);
   }

@@ -25,3 +25,6 @@ pub mod Collecting
 pub mod Concluding
 pub mod Comparing
 pub mod Stating
+pub mod RunningOn
+pub mod Muting
+pub mod Steady

@@ -10,20 +10,24 @@ use Rattle.label.specs.Labels.{generals}
 use Rattle.round.specs.Scenario.{Scenario, IsScenario}
 use Rattle.world.specs.declared.part.Part.{Part}
 use Rattle.world.specs.declared.part.Part.TheVariants.{Silent}
-use Rattle.world.specs.Kind.{World, opening, run}
+use Rattle.world.specs.declared.event.Event.{Event}
+use Rattle.world.specs.declared.event.Event.TheVariants.{Tick}
+use Rattle.world.specs.Kind.{World, happen, opening, run}
+use Rattle.world.specs.KindHeld.{IsReached}
 use Rattle.world.specs.KindLists.{names_events, wound_up, ticks_named}
 use Rattle.world.specs.Playing.{lists_in}
 use Rattle.world.specs.World.{oral_kind}
-use Rattle.world.proofs.Kept.{IsKept}
+use Rattle.world.proofs.Lasting.{IsOnTime}
 use Rattle.world.proofs.Moves.{run-append}
 use Rattle.world.proofs.Punctual.{run_scenario}
-use Rattle.world.proofs.Rounds.{opening_kept, run_kept}
 use Rattle.explore.specs.Orders.{will_ask, past, behind, IsRoundFrom}
 use Rattle.explore.specs.Listing.{askers}
 use Rattle.explore.specs.Walks.{IsWalk}
-use Rattle.explore.specs.Layers.{State, behind_all, reached, AreRounds, IsStateOf, IsFreshOf, or_sum}
+use Rattle.explore.specs.Ahead.{RunsOn, IsRunOn}
+use Rattle.explore.specs.Layers.{State, behind_all, reached, AreRounds, IsStateOf, IsFreshOf, IsPastOf, or_sum}
 use Rattle.explore.proofs.Bounded.{get_of}
 use Rattle.explore.proofs.Listed.{nobody}
+use Rattle.explore.proofs.Steady.{reached_time, run_more, runs_asks, runs_behind, runs_past, runs_scenario, runs_time}
 
 -- a round more
 pub behind_more : (w : World) (rows : List (List ℕ)) (row : List ℕ) → behind_all w (rows ++ row ∷ []) ≡ behind oral_kind (behind_all w rows) row
@@ -77,64 +81,111 @@ walk_ends w (x ∷ names) h none =
     let A : World → Type 0 = λ v. (g : ℕ) → will_ask (slice_get v.parts g) ≡ false in
     (h.0, walk_ends (past oral_kind w x) names h.1 (subst A (events_first w x names) none))
 
+-- a world behind some events of one that is reached
+pub reached_behind : (w : World) (events : List Event) → IsReached oral_kind w → IsReached oral_kind (run oral_kind w events)
+reached_behind w events h = (
+  h.0 ++ events,
+  ap (λ (s : Scenario). run oral_kind (opening oral_kind s) (h.0 ++ events)) (run_scenario oral_kind events w)
+      ∙ (run-append oral_kind h.0 events (opening oral_kind w.scenario) ∙ ap (λ (v : World). run oral_kind v events) h.1),
+)
+
+pub runs_reached : (gs : List ℕ) (w v : World) → IsReached oral_kind w → RunsOn w gs v → IsReached oral_kind v
+runs_reached [] w v h r = subst (λ (u : World). IsReached oral_kind u) r h
+runs_reached (x ∷ gs) w v h r = runs_reached gs (happen oral_kind w (Tick x)) v (reached_behind w (Tick x ∷ []) h) r.1
+
+all_reached : (rows : List (List ℕ)) (w : World) → IsReached oral_kind w → IsReached oral_kind (behind_all w rows)
+all_reached [] w h = h
+all_reached (r ∷ rows) w h = all_reached rows (behind oral_kind w r) (reached_behind w (names_events oral_kind w r ++ wound_up w.scenario) h)
+
+all_scenario : (rows : List (List ℕ)) (w : World) → (behind_all w rows).scenario ≡ w.scenario
+all_scenario [] w = refl
+all_scenario (r ∷ rows) w = all_scenario rows (behind oral_kind w r) ∙ run_scenario oral_kind (names_events oral_kind w r ++ wound_up w.scenario) w
+
+-- the world of a way
+pub way_reached : (s : Scenario) (rows : List (List ℕ)) (names : List ℕ) → IsReached oral_kind (reached (opening oral_kind s) rows names)
+way_reached s rows names =
+    let u = behind_all (opening oral_kind s) rows in
+    reached_behind u (names_events oral_kind u names) (all_reached rows (opening oral_kind s) ([], refl))
+
+pub way_scenario : (s : Scenario) (rows : List (List ℕ)) (names : List ℕ) → (reached (opening oral_kind s) rows names).scenario ≡ s
+way_scenario s rows names =
+    let u = behind_all (opening oral_kind s) rows in
+    run_scenario oral_kind (names_events oral_kind u names) u ∙ all_scenario rows (opening oral_kind s)
+
+pub way_time : (s : Scenario) → IsScenario s → (rows : List (List ℕ)) (names : List ℕ) → IsOnTime oral_kind s (reached (opening oral_kind s) rows names)
+way_time s good rows names =
+    let w = reached (opening oral_kind s) rows names in
+    let e = way_scenario s rows names in
+    let t = reached_time w (subst (λ (c : Scenario). IsScenario c) (sym e) good) (way_reached s rows names) in
+    subst (λ (c : Scenario). IsOnTime oral_kind c w) e t
+
 module _ (s : Scenario) (k : ℕ) (t : State) (is : IsStateOf s k t) where
-  pub past_state : (g : ℕ) → will_ask (slice_get t.world.parts g) ≡ true → IsStateOf s k (record { world = past oral_kind t.world g; ways = t.ways; rows = t.rows; names = t.names ++ g ∷ [] })
-  past_state g asks =
-      let u = behind_all (opening oral_kind s) t.rows in
-      let A : World → Type 0 = λ v. will_ask (slice_get v.parts g) ≡ true in
-      record {
-        rounds = is.rounds;
-        count = is.count;
-        walk = walk_more u t.names g is.walk (subst A is.world asks);
-        world = ap (λ (v : World). past oral_kind v g) is.world ∙ sym (names_more u t.names g);
-      }
-
-  pub closed_state : askers t.world ≡ [] → IsFreshOf s (suc k) (record { world = behind oral_kind t.world []; ways = t.ways; rows = t.rows ++ t.names ∷ []; names = [] })
-  closed_state none =
-      let u = behind_all (opening oral_kind s) t.rows in
-      let v = run oral_kind u (names_events oral_kind u t.names) in
-      let A : World → Type 0 = λ x. (g : ℕ) → will_ask (slice_get x.parts g) ≡ false in
-      let whole : IsRoundFrom oral_kind u t.names = walk_ends u t.names is.walk (subst A is.world (nobody t.world none)) in
-      let same : v.scenario ≡ u.scenario = run_scenario oral_kind (names_events oral_kind u t.names) u in
-      let there : behind oral_kind t.world [] ≡ behind oral_kind u t.names =
-      ap (λ (x : World). behind oral_kind x []) is.world ∙ (ap (λ (c : Scenario). run oral_kind v (wound_up c)) same ∙ sym (behind_events u t.names)) in
-      record {
-        state = record {
-          rounds = rounds_more (opening oral_kind s) t.rows t.names is.rounds whole;
-          count = length-append t.rows (t.names ∷ []) ∙ (let c = is.count in omega arith);
-          walk = tt;
-          world = there ∙ sym (behind_more (opening oral_kind s) t.rows t.names);
-        };
-        fresh = refl;
-      }
-
-  -- its scenario, and how many parts it has
-  all_scenario : (rows : List (List ℕ)) (w : World) → (behind_all w rows).scenario ≡ w.scenario
-  all_scenario [] w = refl
-  all_scenario (r ∷ rows) w = all_scenario rows (behind oral_kind w r) ∙ run_scenario oral_kind (names_events oral_kind w r ++ wound_up w.scenario) w
+  abbrev way : World
+  way = reached (opening oral_kind s) t.rows t.names
 
   pub scenario_is : t.world.scenario ≡ s
-  scenario_is =
-      let u = behind_all (opening oral_kind s) t.rows in
-      ap (λ (v : World). v.scenario) is.world ∙ (run_scenario oral_kind (names_events oral_kind u t.names) u ∙ all_scenario t.rows (opening oral_kind s))
+  scenario_is = runs_scenario is.world.0 way t.world is.world.1 ∙ way_scenario s t.rows t.names
 
-  all_kept : (rows : List (List ℕ)) (w : World) → IsKept oral_kind w → IsKept oral_kind (behind_all w rows)
-  all_kept [] w h = h
-  all_kept (r ∷ rows) w h = all_kept rows (behind oral_kind w r) (run_kept oral_kind (names_events oral_kind w r ++ wound_up w.scenario) w h)
+  module _ (good : IsScenario s) where
+    pub state_time : IsOnTime oral_kind s t.world
+    state_time = runs_time s is.world.0 (reached (opening oral_kind s) t.rows t.names) t.world (way_time s good t.rows t.names) is.world.1
 
-  few_from : (ps : List Part) (n : ℕ) → ((g : ℕ) (part : Part) → slice_get ps g ≡ Some part → g < n) → length ps ≤ n
-  few_from ps n h =
-      ⊎_elim (λ (e : nat_lt n (length ps) ≡ true). (let lt = ltb-true n (length ps) e in let l = h n (slice_index_or ps n Silent) (get_of ps n Silent lt) in omega arith)) (λ (e : nat_lt n (length ps) ≡ false). ltb-false n (length ps) e)
-      (cases_Bool (nat_lt n (length ps)))
+    -- an access more, from the world of its way or one that is run on from there
+    pub past_state : (w : World) → IsRunOn (reached (opening oral_kind s) t.rows t.names) w → (g : ℕ) (next : State) → IsPastOf w t g (Some next) → IsStateOf s k next
+    past_state w on g next (asks, ahead) =
+        let o = opening oral_kind s in
+        let u = behind_all o t.rows in
+        let r = reached o t.rows t.names in
+        let time = way_time s good t.rows t.names in
+        let will : will_ask (slice_get r.parts g) ≡ true = sym (runs_asks s on.0 r w time on.1 g) ∙ asks in
+        let more : IsRunOn (past oral_kind r g) next.world = run_more (past oral_kind r g) (past oral_kind w g) next.world (runs_past s on.0 r w time on.1 g) ahead.world in
+        let made : State = record { world = next.world; ways = next.ways; rows = t.rows; names = t.names ++ g ∷ [] } in
+        let of_made : IsStateOf s k made = record {
+          rounds = is.rounds;
+          count = is.count;
+          walk = walk_more u t.names g is.walk will;
+          world = subst (λ (v : World). IsRunOn v next.world) (sym (names_more u t.names g)) more;
+        } in
+        let same : made ≡ next = (λ i. record { world = next.world; ways = next.ways; rows = sym ahead.rows i; names = sym ahead.names i }) in
+        subst (λ (v : State). IsStateOf s k v) same of_made
 
-  pub few_parts : IsScenario s → length t.world.parts ≤ s.generals
-  few_parts good =
-      let u = behind_all (opening oral_kind s) t.rows in
-      let v = run oral_kind u (names_events oral_kind u t.names) in
-      let h = run_kept oral_kind (names_events oral_kind u t.names) u (all_kept t.rows (opening oral_kind s) (opening_kept oral_kind s good.board)) in
-      let A : World → Type 0 = λ x. IsKept oral_kind x in
-      let here : IsKept oral_kind t.world = subst A (sym is.world) h in
-      few_from t.world.parts s.generals (λ g part e. (let l = (here.parts g part e).0 in let c : t.world.scenario.generals ≡ s.generals = ap (λ (x : Scenario). x.generals) scenario_is in omega arith))
+    -- nobody has one left
+    pub nobody_asks : askers t.world ≡ [] → (g : ℕ) → will_ask (slice_get (reached (opening oral_kind s) t.rows t.names).parts g) ≡ false
+    nobody_asks none g = sym (runs_asks s is.world.0 (reached (opening oral_kind s) t.rows t.names) t.world (way_time s good t.rows t.names) is.world.1 g) ∙ nobody t.world none g
+
+    pub ends_alike : askers t.world ≡ [] → behind oral_kind t.world [] ≡ behind oral_kind (reached (opening oral_kind s) t.rows t.names) []
+    ends_alike none = runs_behind s is.world.0 (reached (opening oral_kind s) t.rows t.names) t.world (way_time s good t.rows t.names) is.world.1 (nobody_asks none)
+
+    pub closed_state : askers t.world ≡ [] → IsFreshOf s (suc k) (record { world = behind oral_kind (reached (opening oral_kind s) t.rows t.names) []; ways = t.ways; rows = t.rows ++ t.names ∷ []; names = [] })
+    closed_state none =
+        let o = opening oral_kind s in
+        let u = behind_all o t.rows in
+        let v = run oral_kind u (names_events oral_kind u t.names) in
+        let whole : IsRoundFrom oral_kind u t.names = walk_ends u t.names is.walk (nobody_asks none) in
+        let same : v.scenario ≡ u.scenario = run_scenario oral_kind (names_events oral_kind u t.names) u in
+        let there : behind oral_kind v [] ≡ behind oral_kind u t.names = ap (λ (c : Scenario). run oral_kind v (wound_up c)) same ∙ sym (behind_events u t.names) in
+        let begun = there ∙ sym (behind_more o t.rows t.names) in
+        record {
+          state = record {
+            rounds = rounds_more o t.rows t.names is.rounds whole;
+            count = length-append t.rows (t.names ∷ []) ∙ (let c = is.count in omega arith);
+            walk = tt;
+            world = ([], sym begun);
+          };
+          fresh = refl;
+          begins = begun;
+        }
+
+    -- how many parts it has
+    few_from : (ps : List Part) (n : ℕ) → ((g : ℕ) (part : Part) → slice_get ps g ≡ Some part → g < n) → length ps ≤ n
+    few_from ps n h =
+        ⊎_elim (λ (e : nat_lt n (length ps) ≡ true). (let lt = ltb-true n (length ps) e in let l = h n (slice_index_or ps n Silent) (get_of ps n Silent lt) in omega arith)) (λ (e : nat_lt n (length ps) ≡ false). ltb-false n (length ps) e)
+        (cases_Bool (nat_lt n (length ps)))
+
+    pub few_parts : length t.world.parts ≤ s.generals
+    few_parts =
+        let here = state_time.kept in
+        few_from t.world.parts s.generals (λ g part e. (let l = (here.parts g part e).0 in let c : t.world.scenario.generals ≡ s.generals = ap (λ (x : Scenario). x.generals) scenario_is in omega arith))
 
 -- who asks, of so many
 abbrev pub askers_below : World → ℕ → List ℕ

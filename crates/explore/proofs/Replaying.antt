@@ -23,7 +23,7 @@ use Rattle.explore.specs.Outcomes.{oral_outcome, outcome_in}
 use Rattle.explore.specs.Succession.{next_order}
 use Rattle.explore.specs.Walks.{AreWalks}
 use Rattle.explore.proofs.Tallying.{Order}
-use Rattle.explore.proofs.Visiting.{IsVisited, visit_first, visit_next, visit_last, visit_counts, visit_limit}
+use Rattle.explore.proofs.Visiting.{IsVisited, AreFirst, visit_first, visit_next, visit_last, visit_counts, visit_limit, last_first, limit_first}
 use Rattle.explore.proofs.ScheduleLaws.{orders_walk}
 
 pub on_ok : {A E : Type 0} (r : Result A E) (P : Type 0) → P → OnOk r P
@@ -88,6 +88,17 @@ module _ (s : Scenario) (is : IsScenario s) where
       let stops = sym (subst (λ (l : List (Vec ℕ Global)). None ≡ next_order (order_of oral_kind s (replayed oral_kind s (lists_in l)))) same e) in
       let A : List Finding → Type 0 = λ l. IsExplored oral_kind oral_outcome s l in
       subst A (sym here) (visit_last oral_kind oral_campaigns oral_outcome s is n (lists_in names) findings v stops)
+
+  -- of each outcome the least order that leads there
+  pub visits_first : (n : ℕ) (names slice : List (Vec ℕ Global)) (findings new : List Finding) → IsVisited oral_kind oral_outcome s n (lists_in names) findings → slice ≡ names →
+      Entered (lists_in slice) findings new → None ≡ next_order (order_of oral_kind s (replayed oral_kind s (lists_in slice))) → AreFirst oral_kind oral_campaigns oral_outcome s is new
+  visits_first n names slice findings new v same made e =
+      let here : Entered (lists_in names) findings new = subst (λ (l : List (Vec ℕ Global)). Entered (lists_in l) findings new) same made in
+      let stops = sym (subst (λ (l : List (Vec ℕ Global)). None ≡ next_order (order_of oral_kind s (replayed oral_kind s (lists_in l)))) same e) in
+      subst (λ (l : List Finding). AreFirst oral_kind oral_campaigns oral_outcome s is l) (sym here) (last_first oral_kind oral_campaigns oral_outcome s is n (lists_in names) findings v stops)
+
+  pub cut_first : (n : ℕ) (names : List (Vec ℕ Global)) (findings : List Finding) → IsVisited oral_kind oral_outcome s n (lists_in names) findings → AreFirst oral_kind oral_campaigns oral_outcome s is findings
+  cut_first n names findings v = limit_first oral_kind oral_campaigns oral_outcome s is n (lists_in names) findings v
 
   pub visits_few : (n most : ℕ) (names slice : List (Vec ℕ Global)) (findings new : List Finding) → IsVisited oral_kind oral_outcome s n (lists_in names) findings → slice ≡ names → Entered (lists_in slice) findings new → n < most → counted_in new ≤ most
   visits_few n most names slice findings new v same made lt =

@@ -8,13 +8,19 @@ use Rattle.std.proofs.lemmas.List.Elements.{All-weaker, All-nil, All-push}
 use Rattle.round.specs.Scenario.{Scenario, IsScenario}
 use Rattle.world.specs.declared.part.Part.{Part}
 use Rattle.world.specs.Kind.{World, opening}
+use Rattle.world.specs.KindHeld.{IsReached}
+use Rattle.world.specs.KindLists.{ticks_named}
 use Rattle.world.specs.Playing.{program_length}
 use Rattle.world.specs.World.{oral_kind}
+use Rattle.world.proofs.Lasting.{IsOnTime}
+use Rattle.world.proofs.Punctual.{run_scenario}
 use Rattle.explore.specs.Orders.{will_ask, past, behind}
 use Rattle.explore.specs.Listing.{askers, most_in_round}
-use Rattle.explore.specs.Layers.{State, kept, AsKept, IsStateOf, AreStatesOf, IsFreshOf, AreFreshOf, IsEntered, IsPastOf, IsAsked, IsCommon, weighed, weighed_both, stepped, over_round, over_rounds, or_sum, IsExpanded, IsStep, IsRoundOn, AreLayers, reached}
+use Rattle.explore.specs.Ahead.{IsRunOn}
+use Rattle.explore.specs.Layers.{State, kept, AsKept, IsStateOf, AreStatesOf, IsFreshOf, AreFreshOf, IsEntered, IsPastOf, IsAsked, IsCommon, IsSteady, weighed, weighed_both, stepped, over_round, over_rounds, or_sum, IsExpanded, IsStep, IsRoundOn, AreLayers, reached}
 use Rattle.explore.proofs.Branching.{last_step, next_step, round_common, rounds_common}
-use Rattle.explore.proofs.Reaching.{past_state, closed_state, scenario_is, few_parts, askers_below, asks_more, asks_no_more, all_askers, or_some}
+use Rattle.explore.proofs.Reaching.{past_state, closed_state, ends_alike, scenario_is, few_parts, reached_behind, runs_reached, way_reached, way_scenario, way_time, askers_below, asks_more, asks_no_more, all_askers, or_some}
+use Rattle.explore.proofs.Steady.{round_steady, zero_steady, runs_asks, runs_past, runs_scenario, runs_time}
 use Rattle.explore.proofs.Stepping.{idle_asks}
 use Rattle.explore.proofs.Weighing.{as_more, entered_weighs, entered_states, entered_fresh}
 
@@ -28,7 +34,7 @@ fresh_states s k states all = All-weaker (IsFreshOf s k) (IsStateOf s k) (λ u h
 -- so many generals have been asked
 pub record IsSpread (s : Scenario) (t : State) (n : ℕ) (old new : List State) (asked : Bool) : Type 0 where
   pub states : (k : ℕ) → IsStateOf s k t → AreStatesOf s k old → AreStatesOf s k new
-  pub weight : (k : ℕ) (f : World → ℕ) → IsStateOf s k t → AreStatesOf s k old → IsCommon f →
+  pub weight : (k : ℕ) (f : World → ℕ) → IsStateOf s k t → AreStatesOf s k old → IsCommon f → IsSteady f →
       AsKept (weighed f new) (weighed f old + t.ways * sum_by (λ g. f (past oral_kind t.world g)) (askers_below t.world n))
   pub none : asked ≡ false → (new ≡ old) × (askers_below t.world n ≡ [])
   pub some : asked ≡ true → askers_below t.world n ≡ [] → ⊥
@@ -36,7 +42,7 @@ pub record IsSpread (s : Scenario) (t : State) (n : ℕ) (old new : List State) 
 pub spread_begins : (s : Scenario) (t : State) (old : List State) → IsSpread s t 0 old old false
 spread_begins s t old = record {
   states = λ k is all. all;
-  weight = λ k f is all common. (let e : weighed f old ≡ weighed f old + t.ways * 0 = omega arith in ap kept e);
+  weight = λ k f is all common steady. (let e : weighed f old ≡ weighed f old + t.ways * 0 = omega arith in ap kept e);
   none = λ e. (refl, refl);
   some = λ e. absurd (let c : false ≡ true = e in cc);
 }
@@ -50,39 +56,68 @@ spread_none s t n old new asked h idle =
     let e : askers_below t.world (n + 1) ≡ askers_below t.world n = asks_no_more t.world n idle in
     record {
       states = h.states;
-      weight = λ k f is all common. h.weight k f is all common ∙ ap (λ (l : List ℕ). kept (weighed f old + t.ways * sum_by (λ g. f (past oral_kind t.world g)) l)) (sym e);
+      weight = λ k f is all common steady. h.weight k f is all common steady ∙ ap (λ (l : List ℕ). kept (weighed f old + t.ways * sum_by (λ g. f (past oral_kind t.world g)) l)) (sym e);
       none = λ a. ((h.none a).0, e ∙ (h.none a).1);
       some = λ a b. h.some a (sym e ∙ b);
     }
 
-pub spread_some : (s : Scenario) (t next : State) (n : ℕ) (old mid new : List State) (asked : Bool) → IsSpread s t n old mid asked → IsPastOf t n (Some next) → IsEntered mid next new → IsSpread s t (n + 1) old new true
-spread_some s t next n old mid new asked h past_is entered =
-    let made : State = record { world = past oral_kind t.world n; ways = t.ways; rows = t.rows; names = t.names ++ n ∷ [] } in
-    let e : askers_below t.world (n + 1) ≡ askers_below t.world n ++ n ∷ [] = asks_more t.world n past_is.0 in
-    let of_made : IsEntered mid made new = subst (λ (u : State). IsEntered mid u new) past_is.1 entered in
-    record {
-      states = λ k is all. entered_states s k mid made new of_made (h.states k is all) (past_state s k t is n past_is.0);
-      weight = λ k f is all common.
-          let g : ℕ → ℕ = λ x. f (past oral_kind t.world x) in
-          let one = entered_weighs f mid made new s common of_made (states_scenario s k mid (h.states k is all)) (scenario_is s k made (past_state s k t is n past_is.0)) in
-          let before = as_more (2 ^ 64 - 1) (weighed f mid) (weighed f old + t.ways * sum_by g (askers_below t.world n)) (t.ways * g n) (h.weight k f is all common) in
-          let sum : sum_by g (askers_below t.world (n + 1)) ≡ sum_by g (askers_below t.world n) + g n = ap (sum_by g) e ∙ sum_by_push g (askers_below t.world n) n in
-          let times : t.ways * sum_by g (askers_below t.world (n + 1)) ≡ t.ways * sum_by g (askers_below t.world n) + t.ways * g n = ap (λ (x : ℕ). t.ways * x) sum ∙ mul-add t.ways (sum_by g (askers_below t.world n)) (g n) in
-          let last : weighed f old + t.ways * sum_by g (askers_below t.world n) + t.ways * g n ≡ weighed f old + t.ways * sum_by g (askers_below t.world (n + 1)) = omega arith in
-          one ∙ (before ∙ ap kept last);
-      none = λ a. absurd (let c : true ≡ false = a in cc);
-      some = λ a b. end_not_empty (askers_below t.world n) n (sym e ∙ b);
-    }
+-- a world in which they are asked: that of the state's way, or one that is run on from there
+pub record IsBase (s : Scenario) (t : State) (w : World) : Type 0 where
+  pub good : IsScenario s
+  pub from : IsRunOn (reached (opening oral_kind s) t.rows t.names) w
+  pub to : IsRunOn w t.world
 
-pub spread_more : (s : Scenario) (t : State) (n : ℕ) (old mid new : List State) (asked one : Bool) → IsSpread s t n old mid asked → IsAsked t n mid one new → IsSpread s t (n + 1) old new (asked || one)
-spread_more s t n old mid new asked false h (none, same) =
-    by asked (subst (λ (l : List State). IsSpread s t (n + 1) old l asked) (sym same) (spread_none s t n old mid asked h none))
-  where
-    by : (b : Bool) → IsSpread s t (n + 1) old new b → IsSpread s t (n + 1) old new (b || false)
-    by true k = k
-    by false k = k
-spread_more s t n old mid new true true h (next, is, entered) = spread_some s t next n old mid new true h is entered
-spread_more s t n old mid new false true h (next, is, entered) = spread_some s t next n old mid new false h is entered
+module _ (s : Scenario) (t : State) (w : World) (base : IsBase s t w) where
+  base_reached : IsReached oral_kind w
+  base_reached = runs_reached base.from.0 (reached (opening oral_kind s) t.rows t.names) w (way_reached s t.rows t.names) base.from.1
+
+  base_scenario : w.scenario ≡ s
+  base_scenario = runs_scenario base.from.0 (reached (opening oral_kind s) t.rows t.names) w base.from.1 ∙ way_scenario s t.rows t.names
+
+  base_time : IsOnTime oral_kind s w
+  base_time = runs_time s base.from.0 (reached (opening oral_kind s) t.rows t.names) w (way_time s base.good t.rows t.names) base.from.1
+
+  -- they are those who are asked in the state's own world
+  same_asks : (g : ℕ) → will_ask (slice_get t.world.parts g) ≡ will_ask (slice_get w.parts g)
+  same_asks g = runs_asks s base.to.0 w t.world base_time base.to.1 g
+
+  -- and what comes behind the access is the same
+  same_past : (f : World → ℕ) → IsSteady f → (g : ℕ) (v : World) → IsRunOn (past oral_kind w g) v → f v ≡ f (past oral_kind t.world g)
+  same_past f steady g v on =
+      let ticks = ticks_named g (slice_get w.parts g) in
+      let u = past oral_kind w g in
+      let scenario : u.scenario ≡ s = run_scenario oral_kind ticks w ∙ base_scenario in
+      let is : IsScenario u.scenario = subst (λ (c : Scenario). IsScenario c) (sym scenario) base.good in
+      let there : IsReached oral_kind u = reached_behind w ticks base_reached in
+      steady u v is there on ∙ sym (steady u (past oral_kind t.world g) is there (runs_past s base.to.0 w t.world base_time base.to.1 g))
+
+  pub spread_some : (next : State) (n : ℕ) (old mid new : List State) (asked : Bool) → IsSpread s t n old mid asked → IsPastOf w t n (Some next) → IsEntered mid next new → IsSpread s t (n + 1) old new true
+  spread_some next n old mid new asked h past_is entered =
+      let e : askers_below t.world (n + 1) ≡ askers_below t.world n ++ n ∷ [] = asks_more t.world n (same_asks n ∙ past_is.0) in
+      record {
+        states = λ k is all. entered_states s k mid next new entered (h.states k is all) (past_state s k t is base.good w base.from n next past_is);
+        weight = λ k f is all common steady.
+            let g : ℕ → ℕ = λ x. f (past oral_kind t.world x) in
+            let one = entered_weighs f mid next new s common entered (states_scenario s k mid (h.states k is all)) (scenario_is s k next (past_state s k t is base.good w base.from n next past_is)) in
+            let here : next.ways * f next.world ≡ t.ways * g n = (λ i. past_is.1.ways i * same_past f steady n next.world past_is.1.world i) in
+            let before = as_more (2 ^ 64 - 1) (weighed f mid) (weighed f old + t.ways * sum_by g (askers_below t.world n)) (t.ways * g n) (h.weight k f is all common steady) in
+            let sum : sum_by g (askers_below t.world (n + 1)) ≡ sum_by g (askers_below t.world n) + g n = ap (sum_by g) e ∙ sum_by_push g (askers_below t.world n) n in
+            let times : t.ways * sum_by g (askers_below t.world (n + 1)) ≡ t.ways * sum_by g (askers_below t.world n) + t.ways * g n = ap (λ (x : ℕ). t.ways * x) sum ∙ mul-add t.ways (sum_by g (askers_below t.world n)) (g n) in
+            let last : weighed f old + t.ways * sum_by g (askers_below t.world n) + t.ways * g n ≡ weighed f old + t.ways * sum_by g (askers_below t.world (n + 1)) = omega arith in
+            one ∙ (ap (λ (x : ℕ). kept (weighed f mid + x)) here ∙ (before ∙ ap kept last));
+        none = λ a. absurd (let c : true ≡ false = a in cc);
+        some = λ a b. end_not_empty (askers_below t.world n) n (sym e ∙ b);
+      }
+
+  pub spread_more : (n : ℕ) (old mid new : List State) (asked one : Bool) → IsSpread s t n old mid asked → IsAsked w t n mid one new → IsSpread s t (n + 1) old new (asked || one)
+  spread_more n old mid new asked false h (none, same) =
+      by asked (subst (λ (l : List State). IsSpread s t (n + 1) old l asked) (sym same) (spread_none s t n old mid asked h (same_asks n ∙ none)))
+    where
+      by : (b : Bool) → IsSpread s t (n + 1) old new b → IsSpread s t (n + 1) old new (b || false)
+      by true k = k
+      by false k = k
+  spread_more n old mid new true true h (next, is, entered) = spread_some next n old mid new true h is entered
+  spread_more n old mid new false true h (next, is, entered) = spread_some next n old mid new false h is entered
 
 -- the rest of the generals do not act
 pub spread_rest : (s : Scenario) (t : State) (k n : ℕ) (old new : List State) (asked : Bool) → IsSpread s t n old new asked
@@ -102,21 +137,19 @@ spread_all s t last n old new asked h less idle =
     (spread_rest s t (n - (last + 1)) (last + 1) old new asked h (λ g a b. idle_asks (slice_get t.world.parts g) (idle g (omega arith) (omega arith))))
 
 -- the last who acts is asked of the state itself, and then all are
-pub spread_last : (s : Scenario) (t u : State) (last n all : ℕ) (parts : List Part) (old mid new : List State) (asked own : Bool) → n ≡ last → all ≡ s.generals → last < all
-    → u ≡ t → parts ≡ t.world.parts → IsSpread s t n old mid asked → IsAsked u last mid own new
+pub spread_last : (s : Scenario) (t u : State) (last n all : ℕ) (parts : List Part) (old mid new : List State) (asked own : Bool) → IsBase s t t.world → n ≡ last → all ≡ s.generals → last < all
+    → u ≡ t → parts ≡ t.world.parts → IsSpread s t n old mid asked → IsAsked u.world u last mid own new
     → ((g : ℕ) → last < g → g < all → program_length (slice_get parts g) ≡ None) → IsSpread s t s.generals old new (asked || own)
-spread_last s t u last n all parts old mid new asked own there whole inside same acting h asks idle =
-    let one = spread_more s t last old mid new asked own (subst (λ (m : ℕ). IsSpread s t m old mid asked) there h) (subst (λ (v : State). IsAsked v last mid own new) same asks) in
+spread_last s t u last n all parts old mid new asked own base there whole inside same acting h asks idle =
+    let one = spread_more s t t.world base last old mid new asked own (subst (λ (m : ℕ). IsSpread s t m old mid asked) there h) (subst (λ (v : State). IsAsked v.world v last mid own new) same asks) in
     spread_all s t last s.generals old new (asked || own) one (omega (arith, whole, inside))
     (λ g a b. subst (λ (l : List Part). program_length (slice_get l g) ≡ None) acting (idle g a (omega (arith, whole, b))))
 
 -- the state as the next round begins, by its parts
-pub shut_is : (o : World) (t u shut : State) → u ≡ t → t.world ≡ reached o t.rows t.names
+pub shut_is : (o : World) (t u shut : State) → u ≡ t
     → shut ≡ record { world = behind oral_kind (reached o u.rows u.names) []; ways = u.ways; rows = u.rows ++ u.names ∷ []; names = [] }
-    → shut ≡ record { world = behind oral_kind t.world []; ways = t.ways; rows = t.rows ++ t.names ∷ []; names = [] }
-shut_is o t u shut same there is =
-    is ∙ ((λ i. record { world = behind oral_kind (reached o (same i).rows (same i).names) []; ways = (same i).ways; rows = (same i).rows ++ (same i).names ∷ []; names = [] })
-    ∙ ap (λ (w : World). record { world = behind oral_kind w []; ways = t.ways; rows = t.rows ++ t.names ∷ []; names = [] }) (sym there))
+    → shut ≡ record { world = behind oral_kind (reached o t.rows t.names) []; ways = t.ways; rows = t.rows ++ t.names ∷ []; names = [] }
+shut_is o t u shut same is = is ∙ (λ i. record { world = behind oral_kind (reached o (same i).rows (same i).names) []; ways = (same i).ways; rows = (same i).rows ++ (same i).names ∷ []; names = [] })
 
 module _ (s : Scenario) (t : State) (next done new : List State) where
   -- somebody had an access left
@@ -124,37 +157,39 @@ module _ (s : Scenario) (t : State) (next done new : List State) where
   expanded_on h = record {
     states = h.states;
     fresh = λ k is all. all;
-    weight = λ k f h' good is all fresh common common'.
+    weight = λ k f h' good is all fresh common steady common'.
         let whole : askers_below t.world s.generals ≡ askers t.world = all_askers t.world s.generals (few_parts s k t is good) in
         let g : ℕ → ℕ = λ x. f (past oral_kind t.world x) in
         let some : askers t.world ≡ [] → ⊥ = λ e. h.some refl (whole ∙ e) in
         let sum : stepped f h' t.world ≡ sum_by g (askers_below t.world s.generals) = or_some (askers t.world) (h' (behind oral_kind t.world [])) g some ∙ ap (sum_by g) (sym whole) in
-        let one = as_more (2 ^ 64 - 1) (weighed f new) (weighed f next + t.ways * sum_by g (askers_below t.world s.generals)) (weighed h' done) (h.weight k f is all common) in
+        let one = as_more (2 ^ 64 - 1) (weighed f new) (weighed f next + t.ways * sum_by g (askers_below t.world s.generals)) (weighed h' done) (h.weight k f is all common steady) in
         let times : t.ways * stepped f h' t.world ≡ t.ways * sum_by g (askers_below t.world s.generals) = ap (λ (x : ℕ). t.ways * x) sum in
         let last : weighed f next + t.ways * sum_by g (askers_below t.world s.generals) + weighed h' done ≡ weighed_both f h' next done + t.ways * stepped f h' t.world = omega arith in
         one ∙ ap kept last;
   }
 
   -- nobody had
-  pub expanded_out : (shut : State) (done_new : List State) → IsSpread s t s.generals next new false → shut ≡ record { world = behind oral_kind t.world []; ways = t.ways; rows = t.rows ++ t.names ∷ []; names = [] } → IsEntered done shut done_new →
+  pub expanded_out : (shut : State) (done_new : List State) → IsSpread s t s.generals next new false → shut ≡ record { world = behind oral_kind (reached (opening oral_kind s) t.rows t.names) []; ways = t.ways; rows = t.rows ++ t.names ∷ []; names = [] } → IsEntered done shut done_new →
       IsScenario s → IsExpanded s t next done new done_new
   expanded_out shut done_new h shut_is entered good =
-      let made : State = record { world = behind oral_kind t.world []; ways = t.ways; rows = t.rows ++ t.names ∷ []; names = [] } in
+      let way = reached (opening oral_kind s) t.rows t.names in
+      let made : State = record { world = behind oral_kind way []; ways = t.ways; rows = t.rows ++ t.names ∷ []; names = [] } in
       let of_made : IsEntered done made done_new = subst (λ (u : State). IsEntered done u done_new) shut_is entered in
       let same : new ≡ next = (h.none refl).0 in
       let nobody : (k : ℕ) → IsStateOf s k t → askers t.world ≡ [] = λ k is. sym (all_askers t.world s.generals (few_parts s k t is good)) ∙ (h.none refl).1 in
       record {
         states = h.states;
-        fresh = λ k is all. entered_fresh s (suc k) done made done_new of_made all (closed_state s k t is (nobody k is));
-        weight = λ k f h' good' is all fresh common common'.
-            let closed = closed_state s k t is (nobody k is) in
+        fresh = λ k is all. entered_fresh s (suc k) done made done_new of_made all (closed_state s k t is good (nobody k is));
+        weight = λ k f h' good' is all fresh common steady common'.
+            let closed = closed_state s k t is good (nobody k is) in
             let one = entered_weighs h' done made done_new s common' of_made (states_scenario s (suc k) done (fresh_states s (suc k) done fresh)) (scenario_is s (suc k) made closed.state) in
-            let sum : stepped f h' t.world ≡ h' (behind oral_kind t.world []) = ap (λ (l : List ℕ). or_sum l (h' (behind oral_kind t.world [])) (λ g. f (past oral_kind t.world g))) (nobody k is) in
-            let times : t.ways * stepped f h' t.world ≡ t.ways * h' (behind oral_kind t.world []) = ap (λ (x : ℕ). t.ways * x) sum in
+            let sum : stepped f h' t.world ≡ h' (behind oral_kind way []) =
+            ap (λ (l : List ℕ). or_sum l (h' (behind oral_kind t.world [])) (λ g. f (past oral_kind t.world g))) (nobody k is) ∙ ap h' (ends_alike s k t is good (nobody k is)) in
+            let times : t.ways * stepped f h' t.world ≡ t.ways * h' (behind oral_kind way []) = ap (λ (x : ℕ). t.ways * x) sum in
             let first : weighed f new ≡ weighed f next = ap (weighed f) same in
-            let two = as_more (2 ^ 64 - 1) (weighed h' done_new) (weighed h' done + t.ways * h' (behind oral_kind t.world [])) (weighed f new) one in
+            let two = as_more (2 ^ 64 - 1) (weighed h' done_new) (weighed h' done + t.ways * h' (behind oral_kind way [])) (weighed f new) one in
             let left : weighed_both f h' new done_new ≡ weighed h' done_new + weighed f new = omega arith in
-            let right : weighed h' done + t.ways * h' (behind oral_kind t.world []) + weighed f new ≡ weighed_both f h' next done + t.ways * stepped f h' t.world = omega arith in
+            let right : weighed h' done + t.ways * h' (behind oral_kind way []) + weighed f new ≡ weighed_both f h' next done + t.ways * stepped f h' t.world = omega arith in
             ap kept left ∙ (two ∙ ap kept right);
       }
 
@@ -163,7 +198,7 @@ expanded_if s t n next done new asked all so h =
     expanded_on s t next done new (subst (λ (m : ℕ). IsSpread s t m next new true) all (subst (λ (b : Bool). IsSpread s t n next new b) so h))
 
 pub expanded_else : (s : Scenario) (t : State) (n : ℕ) (next done new : List State) (asked : Bool) (shut : State) (done_new : List State) → n ≡ s.generals → asked ≡ false → IsSpread s t n next new asked →
-    shut ≡ record { world = behind oral_kind t.world []; ways = t.ways; rows = t.rows ++ t.names ∷ []; names = [] } → IsEntered done shut done_new → IsScenario s → IsExpanded s t next done new done_new
+    shut ≡ record { world = behind oral_kind (reached (opening oral_kind s) t.rows t.names) []; ways = t.ways; rows = t.rows ++ t.names ∷ []; names = [] } → IsEntered done shut done_new → IsScenario s → IsExpanded s t next done new done_new
 expanded_else s t n next done new asked shut done_new all so h is entered good =
     expanded_out s t next done new shut done_new (subst (λ (m : ℕ). IsSpread s t m next new false) all (subst (λ (b : Bool). IsSpread s t n next new b) so h)) is entered good
 
@@ -179,10 +214,10 @@ pub step_more : (s : Scenario) (seen next mid done done_mid done_new : List Stat
 step_more s seen next mid done done_mid done_new t h x = record {
   states = λ k all. (let both = split_end (IsStateOf s k) seen t all in x.states k both.1 (h.states k both.0));
   fresh = λ k all fresh. (let both = split_end (IsStateOf s k) seen t all in x.fresh k both.1 (h.fresh k both.0 fresh));
-  weight = λ k f g good all fresh common common'.
+  weight = λ k f g good all fresh common steady common'.
       let both = split_end (IsStateOf s k) seen t all in
-      let a = h.weight k f g good both.0 fresh common common' in
-      let b = x.weight k f g good both.1 (h.states k both.0) (h.fresh k both.0 fresh) common common' in
+      let a = h.weight k f g good both.0 fresh common steady common' in
+      let b = x.weight k f g good both.1 (h.states k both.0) (h.fresh k both.0 fresh) common steady common' in
       let c = as_more (2 ^ 64 - 1) (weighed_both f g mid done_mid) (weighed g done + weighed (stepped f g) seen) (t.ways * stepped f g t.world) a in
       let w : State → ℕ = λ u. u.ways * stepped f g u.world in
       let d : weighed (stepped f g) (seen ++ t ∷ []) ≡ weighed (stepped f g) seen + t.ways * stepped f g t.world = sum_by_push w seen t in
@@ -215,7 +250,7 @@ stepping_begins s layer left next done none is = record {
   step = record {
     states = λ k all. subst (λ (l : List State). AreStatesOf s k l) (sym none) (All-nil (IsStateOf s k));
     fresh = λ k all fresh. fresh;
-    weight = λ k f h good all fresh common common'. (let e : weighed f next ≡ 0 = ap (weighed f) none in let g : weighed_both f h next done ≡ weighed h done + 0 = omega arith in ap kept g);
+    weight = λ k f h good all fresh common steady common'. (let e : weighed f next ≡ 0 = ap (weighed f) none in let g : weighed_both f h next done ≡ weighed h done + 0 = omega arith in ap kept g);
   };
   all = ap reverse is ∙ reverse-reverse layer;
 }
@@ -284,7 +319,7 @@ way_goes_on s most made first layer done next done_new good lt h x = record {
   weight = λ k f all common.
       let r = most - (made + 1) in
       let e : most - made ≡ suc r = omega arith in
-      let a = x.weight k (over_round r f) f good (h.states k all) (h.fresh k all) (round_common r f common) common in
+      let a = x.weight k (over_round r f) f good (h.states k all) (h.fresh k all) (round_common r f common) (round_steady r f) common in
       let b : weighed (stepped (over_round r f) f) layer ≡ weighed (over_round (most - made) f) layer =
       weighed_each (stepped (over_round r f) f) (over_round (suc r) f) (λ w. sym (next_step r f w)) layer ∙ ap (λ (n : ℕ). weighed (over_round n f) layer) (sym e) in
       let c : weighed f done_new + weighed (over_round r f) next ≡ weighed_both (over_round r f) f next done_new = omega arith in
@@ -300,7 +335,7 @@ way_ends s most made first layer done next done_new le ge h x = record {
   fresh = λ k all. x.fresh k (h.states k all) (h.fresh k all);
   weight = λ k f good all common.
       let e : most - made ≡ 0 = omega arith in
-      let a = x.weight k (λ v. 0) f good (h.states k all) (h.fresh k all) (λ w v alike. refl) common in
+      let a = x.weight k (λ v. 0) f good (h.states k all) (h.fresh k all) (λ w v alike. refl) zero_steady common in
       let none : weighed (λ v. 0) next ≡ 0 = no_weight next in
       let b : weighed (stepped (λ v. 0) f) layer ≡ weighed (over_round (most - made) f) layer =
       weighed_each (stepped (λ v. 0) f) (over_round 0 f) (λ w. sym (last_step f w)) layer ∙ ap (λ (n : ℕ). weighed (over_round n f) layer) (sym e) in
@@ -317,7 +352,7 @@ pub rounds_begin : (s : Scenario) (rounds : ℕ) (first : State) (states empty :
 rounds_begin s rounds first states empty first_is none states_are =
     let t : State = record { world = opening oral_kind s; ways = 1; rows = []; names = [] } in
     let e : states ≡ t ∷ [] = states_are ∙ (λ i. none i ++ first_is i ∷ []) in
-    let one : IsFreshOf s 0 t = record { state = record { rounds = tt; count = refl; walk = tt; world = refl }; fresh = refl } in
+    let one : IsFreshOf s 0 t = record { state = record { rounds = tt; count = refl; walk = tt; world = ([], refl) }; fresh = refl; begins = refl } in
     record {
       fresh = subst (λ (l : List State). AreFreshOf s 0 l) (sym e) (All-push (IsFreshOf s 0) [] t (All-nil (IsFreshOf s 0)) one);
       weight = λ h common.

@@ -1,5 +1,5 @@
 -- The findings of some orders, and of one more.
-use Rattle.std.proofs.Common.{◌≡◌, ℕ, ◌+◌, ◌<◌, List, [], ◌∷◌, ◌++◌, length, Bool, true, false, cond, refl, sym, ap, subst, ◌∙◌, ◌⊎◌, inl, inr, ⊎_elim, arith, length-append}
+use Rattle.std.proofs.Common.{◌≡◌, ℕ, ◌+◌, ◌<◌, List, [], ◌∷◌, ◌++◌, length, Bool, true, false, cond, refl, sym, ap, subst, ◌∙◌, ◌⊎◌, inl, inr, ⊎_elim, arith, length-append, Some, None}
 use Rattle.std.specs.Prelude.{bytes_eq, sum_by}
 use Rattle.std.specs.List.{AllByRecursion}
 use Rattle.std.proofs.lemmas.Slice.Eq.{bytes_eq-Decides}
@@ -8,7 +8,7 @@ use Rattle.round.specs.Scenario.{Scenario}
 use Rattle.world.specs.Kind.{Kind}
 use Rattle.explore.specs.Listing.{Has, AreDifferent}
 use Rattle.explore.specs.Outcomes.{Outcome, outcome_of}
-use Rattle.explore.specs.Exploring.{Finding, outcomes_of, counted_in, ways_among}
+use Rattle.explore.specs.Exploring.{Finding, outcomes_of, counted_in, ways_among, first_to}
 use Rattle.explore.specs.Entering.{entered}
 use Rattle.explore.proofs.Having.{has-append_to, has-append_of}
 
@@ -27,12 +27,13 @@ known : (V : List Order) (o x : Order) → Has V x → Has (V ++ o ∷ []) x
 known V o x h = has-append_to V (o ∷ []) x (inl h)
 
 module _ (K : Kind) (D : Outcome) (s : Scenario) where
-  -- a finding's example is among these orders, and so many of them lead where it does
+  -- a finding's example is the first of these orders that leads where it does, and so many of them do
   pub record IsCounted (V : List Order) (f : Finding) : Type 0 where
     pub example : Has V f.example
     pub outcome : outcome_of K D s f.example ≡ f.decisions
     pub some : 0 < f.count
     pub count : f.count ≡ ways_among K D s V f.decisions
+    pub first : first_to K D s V f.decisions ≡ Some f.example
 
   -- these findings are those of these orders
   pub record IsTally (V : List Order) (findings : List Finding) : Type 0 where
@@ -62,9 +63,28 @@ module _ (K : Kind) (D : Outcome) (s : Scenario) where
       let rest : sum_by f V ≡ 0 = none_way V ds (λ y h. never y (inr h)) in
       sum_by-cons f x V ∙ (λ i. here i + rest i)
 
+  -- the first stays the first, and where there was none, one that leads there is it
+  pub first_stays : (V rest : List Order) (ds : List ℕ) (o : Order) → first_to K D s V ds ≡ Some o → first_to K D s (V ++ rest) ds ≡ Some o
+  first_stays [] rest ds o e = absurd (let f : None ≡ Some o = e in cc)
+  first_stays (x ∷ V) rest ds o e = by (first_stays V rest ds o) (bytes_eq (outcome_of K D s x) ds) e
+    where
+      by : (first_to K D s V ds ≡ Some o → first_to K D s (V ++ rest) ds ≡ Some o) → (t : Bool) → cond t (Some x) (first_to K D s V ds) ≡ Some o → cond t (Some x) (first_to K D s (V ++ rest) ds) ≡ Some o
+      by again true f = f
+      by again false f = again f
+
+  first_then : (V : List Order) (o : Order) (ds : List ℕ) → ways_among K D s V ds ≡ 0 → outcome_of K D s o ≡ ds → first_to K D s (V ++ o ∷ []) ds ≡ Some o
+  first_then [] o ds none e = ap (λ (t : Bool). cond t (Some o) None) ((bytes_eq-Decides (outcome_of K D s o) ds).1 e)
+  first_then (x ∷ V) o ds none e =
+      let f : Order → ℕ = λ order. cond (bytes_eq (outcome_of K D s order) ds) 1 0 in
+      by (λ z. first_then V o ds z e) (bytes_eq (outcome_of K D s x) ds) (sym (sum_by-cons f x V) ∙ none)
+    where
+      by : (ways_among K D s V ds ≡ 0 → first_to K D s (V ++ o ∷ []) ds ≡ Some o) → (t : Bool) → cond t 1 0 + ways_among K D s V ds ≡ 0 → cond t (Some x) (first_to K D s (V ++ o ∷ []) ds) ≡ Some o
+      by again true z = absurd (omega arith)
+      by again false z = again (omega arith)
+
   -- what was found stays found
   stays : (V : List Order) (o : Order) (f : Finding) → IsCounted V f → (outcome_of K D s o ≡ f.decisions → ⊥) → IsCounted (V ++ o ∷ []) f
-  stays V o f h never = record { example = known V o f.example h.example; outcome = h.outcome; some = h.some; count = h.count ∙ sym (no_way V o f.decisions never) }
+  stays V o f h never = record { example = known V o f.example h.example; outcome = h.outcome; some = h.some; count = h.count ∙ sym (no_way V o f.decisions never); first = first_stays V (o ∷ []) f.decisions f.example h.first }
 
   all_stay : (V : List Order) (o : Order) (fs : List Finding) → AllByRecursion (IsCounted V) fs → (Has (outcomes_of fs) (outcome_of K D s o) → ⊥) → AllByRecursion (IsCounted (V ++ o ∷ [])) fs
   all_stay V o [] h never = tt
@@ -75,7 +95,8 @@ module _ (K : Kind) (D : Outcome) (s : Scenario) where
         AllByRecursion (IsCounted (V ++ o ∷ [])) (entered fs (outcome_of K D s o) o)
     each_more [] h d z =
         let w = one_way V o (outcome_of K D s o) refl in
-        (record { example = has-append_to V (o ∷ []) o (inr (inl refl)); outcome = refl; some = omega arith; count = (let n = z (λ f. f) in omega arith) }, tt)
+        let first = first_then V o (outcome_of K D s o) (z (λ f. f)) refl in
+        (record { example = has-append_to V (o ∷ []) o (inr (inl refl)); outcome = refl; some = omega arith; count = (let n = z (λ f. f) in omega arith); first = first }, tt)
     each_more (f ∷ fs) h d z = by (λ y. each_more fs h.1 d.1 y) (bytes_eq f.decisions (outcome_of K D s o)) refl
       where
         by : (((Has (outcomes_of fs) (outcome_of K D s o) → ⊥) → ways_among K D s V (outcome_of K D s o) ≡ 0) → AllByRecursion (IsCounted (V ++ o ∷ [])) (entered fs (outcome_of K D s o) o)) →
@@ -90,6 +111,7 @@ module _ (K : Kind) (D : Outcome) (s : Scenario) where
                 outcome = h.0.outcome;
                 some = omega arith;
                 count = (let n = h.0.count in omega arith);
+                first = first_stays V (o ∷ []) f.decisions f.example h.0.first;
               },
               all_stay V o fs h.1 (λ k. d.0 (subst A (sym e) k)),
             )

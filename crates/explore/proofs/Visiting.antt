@@ -1,5 +1,5 @@
 -- Order after order, from the first to the last or to a limit.
-use Rattle.std.proofs.Common.{◌≡◌, ℕ, suc, ◌+◌, ◌≤◌, List, [], ◌∷◌, ◌++◌, length, refl, sym, ap, subst, ◌∙◌, inl, Some, None, append_assoc, arith, length-append}
+use Rattle.std.proofs.Common.{◌≡◌, ℕ, suc, ◌+◌, ◌≤◌, List, [], ◌∷◌, ◌++◌, length, refl, sym, ap, subst, ◌∙◌, inl, Some, None, append-nil, append_assoc, arith, length-append, take, All}
 use Rattle.std.specs.Prelude.{cond, bytes_eq}
 use Rattle.std.proofs.lemmas.List.Sums.{sum_by-append}
 use Rattle.std.proofs.lemmas.List.Elements.{All-from_recursion, All-weaker}
@@ -11,7 +11,7 @@ use Rattle.world.proofs.Lasting.{replayed_complete}
 use Rattle.explore.specs.Orders.{order_of, IsFrom}
 use Rattle.explore.specs.Listing.{Has, AreShort, most_in_round, orders}
 use Rattle.explore.specs.Outcomes.{Outcome, outcome_of}
-use Rattle.explore.specs.Exploring.{Finding, outcomes_of, counted_in, ways_among, IsReal, IsFinding, IsLowerFinding, IsExplored, IsExploredInPart}
+use Rattle.explore.specs.Exploring.{Finding, outcomes_of, counted_in, ways_among, IsReal, IsFinding, IsLowerFinding, IsExplored, IsExploredInPart, first_to}
 use Rattle.explore.specs.Entering.{entered}
 use Rattle.explore.specs.Succession.{next_order}
 use Rattle.explore.proofs.Having.{has-append_to}
@@ -20,7 +20,7 @@ use Rattle.explore.proofs.Leading.{replay_completes}
 use Rattle.explore.proofs.Deciding.{again}
 use Rattle.explore.proofs.Bounded.{order_short, orders_are_whole}
 use Rattle.explore.proofs.Succeeding.{rest_from, from_first, from_last, from_next, walks_next}
-use Rattle.explore.proofs.Tallying.{Order, IsCounted, IsTally, no_tally, tally_more}
+use Rattle.explore.proofs.Tallying.{Order, IsCounted, IsTally, no_tally, tally_more, first_stays}
 
 module _ (K : Kind) where
   -- the order of the replay of these names, and what is behind it
@@ -107,6 +107,30 @@ module _ (K : Kind) where
         let A : List Order → Type 0 = λ V. IsTally K D s V new in
         explored new (subst A (sym all) (one_more n names findings v))
 
+    -- of each outcome the first order that leads there
+    abbrev pub AreFirst : List Finding → Type 0
+    AreFirst findings = All (λ (f : Finding). first_to K D s (orders K s) f.decisions ≡ Some f.example) findings
+
+    are_first : (V rest : List Order) (findings : List Finding) → IsTally K D s V findings → orders K s ≡ V ++ rest → AreFirst findings
+    are_first V rest findings t e =
+        All-weaker (IsCounted K D s V) (λ (f : Finding). first_to K D s (orders K s) f.decisions ≡ Some f.example)
+        (λ f h. subst (λ (l : List Order). first_to K D s l f.decisions ≡ Some f.example) (sym e) (first_stays K D s V rest f.decisions f.example h.first)) findings
+        (All-from_recursion (IsCounted K D s V) findings t.each)
+
+    pub last_first : (n : ℕ) (names : Order) (findings : List Finding) → IsVisited D s n names findings → next_order (here s names) ≡ None →
+        AreFirst (entered findings (D (run K (opening K s) (replayed K s names))) (here s names))
+    last_first n names findings v e =
+        let all : orders K s ≡ v.before ++ here s names ∷ [] = v.split ∙ ap (λ (l : List Order). v.before ++ (here s names ∷ l)) (stops names e) in
+        are_first (v.before ++ here s names ∷ []) [] (entered findings (D (run K (opening K s) (replayed K s names))) (here s names)) (one_more n names findings v)
+        (all ∙ sym (append-nil (v.before ++ here s names ∷ [])))
+
+    pub limit_first : (n : ℕ) (names : Order) (findings : List Finding) → IsVisited D s n names findings → AreFirst findings
+    limit_first n names findings v = are_first v.before (here s names ∷ after s (here s names)) findings v.tally v.split
+
+    front : (V rest : List Order) → take (length V) (V ++ rest) ≡ V
+    front [] rest = refl
+    front (o ∷ V) rest = ap (λ (l : List Order). o ∷ l) (front V rest)
+
     pub visit_limit : (n : ℕ) (names : Order) (findings : List Finding) → IsVisited D s n names findings → IsExploredInPart K D s n findings
     visit_limit n names findings v =
         let rest = here s names ∷ after s (here s names) in
@@ -122,4 +146,8 @@ module _ (K : Kind) where
           different = v.tally.different;
           total = v.tally.total ∙ v.count;
           more = (let l = ap length v.split in let m = length-append v.before rest in let c = v.count in omega arith);
+          counts =
+              let e : take n (orders K s) ≡ v.before = (λ i. take (sym v.count i) (v.split i)) ∙ front v.before rest in
+              All-weaker (IsCounted K D s v.before) (λ (f : Finding). f.count ≡ ways_among K D s (take n (orders K s)) f.decisions)
+              (λ f h. h.count ∙ ap (λ (l : List Order). ways_among K D s l f.decisions) (sym e)) findings (All-from_recursion (IsCounted K D s v.before) findings v.tally.each);
         }

@@ -33,7 +33,7 @@ asks_zero : (k : ℕ) (a : Activation) (x : Access) (t : List Access) (end : Act
 asks_zero zero a x t end over way = (let e = way.0 in cc)
 asks_zero (suc k) a x t end over way = (let A : Turn → Type 0 = λ o. Onward (Runs k) o (x ∷ t) end in subst A (over_ended a over) way)
 
-within_zero : (a : Activation) → Within 0 a → has_ended a ≡ true
+pub within_zero : (a : Activation) → Within 0 a → has_ended a ≡ true
 unfolding Within
 within_zero a h = by h.0 h.1 h.2
   where

@@ -86,5 +86,5 @@ entered_fresh s k states t new (inl j) all one =
     let was : IsFreshOf s k j.was = subst A (sym j.there) (all j.place j.was j.inside) in
     let fresh : State = record j.was { ways = kept (j.was.ways + t.ways) } in
     let is : IsStateOf s k fresh = record { rounds = was.state.rounds; count = was.state.count; walk = was.state.walk; world = was.state.world } in
-    subst (λ (l : List State). AreFreshOf s k l) (sym j.joined) (All-set A states j.place fresh (record { state = is; fresh = was.fresh }) all)
+    subst (λ (l : List State). AreFreshOf s k l) (sym j.joined) (All-set A states j.place fresh (record { state = is; fresh = was.fresh; begins = was.begins }) all)
 entered_fresh s k states t new (inr e) all one = subst (λ (l : List State). AreFreshOf s k l) (sym e) (All-push (IsFreshOf s k) states t all one)

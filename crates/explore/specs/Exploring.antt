@@ -1,5 +1,5 @@
 -- What an exploration of a campaign's orders answers (own).
-use Rattle.std.specs.Prelude.{ℕ, ◌≡◌, ◌≢◌, ◌<◌, ◌≤◌, ◌-◌, ◌^◌, min, List, All, length, map, sum_by, count_by, bytes_eq}
+use Rattle.std.specs.Prelude.{ℕ, ◌≡◌, ◌≢◌, ◌<◌, ◌≤◌, ◌-◌, ◌^◌, min, List, All, length, map, take, find, sum_by, count_by, bytes_eq, Option, Some}
 use Rattle.round.specs.Scenario.{Scenario}
 use Rattle.world.specs.declared.event.Event.{Event}
 use Rattle.world.specs.Kind.{Kind}
@@ -17,6 +17,10 @@ ways_among K D s visited ds = count_by (λ order. bytes_eq (outcome_of K D s ord
 -- and in how many of all
 abbrev pub ways_to : Kind → Outcome → Scenario → List ℕ → ℕ
 ways_to K D s ds = ways_among K D s (orders K s) ds
+
+-- the first of these orders that leads there
+abbrev pub first_to : Kind → Outcome → Scenario → List (List (List ℕ)) → List ℕ → Option (List (List ℕ))
+first_to K D s visited ds = find (λ order. bytes_eq (outcome_of K D s order) ds) visited
 
 -- decisions, in how many orders they come about, and one of these
 pub record Finding : Type 0 where
@@ -54,12 +58,13 @@ pub record IsExplored (K : Kind) (D : Outcome) (s : Scenario) (findings : List F
   pub whole : (events : List Event) → IsComplete K s events → Has (outcomes_of findings) (outcome_in K D s events)
   pub total : counted_in findings ≡ length (orders K s)
 
--- and of one that was to count no more than so many orders and met that limit: there are more
+-- and of one that was to count no more than so many orders and met that limit: there are more, and it counted the least ones
 pub record IsExploredInPart (K : Kind) (D : Outcome) (s : Scenario) (most : ℕ) (findings : List Finding) : Type 0 where
   pub each : All (IsLowerFinding K D s) findings
   pub different : AreDifferent (outcomes_of findings)
   pub total : counted_in findings ≡ most
   pub more : most < length (orders K s)
+  pub counts : All (λ (f : Finding). f.count ≡ ways_among K D s (take most (orders K s)) f.decisions) findings
 
 -- and its count stops at 2 ^ 64 - 1
 pub record IsCappedFinding (K : Kind) (D : Outcome) (s : Scenario) (f : Finding) : Type 0 where
@@ -79,9 +84,11 @@ pub record Exploration : Type 0 where
   pub findings : List Finding
   pub reach : Reach
 
--- of all orders, counted or too many for that, or of so many where there are more
+-- of all orders, counted or too many for that, or of so many where there are more; where there is a limit, each example is the least
+-- order that leads there
 pub record IsExploration (K : Kind) (D : Outcome) (s : Scenario) (most : ℕ) (e : Exploration) : Type 0 where
   pub few : e.reach ≢ Beyond → counted_in e.findings ≤ most
   pub all : e.reach ≡ Whole → IsExplored K D s e.findings
   pub beyond : e.reach ≡ Beyond → IsExploredBeyond K D s e.findings
   pub part : e.reach ≡ InPart → IsExploredInPart K D s most e.findings
+  pub least : most < 2 ^ 64 - 1 → All (λ (f : Finding). first_to K D s (orders K s) f.decisions ≡ Some f.example) e.findings

@@ -2,8 +2,10 @@
 use Rattle.std.specs.Prelude.{ℕ, zero, suc, ◌≡◌, ◌<◌, ◌+◌, ◌*◌, ◌-◌, ◌^◌, ◌++◌, min, Bool, true, false, List, [], ◌∷◌, All, length, sum_by, slice_get, slice_index_or, slice_set, Option, None, Some, ◌⊎◌}
 use Rattle.round.specs.Scenario.{Scenario, IsScenario}
 use Rattle.world.specs.Kind.{World, opening, run}
+use Rattle.world.specs.KindHeld.{IsReached}
 use Rattle.world.specs.KindLists.{names_events}
 use Rattle.world.specs.World.{oral_kind}
+use Rattle.explore.specs.Ahead.{IsRunOn}
 use Rattle.explore.specs.Orders.{will_ask, past, behind, IsRoundFrom}
 use Rattle.explore.specs.Listing.{askers, round_orders, most_in_round}
 use Rattle.explore.specs.Merging.{AreAlike}
@@ -37,20 +39,21 @@ abbrev pub AreRounds : World → List (List ℕ) → Type 0
 AreRounds w [] = Unit {0}
 AreRounds w (row ∷ rows) = IsRoundFrom oral_kind w row × AreRounds (behind oral_kind w row) rows
 
--- its world comes about so, in a campaign of which so many rounds are closed
+-- its world comes about so, with activations run on, in a campaign of which so many rounds are closed
 pub record IsStateOf (s : Scenario) (k : ℕ) (t : State) : Type 0 where
   pub rounds : AreRounds (opening oral_kind s) t.rows
   pub count : length t.rows ≡ k
   pub walk : IsWalk oral_kind (behind_all (opening oral_kind s) t.rows) t.names
-  pub world : t.world ≡ reached (opening oral_kind s) t.rows t.names
+  pub world : IsRunOn (reached (opening oral_kind s) t.rows t.names) t.world
 
 abbrev pub AreStatesOf : Scenario → ℕ → List State → Type 0
 AreStatesOf s k states = All (IsStateOf s k) states
 
--- where a round begins
+-- where a round begins, and nobody is run on
 pub record IsFreshOf (s : Scenario) (k : ℕ) (t : State) : Type 0 where
   pub state : IsStateOf s k t
   pub fresh : t.names ≡ []
+  pub begins : t.world ≡ behind_all (opening oral_kind s) t.rows
 
 abbrev pub AreFreshOf : Scenario → ℕ → List State → Type 0
 AreFreshOf s k states = All (IsFreshOf s k) states
@@ -73,20 +76,30 @@ pub record IsJoined (states : List State) (t : State) (new : List State) : Type 
 abbrev pub IsEntered : List State → State → List State → Type 0
 IsEntered states t new = IsJoined states t new ⊎ (new ≡ states ++ t ∷ [])
 
--- a state as a general has made his next access; none where he is to make none
-abbrev pub IsPastOf : State → ℕ → Option State → Type 0
-IsPastOf t g None = will_ask (slice_get t.world.parts g) ≡ false
-IsPastOf t g (Some next) =
-    (will_ask (slice_get t.world.parts g) ≡ true) × (next ≡ record { world = past oral_kind t.world g; ways = t.ways; rows = t.rows; names = t.names ++ g ∷ [] })
+-- the state of a world whose activations are run on
+pub record IsAhead (w : World) (count : ℕ) (before : List (List ℕ)) (made : List ℕ) (t : State) : Type 0 where
+  pub world : IsRunOn w t.world
+  pub ways : t.ways ≡ count
+  pub rows : t.rows ≡ before
+  pub names : t.names ≡ made
+
+-- a state as a general has made his next access in this world of it; none where he is to make none
+abbrev pub IsPastOf : World → State → ℕ → Option State → Type 0
+IsPastOf w t g None = will_ask (slice_get w.parts g) ≡ false
+IsPastOf w t g (Some next) = (will_ask (slice_get w.parts g) ≡ true) × IsAhead (past oral_kind w g) t.ways t.rows (t.names ++ g ∷ []) next
 
 -- whether he is to make one, and the states with it
-abbrev pub IsAsked : State → ℕ → List State → Bool → List State → Type 0
-IsAsked t g states true new = (next : State) × IsPastOf t g (Some next) × IsEntered states next new
-IsAsked t g states false new = IsPastOf t g None × (new ≡ states)
+abbrev pub IsAsked : World → State → ℕ → List State → Bool → List State → Type 0
+IsAsked w t g states true new = (next : State) × IsPastOf w t g (Some next) × IsEntered states next new
+IsAsked w t g states false new = IsPastOf w t g None × (new ≡ states)
 
 -- a number of each world that alike ones have in common
 abbrev pub IsCommon : (World → ℕ) → Type 0
 IsCommon f = (w v : World) → AreAlike w v → f w ≡ f v
+
+-- a number of worlds that running on leaves
+abbrev pub IsSteady : (World → ℕ) → Type 0
+IsSteady f = (w v : World) → IsScenario w.scenario → IsReached oral_kind w → IsRunOn w v → f v ≡ f w
 
 -- the sum of it over the ways of states
 abbrev pub weighed : (World → ℕ) → List State → ℕ
@@ -118,14 +131,14 @@ weighed_both f h next done = weighed f next + weighed h done
 pub record IsExpanded (s : Scenario) (t : State) (next done next_new done_new : List State) : Type 0 where
   pub states : (k : ℕ) → IsStateOf s k t → AreStatesOf s k next → AreStatesOf s k next_new
   pub fresh : (k : ℕ) → IsStateOf s k t → AreFreshOf s (suc k) done → AreFreshOf s (suc k) done_new
-  pub weight : (k : ℕ) (f h : World → ℕ) → IsScenario s → IsStateOf s k t → AreStatesOf s k next → AreFreshOf s (suc k) done → IsCommon f → IsCommon h →
+  pub weight : (k : ℕ) (f h : World → ℕ) → IsScenario s → IsStateOf s k t → AreStatesOf s k next → AreFreshOf s (suc k) done → IsCommon f → IsSteady f → IsCommon h →
       AsKept (weighed_both f h next_new done_new) (weighed_both f h next done + t.ways * stepped f h t.world)
 
 -- so do all states of a layer
 pub record IsStep (s : Scenario) (layer next done done_new : List State) : Type 0 where
   pub states : (k : ℕ) → AreStatesOf s k layer → AreStatesOf s k next
   pub fresh : (k : ℕ) → AreStatesOf s k layer → AreFreshOf s (suc k) done → AreFreshOf s (suc k) done_new
-  pub weight : (k : ℕ) (f h : World → ℕ) → IsScenario s → AreStatesOf s k layer → AreFreshOf s (suc k) done → IsCommon f → IsCommon h →
+  pub weight : (k : ℕ) (f h : World → ℕ) → IsScenario s → AreStatesOf s k layer → AreFreshOf s (suc k) done → IsCommon f → IsSteady f → IsCommon h →
       AsKept (weighed_both f h next done_new) (weighed h done + weighed (stepped f h) layer)
 
 -- a layer's states behind the round

@@ -1,4 +1,5 @@
 pub mod Agreeing
+pub mod Ahead
 pub mod Entering
 pub mod Exploring
 pub mod Gathering

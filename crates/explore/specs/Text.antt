@@ -1,5 +1,5 @@
 -- What is printed of an exploration (own).
-use Rattle.std.specs.Prelude.{ℕ, ◌+◌, Bool, true, false, List, [], ◌∷◌, ◌++◌, flat_map, decimal, codes, Option, None, Some}
+use Rattle.std.specs.Prelude.{ℕ, ◌+◌, ◌-◌, ◌^◌, nat_lt, cond, Bool, true, false, List, [], ◌∷◌, ◌++◌, flat_map, decimal, codes, Option, None, Some}
 use Rattle.round.specs.Scenario.{Scenario}
 use Rattle.world.specs.declared.schedule.Repeat.{Repeat}
 use Rattle.world.specs.Chronicle.{verdict_of}
@@ -12,6 +12,10 @@ use Rattle.explore.specs.Schedules.{schedule_from}
 -- a number behind a space
 abbrev pub further : ℕ → List ℕ
 further n = codes " " ++ decimal n
+
+-- in how many orders: from 2 ^ 64 - 1 on, where counting stops, in more than one less
+unfoldable pub count_text : ℕ → List ℕ
+count_text n = cond (nat_lt n (2 ^ 64 - 1)) (further n) (codes " more than 18446744073709551614")
 
 -- entries of a schedule, each behind a space
 abbrev pub entry_text : Repeat → List ℕ
@@ -44,7 +48,7 @@ yes_no_none (Some b) = yes_no b
 -- in how many orders, whether the loyal decide alike and obey, and what each lieutenant decides, ascending
 abbrev pub outcome_text : ℕ → Bool → Option Bool → List ℕ → List ℕ
 outcome_text count alike obeyed ds =
-    codes "outcome" ++ further count ++ codes " alike " ++ yes_no alike ++ codes " obeyed " ++ yes_no_none obeyed ++ codes " decisions" ++ flat_map further ds ++ codes "\n"
+    codes "outcome" ++ count_text count ++ codes " alike " ++ yes_no alike ++ codes " obeyed " ++ yes_no_none obeyed ++ codes " decisions" ++ flat_map further ds ++ codes "\n"
 
 -- and the schedule of its example, round by round
 abbrev pub finding_text : Kind → Scenario → Finding → List ℕ

@@ -1,5 +1,6 @@
 //! Orders layer by layer: each layer has one access more, and alike worlds of a layer are one state.
 ghost use Rattle.std.specs.Prelude.{◌≡◌, ◌<◌, ◌≤◌, ◌*◌, ◌++◌, ◌∷◌, ◌||◌, ℕ, [], suc, IfOk, None, OnOk, slice_get};
+ghost use Rattle.explore.specs.Ahead.{IsRunOn};
 ghost use Rattle.explore.specs.Layers.{AreLayers, AreStatesOf, IsAsked, IsExpanded, IsPastOf, IsRoundOn, IsStep, reached};
 ghost use Rattle.explore.specs.Listing.{instructions, most_in_round};
 ghost use Rattle.explore.specs.Orders.{behind};
@@ -8,8 +9,9 @@ ghost use Rattle.world.specs.Kind.{opening};
 ghost use Rattle.world.specs.Playing.{lists_in, program_length};
 ghost use Rattle.world.specs.World.{oral_kind};
 
+use crate::layer::Layer;
 use crate::scheduling::{instructions, steps_to_access};
-use crate::state::{State, enter, with_access};
+use crate::state::{State, with_access};
 use round::Scenario;
 use std::alloc::{AllocError, Global};
 use world::{Part, Plays, World, named_round, play_names, wind_up};
@@ -39,9 +41,10 @@ fn past(
     state: &State,
     general: u8,
 ) -> Result<Option<State>, AllocError>
-    requires { state.now.world ≡ reached (opening oral_kind scenario.now) state.now.rows state.now.names }
-    ensures { IfOk result (λ next. IsPastOf state.now general next) }
+    requires { IsRunOn (reached (opening oral_kind scenario.now) state.now.rows state.now.names) state.now.world }
+    ensures { IfOk result (λ next. IsPastOf (reached (opening oral_kind scenario.now) state.now.rows state.now.names) state.now general next) }
 {
+    scenario.recall();
     match instructions(state.world.open_parts(), general) {
         Some(most) => {
             let _ = most;
@@ -58,8 +61,8 @@ fn played_past(
     state: &State,
     general: u8,
 ) -> Result<Option<State>, AllocError>
-    requires { state.now.world ≡ reached (opening oral_kind scenario.now) state.now.rows state.now.names }
-    ensures { IfOk result (λ next. IsPastOf state.now general next) }
+    requires { IsRunOn (reached (opening oral_kind scenario.now) state.now.rows state.now.names) state.now.world }
+    ensures { IfOk result (λ next. IsPastOf (reached (opening oral_kind scenario.now) state.now.rows state.now.names) state.now general next) }
 {
     let mut world = again(
         alloc,
@@ -112,14 +115,14 @@ fn ask(
     scenario: &Scenario,
     state: &State,
     general: u8,
-    next: &mut Vec<State>,
+    next: &mut Layer,
 ) -> Result<bool, AllocError>
-    requires { state.now.world ≡ reached (opening oral_kind scenario.now) state.now.rows state.now.names }
-    ensures { IfOk result (λ asked. IsAsked state.now general next.old.items asked next.new.items) }
+    requires { IsRunOn (reached (opening oral_kind scenario.now) state.now.rows state.now.names) state.now.world }
+    ensures { IfOk result (λ asked. IsAsked (reached (opening oral_kind scenario.now) state.now.rows state.now.names) state.now general next.old asked next.new) }
 {
     match past(alloc, scenario, state, general)? {
         Some(more) => {
-            enter(next, more)?;
+            next.enter(more)?;
             Ok(true)
         }
         None => Ok(false),
@@ -134,16 +137,16 @@ fn ask_last(
     rows: &[Vec<u8>],
     names: &[u8],
     general: u8,
-    next: &mut Vec<State>,
+    next: &mut Layer,
 ) -> Result<bool, AllocError>
-    ensures { IfOk result (λ asked. IsAsked (record { world = world; ways = ways; rows = lists_in rows.now; names = names.now }) general next.old.items asked next.new.items) }
+    ensures { IfOk result (λ asked. IsAsked world (record { world = world; ways = ways; rows = lists_in rows.now; names = names.now }) general next.old asked next.new) }
 {
     let mut world = world;
     match steps_to_access(&mut world, general)? {
         Some(steps) => {
             let _ = steps;
             let more = with_access(alloc, world, ways, rows, names, general)?;
-            enter(next, more)?;
+            next.enter(more)?;
             Ok(true)
         }
         None => Ok(false),
@@ -178,11 +181,11 @@ fn expand(
     alloc: Global,
     scenario: &Scenario,
     state: State,
-    next: &mut Vec<State>,
-    done: &mut Vec<State>,
+    next: &mut Layer,
+    done: &mut Layer,
 ) -> Result<(), AllocError>
-    requires { state.world ≡ reached (opening oral_kind scenario.now) state.rows state.names }
-    ensures { OnOk result (IsExpanded scenario.now state next.old.items done.old.items next.new.items done.new.items) }
+    requires { IsRunOn (reached (opening oral_kind scenario.now) state.rows state.names) state.world }
+    ensures { OnOk result (IsExpanded scenario.now state next.old done.old next.new done.new) }
 {
     scenario.recall();
     let last = last_acting(state.world.open_parts(), scenario.generals());
@@ -211,7 +214,7 @@ fn expand(
         return Ok(());
     }
     let shut = closed(alloc, scenario, ways, rows, names)?;
-    enter(done, shut)?;
+    done.enter(shut)?;
     Ok(())
 }
 
@@ -220,18 +223,18 @@ fn step(
     alloc: Global,
     scenario: &Scenario,
     layer: Vec<State>,
-    done: &mut Vec<State>,
+    done: &mut Layer,
 ) -> Result<Vec<State>, AllocError>
     requires { (k : ℕ) × AreStatesOf scenario.now k layer.items }
-    ensures { IfOk result (λ next. IsStep scenario.now layer.items next.items done.old.items done.new.items) }
+    ensures { IfOk result (λ next. IsStep scenario.now layer.items next.items done.old done.new) }
 {
-    let mut next = Vec::new(alloc);
+    let mut next = Layer::new(alloc);
     let mut left = layer;
     left.as_mut_slice().reverse();
     while let Some(state) = left.pop() {
         expand(alloc, scenario, state, &mut next, done)?;
     }
-    Ok(next)
+    Ok(next.into_states())
 }
 
 /// The states behind a round with at most so many accesses.
@@ -246,14 +249,14 @@ fn whole_round(
 {
     scenario.recall();
     let mut layer = first;
-    let mut done = Vec::new(alloc);
+    let mut done = Layer::new(alloc);
     for made in 0..most {
         let _ = made;
         let next = step(alloc, scenario, layer, &mut done)?;
         layer = next;
     }
     step(alloc, scenario, layer, &mut done)?;
-    Ok(done)
+    Ok(done.into_states())
 }
 
 /// How many accesses a round has at most: each general's program has so many instructions.

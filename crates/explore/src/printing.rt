@@ -4,7 +4,7 @@ ghost use Rattle.explore.specs.declared.exploration.Reach.TheVariants.{Whole, Be
 ghost use Rattle.explore.specs.Exploring.{Exploration as Explored, IsExploration, counted_in};
 ghost use Rattle.explore.specs.Outcomes.{oral_outcome};
 ghost use Rattle.explore.specs.Keeping.{IsKept, example_text};
-ghost use Rattle.explore.specs.Text.{entry_text, exploration_text, finding_text, further, head_text, line_text, outcome_text, round_text, rounds_text, schedule_text, yes_no, yes_no_none};
+ghost use Rattle.explore.specs.Text.{count_text, entry_text, exploration_text, finding_text, further, head_text, line_text, outcome_text, round_text, rounds_text, schedule_text, yes_no, yes_no_none};
 ghost use Rattle.explore.specs.Walks.{AreWalks};
 ghost use Rattle.world.specs.Chronicle.{verdict_of};
 ghost use Rattle.world.specs.Kind.{opening};
@@ -130,6 +130,18 @@ fn put_answer(out: &mut String, answer: Option<bool>) -> Result<(), AllocError>
     Ok(())
 }
 
+/// In how many orders an outcome comes about; where counting has stopped, in more than one less.
+#[tactic(auto, unfolding(crate::specs::Text::count_text))]
+fn put_ways(out: &mut String, count: u64) -> Result<(), AllocError>
+    ensures { OnOk result (string_bytes out.new ≡ string_bytes out.old ++ count_text count) }
+{
+    if count < u64::MAX {
+        return put_further(out, count);
+    }
+    out.push_str(" more than 18446744073709551614")?;
+    Ok(())
+}
+
 /// The line of an outcome, but its decisions.
 fn put_verdict(
     out: &mut String,
@@ -137,10 +149,10 @@ fn put_verdict(
     alike: bool,
     obeyed: Option<bool>,
 ) -> Result<(), AllocError>
-    ensures { OnOk result (string_bytes out.new ≡ string_bytes out.old ++ codes "outcome" ++ further count ++ codes " alike " ++ yes_no alike ++ codes " obeyed " ++ yes_no_none obeyed) }
+    ensures { OnOk result (string_bytes out.new ≡ string_bytes out.old ++ codes "outcome" ++ count_text count ++ codes " alike " ++ yes_no alike ++ codes " obeyed " ++ yes_no_none obeyed) }
 {
     out.push_str("outcome")?;
-    put_further(out, count)?;
+    put_ways(out, count)?;
     out.push_str(" alike ")?;
     put_answer(out, Some(alike))?;
     out.push_str(" obeyed ")?;

@@ -1,14 +1,18 @@
 //! Worlds to which many beginnings of orders lead.
-ghost use Rattle.std.specs.Prelude.{◌≡◌, ◌+◌, ◌++◌, ◌∷◌, [], IfOk, IfSome, IsTrue, OnOk};
-ghost use Rattle.explore.specs.Layers.{State as StateSeen, IsAlikeAt, IsEntered, kept};
+ghost use Rattle.std.specs.Prelude.{◌≡◌, ◌+◌, ◌++◌, ◌∷◌, [], IfOk, IsTrue};
+ghost use Rattle.explore.specs.Layers.{IsAhead, State as StateSeen, kept};
 ghost use Rattle.explore.specs.Merging.{AreAlike};
 ghost use Rattle.world.specs.Kind.{opening};
 ghost use Rattle.world.specs.Playing.{lists_in};
 ghost use Rattle.world.specs.World.{oral_kind};
 
+use crate::ahead::run_on;
 use crate::alike::are_alike;
 use crate::order::copied;
+use insn::Reg;
+use machine::Activation;
 use round::Scenario;
+use semantics::Value;
 use std::alloc::{AllocError, Global};
 use std::marker::Model;
 use world::{Part, Plays, World};
@@ -24,7 +28,9 @@ pub(crate) struct State {
     /// Who made those of the open one.
     pub(crate) names: Vec<u8>,
     /// Alike worlds have the same, others seldom.
-    mark: u64,
+    pub(crate) mark: u64,
+    /// In a layer where the state of the same mark stands that was entered before.
+    pub(crate) before: Option<usize>,
 }
 
 impl Model for State {
@@ -48,7 +54,17 @@ impl State {
             rows,
             names,
             mark,
+            before: None,
         }
+    }
+
+    /// The same, with that place of one before.
+    pub(crate) fn behind(self, before: Option<usize>) -> State
+        ensures { result ≡ self }
+    {
+        let mut state = self;
+        state.before = before;
+        state
     }
 
     /// The one state before the first access.
@@ -64,14 +80,15 @@ impl State {
     }
 
     /// It comes about in so many ways more.
-    fn add(&mut self, ways: u64)
+    pub(crate) fn add(&mut self, ways: u64)
         ensures { self.new ≡ record self.old { ways = kept (self.old.ways + ways) } }
     {
         self.ways = self.ways.saturating_add(ways);
     }
 }
 
-/// The state of this world, to which the general has made an access behind these rounds and accesses.
+/// The state of this world, to which the general has made an access behind these rounds and accesses: each activation is
+/// run on from there.
 ///
 /// # Errors
 ///
@@ -84,8 +101,10 @@ pub(crate) fn with_access(
     names: &[u8],
     general: u8,
 ) -> Result<State, AllocError>
-    ensures { IfOk result (λ state. state ≡ record { world = world; ways = ways; rows = lists_in rows.now; names = names.now ++ general ∷ [] }) }
+    ensures { IfOk result (λ state. IsAhead world ways (lists_in rows.now) (names.now ++ general ∷ []) state) }
 {
+    let mut world = world;
+    run_on(&mut world);
     let rows = copied(alloc, rows)?;
     let mut names = Vec::from_slice(alloc, names)?;
     names.push(general)?;
@@ -98,57 +117,45 @@ fn mixed(mark: u64, number: u64) -> u64 {
     product ^ (product >> 32)
 }
 
-/// The mark of a world: its words and how many steps each activation has taken, mixed.
+/// The mark of a world: its words, and of each activation its steps and what its registers hold, mixed.
 fn mark_of(world: &World) -> u64 {
     let mut mark = 0;
+    for word in world.words().as_slice() {
+        mark = mixed(mark, *word);
+    }
     for part in world.open_parts() {
         match part {
-            Part::Acting(running) => mark = mixed(mark, u64::from(running.steps())),
+            Part::Acting(running) => mark = mixed_activation(mark, running.activation()),
             Part::Silent => {}
             Part::Posted => {}
         }
     }
-    for word in world.words().as_slice() {
-        mark = mixed(mark, *word);
+    mark
+}
+
+/// An activation mixed into a mark.
+fn mixed_activation(mark: u64, activation: &Activation) -> u64 {
+    let mut mark = mixed(mark, u64::from(activation.steps()));
+    for number in 0..10u8 {
+        if let Some(register) = Reg::new(number) {
+            mark = mixed(mark, word_of(activation.value(register)));
+        }
     }
     mark
 }
 
+/// A number for what a register holds.
+fn word_of(value: Value) -> u64 {
+    match value {
+        Value::Unset => 0,
+        Value::Number(number) => number,
+        Value::Pointer(_, offset) => u64::from(offset.cast_unsigned()),
+    }
+}
+
 /// Whether their worlds are found to be alike.
-fn is_like(state: &State, other: &State) -> bool
+pub(crate) fn is_like(state: &State, other: &State) -> bool
     ensures { IsTrue result → state.now.world.scenario ≡ other.now.world.scenario → AreAlike state.now.world other.now.world }
 {
     state.mark == other.mark && are_alike(&state.world, &other.world)
-}
-
-/// Where a state with an alike world stands.
-fn place_of(states: &[State], state: &State) -> Option<usize>
-    ensures { IfSome result (λ place. IsAlikeAt states.now state.now place) }
-{
-    for (place, other) in states.iter().enumerate() {
-        if is_like(other, state) {
-            return Some(place);
-        }
-    }
-    None
-}
-
-/// Enters a state: its ways are added to those of a state with an alike world, else it stands behind all.
-///
-/// # Errors
-///
-/// `AllocError` where memory is refused.
-pub(crate) fn enter(states: &mut Vec<State>, state: State) -> Result<(), AllocError>
-    ensures { OnOk result (IsEntered states.old.items state states.new.items) }
-{
-    match place_of(states.as_slice(), &state) {
-        Some(place) => {
-            states[place].add(state.ways);
-            Ok(())
-        }
-        None => {
-            states.push(state)?;
-            Ok(())
-        }
-    }
 }

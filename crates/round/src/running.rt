@@ -169,6 +169,14 @@ impl Running {
         self.context.as_slice()
     }
 
+    /// How it stands.
+    pub fn activation(&self) -> &Activation
+        ensures relay { result.now.relay ≡ self.now.relay }
+        ensures state { result.now.state ≡ self.now.state }
+    {
+        &self.activation
+    }
+
     /// How many steps it has taken.
     pub fn steps(&self) -> u32
         ensures { result ≡ self.now.state.steps }

@@ -5,4 +5,6 @@ use Rattle.explore.proofs.Stating.{past_idle}
 use Rattle.explore.proofs.layers.past.Goals as goal
 
 pub returns-in-None : goal.returns-in-None
-returns-in-None c = past_idle c.args.state.now c.args.general c.open_parts.result.now (c.open_parts.ensures ∙ ap (λ (t : State). t.world.parts) c.state.view_is) (sym c.in-None.is ∙ c.instructions.ensures.same)
+returns-in-None c =
+    past_idle c.args.scenario.now c.recall.ensures c.args.state.now c.args.general c.open_parts.result.now c.requires (c.open_parts.ensures ∙ ap (λ (t : State). t.world.parts) c.state.view_is)
+    (sym c.in-None.is ∙ c.instructions.ensures.same)

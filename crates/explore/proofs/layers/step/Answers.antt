@@ -1,24 +1,26 @@
 -- State by state.
-use Rattle.std.proofs.Common.{sym, ◌∙◌}
+use Rattle.std.proofs.Common.{List, subst, sym, ◌∙◌}
+use Rattle.explore.specs.Layers.{State, IsStep}
 use Rattle.explore.proofs.Spreading.{left_is_state, none_left, stepping_begins, stepping_goes_on, stepping_ends, turned}
 use Rattle.explore.proofs.layers.step.Goals as goal
 
 pub expand-requires : goal.expand-requires
 expand-requires c =
-    (left_is_state c.args.scenario.now c.requires.0 c.args.layer.items c.loop-state.left.items c.pop.new.self.items c.loop-state.next.items c.args.done.now.items c.loop-state.done.items c.in-Some.state
+    (left_is_state c.args.scenario.now c.requires.0 c.args.layer.items c.loop-state.left.items c.pop.new.self.items c.loop-state.next c.args.done.now c.loop-state.done c.in-Some.state
     c.loop-state.invariant c.in-Some.ensures.items c.requires.1).world
 
 pub loop-state-init : goal.loop-state-init
 loop-state-init c =
-    stepping_begins c.args.scenario.now c.args.layer.items _ c.new-next.result.items c.args.done.now.items c.new-next.ensures.items
+    stepping_begins c.args.scenario.now c.args.layer.items _ c.new-next.result c.args.done.now c.new-next.ensures
     (turned c.args.layer.items c.as_mut_slice.result.now c.reverse.new.self c.args.layer.len (sym (c.reverse.ensures.len ∙ c.as_mut_slice.ensures.len)) c.reverse.ensures.after c.as_mut_slice.ensures.value)
 
 pub loop-state-preserved : goal.loop-state-preserved
 loop-state-preserved c =
-    stepping_goes_on c.args.scenario.now c.args.layer.items c.loop-state.left.items c.pop.new.self.items c.expand.new.next.items c.loop-state.next.items c.args.done.now.items c.loop-state.done.items
-    c.expand.new.done.items c.in-Some.state c.loop-state.invariant c.in-Some.ensures.items c.in_ok-expand.ensures
+    stepping_goes_on c.args.scenario.now c.args.layer.items c.loop-state.left.items c.pop.new.self.items c.expand.new.next c.loop-state.next c.args.done.now c.loop-state.done
+    c.expand.new.done c.in-Some.state c.loop-state.invariant c.in-Some.ensures.items c.in_ok-expand.ensures
 
 pub returns : goal.returns
 returns c =
-    stepping_ends c.args.scenario.now c.args.layer.items c.loop-state.left.items c.loop-state.next.items c.args.done.now.items c.loop-state.done.items c.loop-state.invariant
-    (none_left c.loop-state.left.items c.loop-state.left.len c.loop-state.left.ok.0 c.in_default.ensures.cases.0)
+    subst (λ (l : List State). IsStep c.args.scenario.now c.args.layer.items l c.args.done.now c.loop-state.done) (sym c.into_states.ensures)
+    (stepping_ends c.args.scenario.now c.args.layer.items c.loop-state.left.items c.loop-state.next c.args.done.now c.loop-state.done c.loop-state.invariant
+    (none_left c.loop-state.left.items c.loop-state.left.len c.loop-state.left.ok.0 c.in_default.ensures.cases.0))

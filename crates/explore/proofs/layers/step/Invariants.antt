@@ -3,7 +3,7 @@ use Rattle.explore.proofs.Spreading.{IsSteppingOn}
 use Rattle.explore.proofs.layers.step.Given as goal
 
 abbrev pub invariant-loop-state : goal.invariant-loop-state
-invariant-loop-state l = IsSteppingOn l.scenario l.fn.layer.items l.left.items l.next.items l.initial.done.items l.done.items
+invariant-loop-state l = IsSteppingOn l.scenario l.fn.layer.items l.left.items l.next l.initial.done l.done
 
 abbrev pub decreases-loop-state : goal.decreases-loop-state
 decreases-loop-state l = vec_len l.left

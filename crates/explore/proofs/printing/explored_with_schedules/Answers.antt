@@ -1,9 +1,11 @@
 -- What was explored can be printed, and each example has a schedule.
-use Rattle.std.proofs.Common.{arith, subst, sym, List, All}
+use Rattle.std.proofs.Common.{◌∙◌, ap, arith, map, subst, sym, List, All}
 use Rattle.world.specs.Kind.{opening}
 use Rattle.world.specs.World.{oral_kind}
 use Rattle.explore.specs.Exploring.{Finding}
+use Rattle.explore.specs.Keeping.{example_text}
 use Rattle.explore.specs.Walks.{AreWalks}
+use Rattle.explore.proofs.Agreeing.{proved_findings_agree}
 use Rattle.explore.proofs.Replaying.{all_walk}
 use Rattle.explore.proofs.printing.explored_with_schedules.Goals as goal
 
@@ -17,3 +19,15 @@ pub example_texts-requires : goal.example_texts-requires
 example_texts-requires c =
     let A : List Finding → Type 0 = λ findings. All (λ f. AreWalks oral_kind (opening oral_kind c.args.scenario.now) f.example) findings in
     subst A (sym c.findings.ensures) (all_walk c.args.scenario.now c.recall.ensures c.args.most c.in_ok-exploration.exploration c.in_ok-exploration.ensures)
+
+pub returns : goal.returns
+returns c =
+    let s = c.args.scenario.now in
+    let e = c.in_ok-exploration.exploration in
+    record {
+      exploration = e;
+      explores = c.in_ok-exploration.ensures;
+      told = c.in_ok-text.ensures;
+      agree = proved_findings_agree s c.args.most e c.recall.ensures c.in_ok-exploration.ensures;
+      kept = c.in_ok-schedules.ensures ∙ ap (λ (l : List Finding). map (example_text oral_kind s) l) c.findings.ensures;
+    }

@@ -1,0 +1,11 @@
+-- The place where it was found.
+use Rattle.std.proofs.Common.{◌≡◌, ◌∙◌, List, subst}
+use Rattle.explore.specs.Layers.{State, IsAlikeAt}
+use Rattle.explore.proofs.Stating.{alike_at}
+use Rattle.explore.proofs.layer.Layer.place_of.Goals as goal
+
+pub returns-then-is_like : goal.returns-then-is_like
+returns-then-is_like c =
+    let e : c.as_slice-states.result.now ≡ c.args.self.now = c.as_slice-states.ensures.value ∙ c.self.view_is in
+    subst (λ (l : List State). IsAlikeAt l c.args.state.now c.in_ok-place.place) e
+    (alike_at c.as_slice-states.result.now c.args.state.now c.index-states-place.result c.in_ok-place.place c.if-place-states.false c.index-states-place.is (c.is_like.ensures c.if-is_like.true))
