@@ -117,6 +117,7 @@ impl NumberSet {
     }
 
     /// What an operation makes of a number of these and one of those.
+    #[inline(always)]
     pub fn operate(width: Width, operation: Operation, a: NumberSet, b: NumberSet) -> NumberSet
         ensures exact { result ≡ table width operation a b }
         ensures holds { (x y : ℕ) → Has a x → Has b y → Has result (arithmetic width operation x y) }
