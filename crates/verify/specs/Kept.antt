@@ -18,7 +18,8 @@ abbrev pub all_unboxed : List (Option (Box AbsState Global)) → KnownSoFar
 all_unboxed states = map unboxed states
 
 -- of what is known at each unit, that of one is at hand, and the rest is kept
-pub record AtHand (reached : KnownSoFar) (unit : ℕ) (hand : Option (Box AbsState Global)) (kept : KnownSoFar) : Type 0 where
+pub record AtHand (reached : KnownSoFar) (unit : ℕ) (hand : Option (Box AbsState Global)) (kept : KnownSoFar)
+    : Type 0 where
   pub here : unboxed hand ≡ reached_at reached unit
   pub rest : kept ≡ slice_set reached unit None
 

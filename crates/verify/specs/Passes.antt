@@ -21,7 +21,8 @@ Does wanted (Err Memory) reached = (left : KnownSoFar) × (wanted ≡ Ok left)
 Does wanted (Err fault) reached = wanted ≡ Err fault
 
 -- the same of a step behind which what is known at the next unit is at hand
-abbrev pub Comes : Result KnownSoFar VerifyError → ℕ → Result (Option (Box AbsState Global)) VerifyError → KnownSoFar → Type 0
+abbrev pub Comes : Result KnownSoFar VerifyError → ℕ → Result (Option (Box AbsState Global)) VerifyError → KnownSoFar →
+    Type 0
 Comes wanted next (Ok hand) kept = (reached : KnownSoFar) × (wanted ≡ Ok reached) × AtHand reached next hand kept
 Comes wanted next (Err Memory) kept = (left : KnownSoFar) × (wanted ≡ Ok left)
 Comes wanted next (Err fault) kept = wanted ≡ Err fault

@@ -105,7 +105,8 @@ fn go_on(
     done: Result<(), VerifyError>,
     pending: &mut Pending,
 ) -> Result<Option<Box<AbsState>>, VerifyError>
-    ensures { (wanted : Result KnownSoFar VerifyError) → Does wanted done pending.old.items → Comes wanted next result pending.new.items }
+    ensures { (wanted : Result KnownSoFar VerifyError) → Does wanted done pending.old.items →
+        Comes wanted next result pending.new.items }
 {
     match done {
         Ok(()) => Ok(take_next(pending, next)),
@@ -171,7 +172,8 @@ fn pass_unit(
     requires fits { unit + 1 < 2 ^ 64 }
     requires room { length pending.old.items ≡ length (slots_of program.now) }
     ensures { (reached : KnownSoFar) → AtHand reached unit hand pending.old.items →
-        Comes (passed_at unit (instruction_at program.now unit) (reached_at reached unit) reached) (unit + 1) result pending.new.items }
+        Comes (passed_at unit (instruction_at program.now unit) (reached_at reached unit) reached) (unit + 1) result
+        pending.new.items }
 {
     let Some(state) = hand else {
         return Ok(take_next(pending, unit + 1));

@@ -108,7 +108,8 @@ fn move_operand(
 /// A move of a value to dst.
 #[inline(always)]
 fn move_value(state: &mut AbsState, width: Width, dst: Reg, value: AbsVal) -> Result<(), Reason>
-    ensures { outcome result state.new ≡ unless (first_reason (made_checks dst value (moved width value))) (assigned state.old dst (moved width value)) }
+    ensures { outcome result state.new ≡
+        unless (first_reason (made_checks dst value (moved width value))) (assigned state.old dst (moved width value)) }
 {
     let made = absval::arithmetic(width, Operation::Move, value, value);
     put_made(state, dst, &value, made)
@@ -143,8 +144,11 @@ fn combine_at(
     value: AbsVal,
 ) -> Result<(), Reason>
     requires { operation ≢ Operation.Move }
-    ensures refused { result_err result ≡ (if is_none (combined width operation (known_at registers.old dst) value) then Some Reason.PointerUse else None) }
-    ensures written { IfOk result (λ _. option_map (λ made. slice_set registers.old dst made) (combined width operation (known_at registers.old dst) value) ≡ Some registers.new) }
+    ensures refused { result_err result ≡
+        (if is_none (combined width operation (known_at registers.old dst) value) then Some Reason.PointerUse else None) }
+    ensures written { IfOk result (λ _.
+        option_map (λ made. slice_set registers.old dst made)
+        (combined width operation (known_at registers.old dst) value) ≡ Some registers.new) }
 {
     combine_into(
         &mut registers[dst.number() as usize],
@@ -163,7 +167,8 @@ fn combine_into(
     value: AbsVal,
 ) -> Result<(), Reason>
     requires { operation ≢ Operation.Move }
-    ensures refused { result_err result ≡ (if is_none (combined width operation register.old value) then Some Reason.PointerUse else None) }
+    ensures refused { result_err result ≡
+        (if is_none (combined width operation register.old value) then Some Reason.PointerUse else None) }
     ensures written { IfOk result (λ _. Some register.new ≡ combined width operation register.old value) }
 {
     match (&mut *register, value) {
