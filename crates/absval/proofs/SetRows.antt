@@ -1,7 +1,7 @@
 -- The rows of the table of sets of numbers: what an operation leaves has each result, and is itself well formed.
-use Rattle.std.proofs.Common.{◌≡◌, ℕ, ◌-◌, ◌^◌, ◌<◌, ◌≤◌, min, max, Bool, true, Option, Some, None, IfSome, subst, arith}
+use Rattle.std.proofs.Common.{◌≡◌, ℕ, ◌-◌, ◌^◌, ◌<◌, ◌≤◌, min, max, Bool, true, false, refl, Option, Some, None, IfSome, subst, arith}
 use Rattle.std.specs.Prelude.{◌==◌, nat_le, bit_or, IsSomeAnd}
-use Rattle.std.proofs.lemmas.Bool.{eqb-true, eq-eqb, leb-true, leb-false}
+use Rattle.std.proofs.lemmas.Bool.{eqb-true, eq-eqb, ne_eqb, leb-true, leb-false, le-leb}
 use Rattle.word.specs.declared.Width.{Width}
 use Rattle.word.specs.declared.Width.TheVariants.{W32, W64}
 use Rattle.word.specs.declared.Operation.{Operation}
@@ -110,6 +110,32 @@ settled_set p b bits le h = by_answer (reduced p b) (reduced_set p b bits le h)
     by_answer (Some n) e = e
 
 -- ---- operations
+
+-- an interval of a width and the unknown bits of the width do not contradict each other: one number has all its bits known
+one_number : (w : Width) (n : ℕ) → n < 2 ^ bits_of w → settled (n, n) (unknown w) ≡ single n
+unfolding settled
+one_number w n h =
+    let t : (n == n) ≡ true = eq-eqb n n refl in
+    let u : has_bits (unknown w) n ≡ true = eq-eqb (bit_or n (2 ^ bits_of w - 1)) (bit_or 0 (2 ^ bits_of w - 1)) (masked_same (2 ^ bits_of w - 1) 0 n (unknown_has w n h)) in
+    rw (t, u) refl
+
+pub one_settled : (w : Width) (p : ℕ × ℕ) → p.0 ≡ p.1 → p.1 < 2 ^ bits_of w → settled p (unknown w) ≡ single p.0
+one_settled w p e h = subst (λ (n : ℕ). settled (p.0, n) (unknown w) ≡ single p.0) e (one_number w p.0 (omega (arith, e, h)))
+
+greatest_unknown : (w : Width) → bit_or 0 (2 ^ bits_of w - 1) ≡ 2 ^ bits_of w - 1
+greatest_unknown W32 = refl
+greatest_unknown W64 = refl
+
+-- and several keep their ends
+pub ends_settled : (w : Width) (p : ℕ × ℕ) → (p.0 ≡ p.1 → ⊥) → p.0 ≤ p.1 → p.1 < 2 ^ bits_of w → settled p (unknown w) ≡ record { range = p; bits = unknown w }
+unfolding settled
+ends_settled w p ne le h =
+    let f : (p.0 == p.1) ≡ false = ne_eqb p.0 p.1 ne in
+    let e = greatest_unknown w in
+    let low : max p.0 0 ≡ p.0 = omega arith in
+    let high : min p.1 (2 ^ bits_of w - 1) ≡ p.1 = omega (arith, h) in
+    let t : nat_le p.0 p.1 ≡ true = le-leb p.0 p.1 le in
+    rw (f, e, low, high, t) refl
 
 word_of : (w : Width) (n : ℕ) → n < 2 ^ bits_of w → n < 2 ^ 64
 word_of W32 n h = omega arith

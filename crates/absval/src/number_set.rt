@@ -1,8 +1,8 @@
 //! What is known of a number: the range that it lies in, and bits that it has.
-ghost use Rattle.std.specs.Prelude.{◌≡◌, ◌≤◌, ◌<◌, ◌^◌, ℕ, IsTrue, IsSomeAnd};
-ghost use Rattle.word.specs.Arithmetic.{arithmetic, taken, negated, sign_extended, swapped, compared};
+ghost use Rattle.std.specs.Prelude.{◌≡◌, ◌≤◌, ◌<◌, ◌^◌, ℕ, IsTrue, IsSomeAnd, false};
+ghost use Rattle.word.specs.Arithmetic.{arithmetic, bits_of, taken, negated, sign_extended, swapped, compared};
 ghost use Rattle.range.specs.Interval.{IsIn};
-ghost use Rattle.bits.specs.Known.{HasBits};
+ghost use Rattle.bits.specs.Known.{HasBits, row, unknown};
 ghost use Rattle.absval.specs.NumberSets.{Has, HaveBoth, single, within, any, greatest, is_one, joined, copies, reduced, settled, table, negations, extensions, swaps, refined};
 ghost use Rattle.absval.specs.Table.{in_a_row};
 
@@ -117,11 +117,15 @@ impl NumberSet {
     }
 
     /// What an operation makes of a number of these and one of those.
+    #[inline(always)]
     pub fn operate(width: Width, operation: Operation, a: NumberSet, b: NumberSet) -> NumberSet
         ensures exact { result ≡ table width operation a b }
         ensures holds { (x y : ℕ) → Has a x → Has b y → Has result (arithmetic width operation x y) }
     {
         let range = ranges::operate(width, operation, a.range, b.range);
+        if !goes_bit_by_bit(operation) {
+            return whatever_bits(width, range);
+        }
         let bits = bitwise::operate(width, operation, a.bits, b.bits);
         settle(range, bits)
     }
@@ -143,7 +147,7 @@ impl NumberSet {
         ensures holds { (x : ℕ) → Has self x → Has result (negated width x) }
     {
         let range = unary::negate(width, self.range);
-        settle(range, Bits::unknown(width))
+        whatever_bits(width, range)
     }
 
     /// The numbers whose low bits are extended by their sign.
@@ -152,7 +156,7 @@ impl NumberSet {
         ensures holds { (x : ℕ) → Has self x → Has result (sign_extended width part x) }
     {
         let range = unary::sign_extend(width, part, self.range);
-        settle(range, Bits::unknown(width))
+        whatever_bits(width, range)
     }
 
     /// The numbers whose low bytes are put in an order.
@@ -161,7 +165,7 @@ impl NumberSet {
         ensures holds { (x : ℕ) → Has self x → Has result (swapped order size x) }
     {
         let range = unary::swap(order, size, self.range);
-        settle(range, Bits::unknown(Width::W64))
+        whatever_bits(Width::W64, range)
     }
 
     /// What is left of two sets where a jump on a condition is taken, or is not taken; None where no pair of
@@ -222,6 +226,35 @@ fn single_with(range: Range, bits: Bits) -> Option<NumberSet>
         range,
         bits: Bits::exactly(range.lo),
     })
+}
+
+/// Whether the bits of an operation's results are told by those of its operands; of any other nothing is known.
+#[inline(always)]
+fn goes_bit_by_bit(operation: Operation) -> bool
+    ensures { result ≡ false → (w : Width) (a b : ℕ × ℕ) → row w operation a b ≡ unknown w }
+{
+    match operation {
+        Operation::And | Operation::Or | Operation::Xor | Operation::Move => true,
+        Operation::Add | Operation::Sub | Operation::Mul => false,
+        Operation::Div | Operation::SignedDiv | Operation::Mod | Operation::SignedMod => false,
+        Operation::ShiftLeft | Operation::ShiftRight | Operation::ArithmeticShiftRight => false,
+    }
+}
+
+/// The same of results of a width of whose bits nothing else is known: these never contradict the range.
+#[inline(always)]
+fn whatever_bits(width: Width, range: Range) -> NumberSet
+    requires { range.1 < 2 ^ bits_of width }
+    ensures exact { result ≡ settled range (unknown width) }
+    ensures holds { (x : ℕ) → IsIn range.0 range.1 x → Has result x }
+{
+    if range.is_single() {
+        return NumberSet::exactly(range.lo);
+    }
+    NumberSet {
+        range,
+        bits: Bits::unknown(width),
+    }
 }
 
 /// The same of an operation's results, of which there is one: where range and bits contradict each other,

@@ -12,7 +12,8 @@ use word::arithmetic::{alu32, alu64};
 use word::{Operation, Width};
 
 /// The range of what an operation makes of a number of `a` and one of `b`: where each is one number,
-/// their result alone.
+/// their result alone. Its code, which is long, stands once.
+#[inline(never)]
 pub fn operate(width: Width, operation: Operation, a: Range, b: Range) -> Range
     ensures exact { result ≡ table width operation a.0 a.1 b.0 b.1 }
     ensures holds { (x y : ℕ) → IsIn a.0 a.1 x → IsIn b.0 b.1 y

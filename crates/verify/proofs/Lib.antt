@@ -43,3 +43,5 @@ pub mod EdgesSound
 pub mod PassSound
 pub mod JudgedSound
 pub mod JudgedAnswers
+pub mod HandLaws
+pub mod CombineLemmas

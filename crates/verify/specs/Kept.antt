@@ -1,10 +1,10 @@
 -- The states that are kept for units to come (own).
-use Rattle.std.specs.Prelude.{ℕ, ℤ, pos, ◌<ℤ◌, ◌<◌, List, Option, Box, map, option_map}
+use Rattle.std.specs.Prelude.{ℕ, ℤ, pos, ◌≡◌, ◌<ℤ◌, ◌<◌, List, Option, None, Box, map, option_map, slice_set}
 use Rattle.std.specs.declared.alloc.Global.{Global}
 use Rattle.insn.specs.declared.insn.Insn.{Insn}
 use Rattle.semantics.specs.Plain.{IsIn, leads_to}
 use Rattle.verify.specs.declared.state.AbsState.{AbsState}
-use Rattle.verify.specs.Judgement.{KnownSoFar}
+use Rattle.verify.specs.Judgement.{KnownSoFar, reached_at}
 
 -- what is kept for a unit, seen without its box
 abbrev pub unboxed : Option (Box AbsState Global) → Option AbsState
@@ -16,6 +16,12 @@ pub record KeptStates : Type 0 where
 
 abbrev pub all_unboxed : List (Option (Box AbsState Global)) → KnownSoFar
 all_unboxed states = map unboxed states
+
+-- of what is known at each unit, that of one is at hand, and the rest is kept
+pub record AtHand (reached : KnownSoFar) (unit : ℕ) (hand : Option (Box AbsState Global)) (kept : KnownSoFar)
+    : Type 0 where
+  pub here : unboxed hand ≡ reached_at reached unit
+  pub rest : kept ≡ slice_set reached unit None
 
 -- each edge ends within so many units
 abbrev pub EdgesInside : Insn → ℕ → ℕ → Type 0

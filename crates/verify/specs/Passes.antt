@@ -1,5 +1,6 @@
 -- The pass over a whole program, by the function of Judgement: whether it comes to the end, the first instruction that may not run, and what the code answers beside it (own).
-use Rattle.std.specs.Prelude.{ℕ, ◌≡◌, List, Option, Some, None, Result, Ok, Err, length}
+use Rattle.std.specs.Prelude.{ℕ, ◌≡◌, List, Option, Some, None, Box, Result, Ok, Err, length}
+use Rattle.std.specs.declared.alloc.Global.{Global}
 use Rattle.insn.specs.declared.insn.Insn.{Insn}
 use Rattle.insn.specs.Program.{slots_of, instruction_at}
 use Rattle.verify.specs.declared.error.VerifyError.{VerifyError}
@@ -8,6 +9,7 @@ use Rattle.verify.specs.declared.reason.Reason.{Reason}
 use Rattle.verify.specs.declared.state.AbsState.{AbsState}
 use Rattle.verify.specs.Instructions.{reason_of}
 use Rattle.verify.specs.Judgement.{KnownSoFar, reached_at, passed_to}
+use Rattle.verify.specs.Kept.{AtHand}
 
 -- ---- the code beside the function
 
@@ -17,6 +19,13 @@ abbrev pub Does : Result KnownSoFar VerifyError → Result (Unit {0}) VerifyErro
 Does wanted (Ok u) reached = wanted ≡ Ok reached
 Does wanted (Err Memory) reached = (left : KnownSoFar) × (wanted ≡ Ok left)
 Does wanted (Err fault) reached = wanted ≡ Err fault
+
+-- the same of a step behind which what is known at the next unit is at hand
+abbrev pub Comes : Result KnownSoFar VerifyError → ℕ → Result (Option (Box AbsState Global)) VerifyError → KnownSoFar →
+    Type 0
+Comes wanted next (Ok hand) kept = (reached : KnownSoFar) × (wanted ≡ Ok reached) × AtHand reached next hand kept
+Comes wanted next (Err Memory) kept = (left : KnownSoFar) × (wanted ≡ Ok left)
+Comes wanted next (Err fault) kept = wanted ≡ Err fault
 
 -- the code answers the fault that is wanted, if one is; or memory was refused
 abbrev pub Answers : Option VerifyError → Result (Unit {0}) VerifyError → Type 0

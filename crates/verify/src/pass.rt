@@ -1,41 +1,44 @@
 //! The forward pass.
-ghost use Rattle.std.specs.Prelude.{◌≡◌, ◌<◌, ◌≤◌, ◌+◌, pos, ◌<ℤ◌, ◌+ℤ◌, length, IfOk, Ok, option_map, if◌then◌else◌, Some, None};
+ghost use Rattle.std.specs.Prelude.{◌≡◌, ◌<◌, ◌≤◌, ◌+◌, ◌^◌, pos, ◌<ℤ◌, ◌+ℤ◌, length, IfOk, Ok, Result, if◌then◌else◌, Some, None};
 ghost use Rattle.std.specs.Result.{result_err};
 ghost use Rattle.verify.specs.Instructions.{IsStraight, reason_of};
 ghost use Rattle.verify.specs.Transfer.{edge_to};
 ghost use Rattle.verify.specs.Judgement.{KnownSoFar, reached_at, along, along_all, followed, passed_at, passed_to};
-ghost use Rattle.verify.specs.Passes.{Does, Answers};
+ghost use Rattle.verify.specs.Passes.{Does, Comes, Answers};
 ghost use Rattle.insn.specs.Program.{slots_of, instruction_at};
 ghost use Rattle.verify.specs.Forward.{IsForward};
 ghost use Rattle.verify.specs.Branches.{branch_of};
-ghost use Rattle.verify.specs.Kept.{EdgesInside, EdgesForward};
+ghost use Rattle.verify.specs.Kept.{EdgesInside, EdgesForward, AtHand};
 
 use crate::comparison::Comparison;
 use crate::error::VerifyError;
-use crate::pending::{Pending, boxed, empty, flow, second, take};
+use crate::pending::{Pending, boxed, come, empty, flow, put_back, second, take_next};
 use crate::state::AbsState;
 use crate::structure::forward_target;
 use crate::{branches, registers, steps};
 use insn::{Insn, Program};
 use std::alloc::{AllocError, Global};
 
-/// An instruction that goes on behind itself.
+/// An instruction that goes on behind itself. What it leaves is at hand for the next unit, but where it is wide.
 fn pass_straight(
     unit: usize,
     insn: &Insn,
     mut state: Box<AbsState>,
     pending: &mut Pending,
-) -> Result<(), VerifyError>
+) -> Result<Option<Box<AbsState>>, VerifyError>
     requires straight { IsStraight insn.now }
     requires bound { unit < 4096 }
     requires edges { EdgesInside insn.now unit (length pending.old.items) }
-    ensures { Does (followed unit insn.now state.value pending.old.items) result pending.new.items }
+    ensures { Comes (followed unit insn.now state.value pending.old.items) (unit + 1) result pending.new.items }
 {
     if let Err(reason) = steps::straight(&mut state, insn) {
         return Err(VerifyError::At(reason, unit));
     }
+    if insn.units() == 1 {
+        return Ok(Some(come(pending, unit + 1, state)));
+    }
     flow(pending, unit + insn.units() as usize, state);
-    Ok(())
+    Ok(take_next(pending, unit + 1))
 }
 
 /// A jump by so many units.
@@ -95,6 +98,22 @@ fn pass_exit(unit: usize, state: Box<AbsState>) -> Result<(), VerifyError>
     Ok(())
 }
 
+/// What is kept for the next unit is taken out, behind an instruction that did not come to a fault.
+#[inline(always)]
+fn go_on(
+    next: usize,
+    done: Result<(), VerifyError>,
+    pending: &mut Pending,
+) -> Result<Option<Box<AbsState>>, VerifyError>
+    ensures { (wanted : Result KnownSoFar VerifyError) → Does wanted done pending.old.items →
+        Comes wanted next result pending.new.items }
+{
+    match done {
+        Ok(()) => Ok(take_next(pending, next)),
+        Err(fault) => Err(fault),
+    }
+}
+
 /// An instruction at its unit, with what is known there.
 #[inline(always)]
 fn pass_state(
@@ -103,20 +122,20 @@ fn pass_state(
     insn: &Insn,
     state: Box<AbsState>,
     pending: &mut Pending,
-) -> Result<(), VerifyError>
+) -> Result<Option<Box<AbsState>>, VerifyError>
     requires bound { unit < 4096 }
     requires forward { EdgesForward insn.now unit }
     requires inside { EdgesInside insn.now unit (length pending.old.items) }
-    ensures { Does (followed unit insn.now state.value pending.old.items) result pending.new.items }
+    ensures { Comes (followed unit insn.now state.value pending.old.items) (unit + 1) result pending.new.items }
 {
     match insn {
         Insn::Jump { distance } => {
             pass_jump(unit, i32::from(*distance), state, pending);
-            Ok(())
+            go_on(unit + 1, Ok(()), pending)
         }
         Insn::LongJump { distance } => {
             pass_jump(unit, *distance, state, pending);
-            Ok(())
+            go_on(unit + 1, Ok(()), pending)
         }
         Insn::Branch {
             width,
@@ -131,31 +150,37 @@ fn pass_state(
                 dst: *dst,
                 operand: *operand,
             };
-            pass_branch(alloc, unit, &compared, *distance, state, pending)
+            let done = pass_branch(alloc, unit, &compared, *distance, state, pending);
+            go_on(unit + 1, done, pending)
         }
-        Insn::Exit => pass_exit(unit, state),
+        Insn::Exit => go_on(unit + 1, pass_exit(unit, state), pending),
         _ => pass_straight(unit, insn, state, pending),
     }
 }
 
-/// The next unit: what is kept for it flows on.
+/// The next unit, at which what is known is at hand; behind it that of the unit that follows.
 #[inline(always)]
 fn pass_unit(
     alloc: Global,
     program: &Program,
     unit: usize,
+    hand: Option<Box<AbsState>>,
     pending: &mut Pending,
-) -> Result<(), VerifyError>
+) -> Result<Option<Box<AbsState>>, VerifyError>
     requires forward { IsForward program.now }
     requires unit { unit < length (slots_of program.now) }
+    requires fits { unit + 1 < 2 ^ 64 }
     requires room { length pending.old.items ≡ length (slots_of program.now) }
-    ensures { Does (passed_at unit (instruction_at program.now unit) (reached_at pending.old.items unit) pending.old.items) result pending.new.items }
+    ensures { (reached : KnownSoFar) → AtHand reached unit hand pending.old.items →
+        Comes (passed_at unit (instruction_at program.now unit) (reached_at reached unit) reached) (unit + 1) result
+        pending.new.items }
 {
-    let Some(insn) = program.at(unit) else {
-        return Ok(());
+    let Some(state) = hand else {
+        return Ok(take_next(pending, unit + 1));
     };
-    let Some(state) = take(pending, unit) else {
-        return Ok(());
+    let Some(insn) = program.at(unit) else {
+        put_back(pending, unit, Some(state));
+        return Ok(take_next(pending, unit + 1));
     };
     pass_state(alloc, unit, &insn, state, pending)
 }
@@ -177,9 +202,11 @@ pub fn pass_units(
     ensures passed { IfOk result (λ _. passed_to program.now end ≡ Ok pending.new.items) }
     ensures answers { Answers (result_err (passed_to program.now end)) result }
 {
+    let mut hand = take_next(pending, first);
     for unit in first..end {
-        pass_unit(alloc, program, unit, pending)?;
+        hand = pass_unit(alloc, program, unit, hand, pending)?;
     }
+    put_back(pending, end, hand);
     Ok(())
 }
 

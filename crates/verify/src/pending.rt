@@ -1,8 +1,7 @@
 //! The states that are kept for units to come.
-ghost use Rattle.std.specs.Prelude.{◌≡◌, ◌<◌, Some, None, [], length, replicate, slice_set, pos, IfOk};
-ghost use Rattle.verify.specs.Knowledge.{met};
-ghost use Rattle.verify.specs.Judgement.{reached_at, along};
-ghost use Rattle.verify.specs.Kept.{unboxed};
+ghost use Rattle.std.specs.Prelude.{◌≡◌, ◌<◌, Some, None, [], length, replicate, slice_set, is_none, pos, IfOk};
+ghost use Rattle.verify.specs.Judgement.{KnownSoFar, reached_at, along, joined_with};
+ghost use Rattle.verify.specs.Kept.{unboxed, AtHand};
 
 use crate::state::AbsState;
 use std::alloc::{AllocError, Global};
@@ -92,16 +91,41 @@ fn keep(pending: &mut Pending, unit: usize, state: Box<AbsState>)
     pending.states[unit] = Some(state);
 }
 
-/// Keeps for a unit what a state and the one that was kept there both know. The box of that one is set aside for the
-/// next state.
-#[inline(never)]
-fn keep_joined(pending: &mut Pending, unit: usize, mut state: Box<AbsState>, before: Box<AbsState>)
-    requires { unit < length pending.old.items }
-    ensures { pending.new.items ≡ slice_set pending.old.items unit (Some (met state.value before.value)) }
+/// Whether nothing is kept for a unit.
+#[inline(always)]
+fn is_free(pending: &Pending, unit: usize) -> bool
+    requires { unit < length pending.now.items }
+    ensures { result ≡ is_none (reached_at pending.now.items unit) }
 {
+    pending.states[unit].is_none()
+}
+
+/// What a state and the one that is kept for a unit both know. The box of that one is set aside for the next state.
+#[inline(never)]
+fn meet(pending: &mut Pending, unit: usize, mut state: Box<AbsState>) -> Box<AbsState>
+    requires { unit < length pending.old.items }
+    ensures value { result.value ≡ joined_with (reached_at pending.old.items unit) state.value }
+    ensures rest { pending.new.items ≡ slice_set pending.old.items unit None }
+{
+    let Some(before) = take(pending, unit) else {
+        return state;
+    };
     state.join(&before);
-    keep(pending, unit, state);
     pending.spare = Some(before);
+    state
+}
+
+/// A state comes to a unit: what it knows there, with what is kept for it and is taken out.
+#[inline(always)]
+pub fn come(pending: &mut Pending, unit: usize, state: Box<AbsState>) -> Box<AbsState>
+    requires { unit < length pending.old.items }
+    ensures value { result.value ≡ joined_with (reached_at pending.old.items unit) state.value }
+    ensures rest { pending.new.items ≡ slice_set pending.old.items unit None }
+{
+    if is_free(pending, unit) {
+        return state;
+    }
+    meet(pending, unit, state)
 }
 
 /// The same state once more, in the box that no unit needs any more, else in a new one.
@@ -126,8 +150,29 @@ pub fn flow(pending: &mut Pending, unit: usize, state: Box<AbsState>)
     requires { unit < length pending.old.items }
     ensures { pending.new.items ≡ along (pos unit, state.value) pending.old.items }
 {
-    match take(pending, unit) {
-        Some(before) => keep_joined(pending, unit, state, before),
-        None => keep(pending, unit, state),
+    let state = come(pending, unit, state);
+    keep(pending, unit, state);
+}
+
+/// Takes out what is kept for a unit, where there is such a unit.
+#[inline(always)]
+pub fn take_next(pending: &mut Pending, unit: usize) -> Option<Box<AbsState>>
+    ensures value { unboxed result ≡ reached_at pending.old.items unit }
+    ensures rest { pending.new.items ≡ slice_set pending.old.items unit None }
+{
+    if unit >= pending.states.len() {
+        return None;
+    }
+    take(pending, unit)
+}
+
+/// Keeps again what was taken out.
+pub fn put_back(pending: &mut Pending, unit: usize, state: Option<Box<AbsState>>)
+    ensures { (reached : KnownSoFar) → AtHand reached unit state pending.old.items → pending.new.items ≡ reached }
+{
+    if let Some(state) = state {
+        if unit < pending.states.len() {
+            keep(pending, unit, state);
+        }
     }
 }

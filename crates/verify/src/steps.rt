@@ -1,7 +1,8 @@
 //! What one instruction does to what is known.
-ghost use Rattle.std.specs.Prelude.{◌≡◌, [], ◌∷◌, Some, None, if◌then◌else◌};
+ghost use Rattle.std.specs.Prelude.{◌≡◌, ◌≢◌, [], ◌∷◌, Some, None, is_none, option_map, slice_set, IfOk, if◌then◌else◌};
 ghost use Rattle.std.specs.Result.{result_err};
 ghost use Rattle.absval.specs.Contains.{is_number};
+ghost use Rattle.absval.specs.Table.{moved, combined};
 ghost use Rattle.verify.specs.Registers.{known_at, operand_known};
 ghost use Rattle.verify.specs.Reasons.{first_reason, is_unset, made_checks, write_checks, compare_checks, exit_checks, unless, outcome};
 ghost use Rattle.verify.specs.Instructions.{IsStraight};
@@ -80,11 +81,110 @@ fn arithmetic(
 ) -> Result<(), Reason>
     ensures { outcome result state.new ≡ stepped (Insn.Arithmetic width operation dst operand) state.old }
 {
+    if let Operation::Move = operation {
+        return move_operand(state, width, dst, operand);
+    }
+    combine(state, width, operation, dst, operand)
+}
+
+/// A move of an operand to dst, of which nothing is read.
+fn move_operand(
+    state: &mut AbsState,
+    width: Width,
+    dst: Reg,
+    operand: Operand,
+) -> Result<(), Reason>
+    ensures { outcome result state.new ≡ stepped (Insn.Arithmetic width Operation.Move dst operand) state.old }
+{
+    match operand {
+        Operand::Immediate(number) => move_value(state, width, dst, absval::immediate(number)),
+        Operand::Register(src) => {
+            let value = registers::read(&state.registers, src);
+            move_value(state, width, dst, value)
+        }
+    }
+}
+
+/// A move of a value to dst.
+#[inline(always)]
+fn move_value(state: &mut AbsState, width: Width, dst: Reg, value: AbsVal) -> Result<(), Reason>
+    ensures { outcome result state.new ≡
+        unless (first_reason (made_checks dst value (moved width value))) (assigned state.old dst (moved width value)) }
+{
+    let made = absval::arithmetic(width, Operation::Move, value, value);
+    put_made(state, dst, &value, made)
+}
+
+/// An operation other than a move on dst and an operand, whose result dst takes.
+fn combine(
+    state: &mut AbsState,
+    width: Width,
+    operation: Operation,
+    dst: Reg,
+    operand: Operand,
+) -> Result<(), Reason>
+    requires { operation ≢ Operation.Move }
+    ensures { outcome result state.new ≡ stepped (Insn.Arithmetic width operation dst operand) state.old }
+{
     let first = registers::first(&state.registers, operation, dst);
     let second = registers::operand(&state.registers, operand);
     check_set(&first)?;
-    let made = absval::arithmetic(width, operation, first, second);
-    put_made(state, dst, &second, made)
+    check_set(&second)?;
+    check_writable(dst)?;
+    combine_at(&mut state.registers, dst, width, operation, second)
+}
+
+/// A register takes what an operation makes of it and a value.
+#[inline(always)]
+fn combine_at(
+    registers: &mut [AbsVal; 11],
+    dst: Reg,
+    width: Width,
+    operation: Operation,
+    value: AbsVal,
+) -> Result<(), Reason>
+    requires { operation ≢ Operation.Move }
+    ensures refused { result_err result ≡
+        (if is_none (combined width operation (known_at registers.old dst) value) then Some Reason.PointerUse else None) }
+    ensures written { IfOk result (λ _.
+        option_map (λ made. slice_set registers.old dst made)
+        (combined width operation (known_at registers.old dst) value) ≡ Some registers.new) }
+{
+    combine_into(
+        &mut registers[dst.number() as usize],
+        width,
+        operation,
+        value,
+    )
+}
+
+/// What is known of a register becomes what an operation makes of it and a value. Numbers are written where they stand.
+#[inline(always)]
+fn combine_into(
+    register: &mut AbsVal,
+    width: Width,
+    operation: Operation,
+    value: AbsVal,
+) -> Result<(), Reason>
+    requires { operation ≢ Operation.Move }
+    ensures refused { result_err result ≡
+        (if is_none (combined width operation register.old value) then Some Reason.PointerUse else None) }
+    ensures written { IfOk result (λ _. Some register.new ≡ combined width operation register.old value) }
+{
+    match (&mut *register, value) {
+        (AbsVal::Number(first), AbsVal::Number(second)) => {
+            *first = NumberSet::operate(width, operation, *first, second);
+        }
+        (AbsVal::Pointer(region, offsets), _) => {
+            let pointer = AbsVal::Pointer(*region, *offsets);
+            let Some(moved) = absval::arithmetic(width, operation, pointer, value) else {
+                return Err(Reason::PointerUse);
+            };
+            *register = moved;
+        }
+        _ => return Err(Reason::PointerUse),
+    }
+    Ok(())
 }
 
 /// The negation of dst.

@@ -12,11 +12,8 @@ pass_jump-requires-in-LongJump-clause-edges c =
     let same : to_z w32 (of_z w32 c.in-LongJump.distance) ≡ c.in-LongJump.distance = search rules in
     long_inside c.args.insn.now c.in-LongJump.distance _ c.args.unit (length c.args.pending.now.items) c.in-LongJump.is same c.requires.inside
 
-pub pass_branch-requires-clause-edges : goal.pass_branch-requires-clause-edges
-pass_branch-requires-clause-edges c =
+pub pass_branch-done-requires-clause-edges : goal.pass_branch-done-requires-clause-edges
+pass_branch-done-requires-clause-edges c =
     let same : to_z w16 (of_z w16 c.in-Branch.distance) ≡ c.in-Branch.distance = search rules in
     branch_inside c.args.insn.now c.in-Branch.width c.in-Branch.condition c.in-Branch.dst c.in-Branch.operand c.in-Branch.distance _ c.args.unit (length c.args.pending.now.items)
     c.in-Branch.is same c.requires.inside
-
-pub returns-in-Exit : goal.returns-in-Exit
-returns-in-Exit c = rw c.in-Exit.is (c.pass_exit.ensures c.args.pending.now.items)
