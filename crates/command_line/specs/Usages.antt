@@ -67,8 +67,8 @@ abbrev pub tree : Usage
 tree = record {
   name = codes "tree";
   places = codes "FILE" ∷ [];
-  flags = switch (codes "text") ∷ switch (codes "ascii") ∷ switch (codes "dot") ∷ switch (codes "svg") ∷ switch (codes "fold")
-      ∷ option (codes "of") ∷ option (codes "traitors") ∷ option (codes "depth") ∷ [];
+  flags = switch (codes "text") ∷ switch (codes "ascii") ∷ switch (codes "dot") ∷ switch (codes "svg")
+      ∷ switch (codes "fold") ∷ option (codes "of") ∷ option (codes "traitors") ∷ option (codes "depth") ∷ [];
 }
 
 abbrev pub draw : Usage

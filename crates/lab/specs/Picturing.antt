@@ -24,12 +24,13 @@ form_of drawings.Svg = Svg
 abbrev pub is_toml : List ℕ → Bool
 is_toml text = is_some (parse_document text)
 
--- what the general was told by a message table, or by the letters of the oral campaign that a text tells, without a schedule;
--- drawn with these named as traitors, and of a campaign with its own besides
+-- what the general was told by a message table, or by the letters of the oral campaign that a text tells, without a
+-- schedule; drawn with these named as traitors, and of a campaign with its own besides
 abbrev pub IsTreeIn : Bool → List ℕ → List ℕ → View → Form → ℕ → List ℕ → Type 0
 IsTreeIn false text named view form general picture = DrawsTable text named view form general picture
 IsTreeIn true text named view form general picture =
-    (s : Scenario) × Tells text s × DrawsTable (table_of (played s [])) (traitors_of s ++ named) view form general picture
+    (s : Scenario) × Tells text s
+    × DrawsTable (table_of (played s [])) (traitors_of s ++ named) view form general picture
 
 -- the file tells a message table or an oral campaign, and this is what the general was told, drawn so far
 abbrev pub Pictures : ℕ → List ℕ → Drawing → ℕ → Bool → List ℕ → List ℕ → Type 0

@@ -150,8 +150,8 @@ RefusesNaming named text (Stranger general generals) =
     HasGenerals text generals × (stranger_among generals named ≡ Some general)
 RefusesNaming named text refusal = RefusesTable text refusal
 
--- the text tells no table or, where it is TOML, no oral campaign; or it tells one, and this is no lieutenant of it whose
--- tree could be drawn, or else the first of those named as traitors who is none of its generals
+-- the text tells no table or, where it is TOML, no oral campaign; or it tells one, and this is no lieutenant of it
+-- whose tree could be drawn, or else the first of those named as traitors who is none of its generals
 abbrev pub RefusesTreeIn : Bool → ℕ → List ℕ → List ℕ → Refusal → Type 0
 RefusesTreeIn toml general traitors text (Stranger own generals) =
     (commander : ℕ) × HasNumbers toml text generals commander

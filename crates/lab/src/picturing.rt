@@ -17,8 +17,8 @@ use round::Scenario;
 use std::alloc::{AllocError, Global};
 use world::{Chronicle, Schedule, play};
 
-/// What this general was told by the message table or, where the text is TOML, in the oral campaign that it tells, without a
-/// schedule; drawn so far, where these generals are named as traitors, and the campaign's own besides.
+/// What this general was told by the message table or, where the text is TOML, in the oral campaign that it tells,
+/// without a schedule; drawn so far, where these generals are named as traitors, and the campaign's own besides.
 ///
 /// # Errors
 ///
