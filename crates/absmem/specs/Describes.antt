@@ -26,7 +26,8 @@ AreBytes cells = (k : ℕ) → k < length cells → IsByte (cell_at cells k)
 -- the pointer stands whole at a place
 abbrev pub StandsAt : List Cell → ℕ → Spill → Type 0
 StandsAt cells b Free = Unit {0}
-StandsAt cells b (Whole shift region offset) = slice_range cells (8 * b + shift) (8 * b + shift + 8) ≡ pieces_of region offset
+StandsAt cells b (Whole shift region offset) =
+    slice_range cells (8 * b + shift) (8 * b + shift + 8) ≡ pieces_of region offset
 
 -- the cells are as is known
 pub record Describes (known : Known) (cells : List Cell) : Type 0 where

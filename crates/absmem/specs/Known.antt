@@ -39,14 +39,16 @@ pub record IsKnownStack (bytes : List Bool) (spills : List Spill) : Type 0 where
 abbrev pub left_of : ℕ → ℕ → ℕ → Spill → Spill
 left_of place end b Free = Free
 left_of place end b (Whole shift region offset) =
-    if (nat_lt place end && nat_lt (8 * b + shift) end) && nat_lt place (8 * b + shift + 8) then Free else Whole shift region offset
+    if (nat_lt place end && nat_lt (8 * b + shift) end) && nat_lt place (8 * b + shift + 8) then Free
+    else Whole shift region offset
 
 -- what both know of a block
 abbrev pub joined_spill : Spill → Spill → Spill
 joined_spill Free b = Free
 joined_spill (Whole shift region offset) Free = Free
 joined_spill (Whole shift region offset) (Whole other_shift other_region other_offset) =
-    if (shift == other_shift) && is_same_region region other_region && int_eq offset other_offset then Whole shift region offset else Free
+    if (shift == other_shift) && is_same_region region other_region && int_eq offset other_offset
+    then Whole shift region offset else Free
 
 -- the pointer of a block that stands so many cells behind its beginning
 abbrev pub pointer_of : ℕ → Spill → Option (Region × ℤ)

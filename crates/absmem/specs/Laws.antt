@@ -30,9 +30,11 @@ cells_of words number = slice_range (members words) (64 * number) (64 * number +
 module _ (words : List ℕ) (number : ℕ) (lt : number < 8) where
   length-cells : length (cells_of words number) ≡ 64
   length-cells =
-      let room : 64 ≤ length (drop (64 * number) (members words)) = omega (arith, length-drop (64 * number) (members words), length-members words) in
+      let room : 64 ≤ length (drop (64 * number) (members words)) =
+      omega (arith, length-drop (64 * number) (members words), length-members words) in
       let size : 64 * number + 64 - 64 * number ≡ 64 = omega arith in
-      ap (λ n. length (take n (drop (64 * number) (members words)))) size ∙ length-take-le 64 (drop (64 * number) (members words)) room
+      ap (λ n. length (take n (drop (64 * number) (members words)))) size ∙ length-take-le 64
+      (drop (64 * number) (members words)) room
 
   cell-of : (i : ℕ) → i < 64 → get_or (cells_of words number) i false ≡ (bit_at (word_at words number) i == 1)
   cell-of i inside =
@@ -47,10 +49,12 @@ module _ (words : List ℕ) (number : ℕ) (lt : number < 8) where
 
   word-found : word_at words number < 2 ^ 64 → mask_l (cells_of words number) ≡ word_at words number
   word-found small =
-      let large : mask_l (cells_of words number) < 2 ^ 64 = omega (arith, mask_l-lt (cells_of words number), ap (λ n. 2 ^ n) length-cells) in
+      let large : mask_l (cells_of words number) < 2 ^ 64 =
+      omega (arith, mask_l-lt (cells_of words number), ap (λ n. 2 ^ n) length-cells) in
       same_from_bits_below 64 (mask_l (cells_of words number)) (word_at words number) large small
       (λ i inside. bit_mask_l (cells_of words number) i
-      ∙ (ap (λ t. cond {A = ℕ} t 1 0) (cell-of i inside) ∙ bit_of_test (bit_at (word_at words number) i) (bit_at-lt (word_at words number) i)))
+      ∙ (ap (λ t. cond {A = ℕ} t 1 0) (cell-of i inside) ∙ bit_of_test (bit_at (word_at words number) i)
+      (bit_at-lt (word_at words number) i)))
 
 pub words_of-members : (words : List ℕ) → AreWords words → words_of (members words) ≡ words
 unfolding words_of
@@ -60,4 +64,5 @@ words_of-members words kept =
     ext_get_or 0 (words_of (members words)) words (eight ∙ sym kept.count)
     (λ number lt.
     let inside : number < 8 = omega (arith, eight) in
-    get_or-map-range_with_len found 0 8 number number 0 inside (omega arith) ∙ word-found words number inside (kept.each number inside))
+    get_or-map-range_with_len found 0 8 number number 0 inside (omega arith) ∙ word-found words number inside
+    (kept.each number inside))

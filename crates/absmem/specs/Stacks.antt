@@ -25,7 +25,8 @@ spill_behind place end known b = left_of place end b (spill_at known.spills b)
 
 -- so many bytes stand from the place on
 abbrev pub put_bytes : ℕ → ℕ → Known → Known
-put_bytes place size known = stack_of (byte_behind true place (place + size) known) (spill_behind place (place + size) known)
+put_bytes place size known =
+    stack_of (byte_behind true place (place + size) known) (spill_behind place (place + size) known)
 
 -- bytes stand somewhere among so many cells from the place on: what was a byte is one
 abbrev pub spread_bytes : ℕ → ℕ → Known → Known
@@ -40,4 +41,5 @@ put_pointer place region offset known =
 -- what both know
 abbrev pub joined_stack : Known → Known → Known
 joined_stack one other =
-    stack_of (λ k. byte_at one.bytes k && byte_at other.bytes k) (λ b. joined_spill (spill_at one.spills b) (spill_at other.spills b))
+    stack_of (λ k. byte_at one.bytes k && byte_at other.bytes k)
+    (λ b. joined_spill (spill_at one.spills b) (spill_at other.spills b))

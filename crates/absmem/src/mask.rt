@@ -29,7 +29,8 @@ pub(crate) fn window(number: usize, place: usize, end: usize) -> u64
 
 /// The word with the bits of the mask set or cleared, and its other bits.
 pub(crate) fn put(word: u64, mask: u64, value: bool) -> u64
-    ensures { (i : ℕ) → i < 64 → bit_at result i ≡ (if bit_at mask i == 1 then (if value then 1 else 0) else bit_at word i) }
+    ensures { (i : ℕ) → i < 64 →
+        bit_at result i ≡ (if bit_at mask i == 1 then (if value then 1 else 0) else bit_at word i) }
 {
     if value { word | mask } else { word & !mask }
 }

@@ -63,7 +63,8 @@ fn left(spill: Spill, b: usize, place: usize, end: usize) -> Spill
 /// Keeps what both know.
 pub(crate) fn join(spills: &mut Blocks, other: &Blocks)
     ensures size { length spills.new ≡ 64 }
-    ensures each { (b : ℕ) → b < 64 → spill_at spills.new b ≡ joined_spill (spill_at spills.old b) (spill_at other.now b) }
+    ensures each { (b : ℕ) → b < 64 →
+        spill_at spills.new b ≡ joined_spill (spill_at spills.old b) (spill_at other.now b) }
 {
     if spills.is_free() {
         return;

@@ -64,7 +64,8 @@ impl AbsStack {
     pub fn put_bytes(&mut self, place: usize, size: usize)
         requires within { place + size ≤ 512 }
         ensures exact { self.new ≡ put_bytes place size self.old }
-        ensures holds { (cells new : List Cell) → Describes self.old cells → length cells ≡ 512 → AreBytes new → length new ≡ size →
+        ensures holds { (cells new : List Cell) → Describes self.old cells → length cells ≡ 512 → AreBytes new →
+            length new ≡ size →
             Describes self.new (overwritten cells place new) }
     {
         let end = place + size;
@@ -76,7 +77,8 @@ impl AbsStack {
     pub fn spread_bytes(&mut self, place: usize, size: usize)
         requires within { place + size ≤ 512 }
         ensures exact { self.new ≡ spread_bytes place size self.old }
-        ensures holds { (cells new : List Cell) (at : ℕ) → Describes self.old cells → length cells ≡ 512 → AreBytes new → place ≤ at → at + length new ≤ place + size →
+        ensures holds { (cells new : List Cell) (at : ℕ) → Describes self.old cells → length cells ≡ 512 →
+            AreBytes new → place ≤ at → at + length new ≤ place + size →
             Describes self.new (overwritten cells at new) }
     {
         pointers::clear(&mut self.spills, place, place + size);
@@ -86,7 +88,8 @@ impl AbsStack {
     pub fn put_pointer(&mut self, place: usize, region: Region, offset: Offset)
         requires within { place + 8 ≤ 512 }
         ensures exact { self.new ≡ put_pointer place region offset self.old }
-        ensures holds { (cells : List Cell) → Describes self.old cells → length cells ≡ 512 → Describes self.new (overwritten cells place (pieces_of region offset)) }
+        ensures holds { (cells : List Cell) → Describes self.old cells → length cells ≡ 512 →
+            Describes self.new (overwritten cells place (pieces_of region offset)) }
     {
         pointers::clear(&mut self.spills, place, place + 8);
         self.bytes.set(place, place + 8, false);
@@ -97,7 +100,8 @@ impl AbsStack {
     pub fn has_bytes(&self, place: usize, size: usize) -> bool
         requires within { place + size ≤ 512 }
         ensures known { IsTrue result ↔ ((k : ℕ) → place ≤ k → k < place + size → byte_at self.now.bytes k ≡ true) }
-        ensures holds { IsTrue result → (cells : List Cell) (at n : ℕ) → Describes self.now cells → length cells ≡ 512 → place ≤ at → at + n ≤ place + size →
+        ensures holds { IsTrue result → (cells : List Cell) (at n : ℕ) → Describes self.now cells → length cells ≡ 512 →
+            place ≤ at → at + n ≤ place + size →
             AreBytes (slice_range cells at (at + n)) }
     {
         self.bytes.has(place, place + size)
@@ -108,7 +112,8 @@ impl AbsStack {
         requires within { place + 8 ≤ 512 }
         ensures known { result ≡ pointer_of (place % 8) (spill_at self.now.spills (place / 8)) }
         ensures holds { IfSome result
-            (λ p. (cells : List Cell) → Describes self.now cells → slice_range cells place (place + 8) ≡ pieces_of p.0 p.1) }
+            (λ p. (cells : List Cell) → Describes self.now cells →
+            slice_range cells place (place + 8) ≡ pieces_of p.0 p.1) }
     {
         let Spill::Whole {
             shift,

@@ -67,7 +67,8 @@ settled p b = settled_by p (reduced p b)
 -- ---- operations: by the table of intervals and the table of bits
 
 abbrev pub table : Width → Operation → NumberSet → NumberSet → NumberSet
-table w operation a b = settled (range.table w operation a.range.0 a.range.1 b.range.0 b.range.1) (known.table w operation a.bits b.bits)
+table w operation a b =
+    settled (range.table w operation a.range.0 a.range.1 b.range.0 b.range.1) (known.table w operation a.bits b.bits)
 
 -- a move uses the low bits
 abbrev pub copies : Width → NumberSet → NumberSet

@@ -26,7 +26,8 @@ joined_offsets m n = (int_min m.0 n.0, int_max m.1 n.1)
 -- numbers with numbers, pointers with pointers of their region
 abbrev pub joined : AbsVal → AbsVal → AbsVal
 joined (Number m) (Number n) = Number (joined_sets m n)
-joined (Pointer region m) (Pointer other n) = if is_same_region region other then Pointer region (joined_offsets m n) else Unset
+joined (Pointer region m) (Pointer other n) =
+    if is_same_region region other then Pointer region (joined_offsets m n) else Unset
 joined _ _ = Unset
 
 -- ---- pointer arithmetic
@@ -53,7 +54,8 @@ displaced W64 Sub o by = lowered o by
 displaced _ _ o by = None
 
 abbrev pub shifted : Width → Operation → Region → ℤ × ℤ → NumberSet → Option AbsVal
-shifted w operation region o n = option_map (Pointer region) (option_and_then (displaced w operation o) (in_a_row n.range))
+shifted w operation region o n =
+    option_map (Pointer region) (option_and_then (displaced w operation o) (in_a_row n.range))
 
 -- ---- operations
 

@@ -20,10 +20,12 @@ LiesIn first total size (Err cause) = ⊥
 -- the cells that so many bytes at each place from the first to the last touch, where they all lie in the room
 abbrev pub between : ℕ → ℕ → ℤ → ℤ → Option Window
 between room size (pos first) (pos last) =
-    if nat_le first last && nat_le (last + size) room then Some (record { place = first; size = (last - first) + size }) else None
+    if nat_le first last && nat_le (last + size) room then Some (record { place = first; size = (last - first) + size })
+    else None
 between room size _ _ = None
 
 -- the same at each offset from the least to the greatest, a distance on
 abbrev pub window_known : Region → ℤ → ℤ → ℤ → ℕ → Option Window
 window_known region low high distance size =
-    between (room_of region) size ((low +ℤ distance) +ℤ pos (base_of region)) ((high +ℤ distance) +ℤ pos (base_of region))
+    between (room_of region) size ((low +ℤ distance) +ℤ pos (base_of region))
+    ((high +ℤ distance) +ℤ pos (base_of region))

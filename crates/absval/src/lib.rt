@@ -1,4 +1,5 @@
-//! What the verifier knows of a value: nothing, a number in a range with known bits, or a pointer with its offsets in a range.
+//! What the verifier knows of a value: nothing, a number in a range with known bits, or a pointer with its offsets in a
+//! range.
 #![tactic(auto)]
 
 mod number_set;

@@ -15,7 +15,8 @@ use word::{ByteOrder, Narrow, Operation, SwapSize, Width};
 /// What an operation on two values gives: nothing where it is none that pointers admit.
 #[inline(always)]
 pub fn arithmetic(width: Width, operation: Operation, a: AbsVal, b: AbsVal) -> Option<AbsVal>
-    ensures holds { IfSome result (λ r. (x y : Value) → Contains a x → Contains b y → Gives r (result_of width operation x y)) }
+    ensures holds { IfSome result (λ r. (x y : Value) → Contains a x → Contains b y →
+        Gives r (result_of width operation x y)) }
     ensures exact { result ≡ known width operation a b }
 {
     if let Operation::Move = operation {
@@ -44,7 +45,8 @@ fn moved(width: Width, b: AbsVal) -> Option<AbsVal>
 #[inline(always)]
 fn combined(width: Width, operation: Operation, a: AbsVal, b: AbsVal) -> Option<AbsVal>
     requires { operation ≢ Operation.Move }
-    ensures holds { IfSome result (λ r. (x y : Value) → Contains a x → Contains b y → Gives r (result_of width operation x y)) }
+    ensures holds { IfSome result (λ r. (x y : Value) → Contains a x → Contains b y →
+        Gives r (result_of width operation x y)) }
     ensures exact { result ≡ known_combined width operation a b }
 {
     let AbsVal::Number(n) = b else {

@@ -29,7 +29,8 @@ impl Model for SignedRange {
 
 /// The numbers of the range as signed, where they are in a row.
 pub(crate) fn as_signed(range: Range) -> Option<SignedRange>
-    ensures holds { IfSome result (λ s. (n : ℕ) → range.0 ≤ n → n ≤ range.1 → (s.0 ≤ℤ cast_signed w64 n) × (cast_signed w64 n ≤ℤ s.1)) }
+    ensures holds { IfSome result (λ s. (n : ℕ) → range.0 ≤ n → n ≤ range.1 →
+        (s.0 ≤ℤ cast_signed w64 n) × (cast_signed w64 n ≤ℤ s.1)) }
     ensures exact { result ≡ in_a_row range }
 {
     let low = range.lo.cast_signed();

@@ -84,7 +84,8 @@ pub fn window_of(region: Region, offsets: Offsets, distance: i16, size: usize) -
     ensures holds { IfSome result (λ w. (o : ℤ) → offsets.0 ≤ℤ o → o ≤ℤ offsets.1 →
         LiesIn w.place w.size size (window_at region (o +ℤ distance) size)) }
     ensures least { IfSome result (λ w. pos w.place ≡ (offsets.0 +ℤ distance) +ℤ pos (base_of region)) }
-    ensures greatest { IfSome result (λ w. pos (w.place + w.size) ≡ ((offsets.1 +ℤ distance) +ℤ pos (base_of region)) +ℤ pos size) }
+    ensures greatest { IfSome result
+        (λ w. pos (w.place + w.size) ≡ ((offsets.1 +ℤ distance) +ℤ pos (base_of region)) +ℤ pos size) }
 {
     window_between(region, offsets.low, offsets.high, distance, size)
 }
@@ -94,9 +95,11 @@ fn window_between(region: Region, low: i32, high: i32, distance: i16, size: usiz
     requires { size ≤ 4096 }
     ensures exact { result ≡ window_known region low high distance size }
     ensures fits { IfSome result (λ w. w.place + w.size ≤ room_of region) }
-    ensures holds { IfSome result (λ w. (o : ℤ) → low ≤ℤ o → o ≤ℤ high → LiesIn w.place w.size size (window_at region (o +ℤ distance) size)) }
+    ensures holds { IfSome result (λ w. (o : ℤ) → low ≤ℤ o → o ≤ℤ high →
+        LiesIn w.place w.size size (window_at region (o +ℤ distance) size)) }
     ensures least { IfSome result (λ w. pos w.place ≡ (low +ℤ distance) +ℤ pos (base_of region)) }
-    ensures greatest { IfSome result (λ w. pos (w.place + w.size) ≡ ((high +ℤ distance) +ℤ pos (base_of region)) +ℤ pos size) }
+    ensures greatest { IfSome result
+        (λ w. pos (w.place + w.size) ≡ ((high +ℤ distance) +ℤ pos (base_of region)) +ℤ pos size) }
 {
     let first = place_at(region, low, distance)?;
     let last = place_at(region, high, distance)?;

@@ -12,7 +12,8 @@ defined (d ∷ ds) name = if bytes_eq d.0 name then Some d.1 else defined ds nam
 
 -- the distance from one unit to another
 abbrev pub between : ℕ → ℕ → Number
-between start target = if nat_le start target then record { negative = false; magnitude = target - start } else record { negative = true; magnitude = start - target }
+between start target = if nat_le start target then record { negative = false; magnitude = target - start }
+    else record { negative = true; magnitude = start - target }
 
 -- a name's distance is counted from the unit behind the jump
 unfoldable pub distance_of : List (List ℕ × ℕ) → ℕ → Goal → Option Number

@@ -22,7 +22,8 @@ use Rattle.asm.specs.Views.{Fails, kept_view}
 abbrev pub Finds : BTreeMap (Bor (List ℕ)) ℕ → List (List ℕ × ℕ) → Type 0
 Finds map names = (name : List ℕ) → get_by (λ k. slice_cmp nat_cmp name k.now) map ≡ defined names name
 
--- the code's reading is this one; its statements are kept while a program has room for their units, and never more than 4,096
+-- the code's reading is this one; its statements are kept while a program has room for their units, and never more than
+-- 4,096
 pub record Keeps (kept : Reading) (r : Read) : Type 0 where
   pub units : kept.units ≡ units_in r
   pub sources : kept.units ≤ most_units → map kept_view kept.sources.items ≡ r.sources

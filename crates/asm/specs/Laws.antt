@@ -26,7 +26,8 @@ pub record MnemonicsAreNamed : Type 0 where
 -- the eleven helpers' names are told apart: each is read as its number, from 1 on, and no other word is
 pub record HelpersAreNumbered : Type 0 where
   pub eleven : length helpers ≡ 11
-  pub read : (word : List ℕ) (number : ℤ) → helper_of word ≡ Some number → (k : ℕ) × (slice_get helpers k ≡ Some word) × (number ≡ pos (k + 1))
+  pub read : (word : List ℕ) (number : ℤ) → helper_of word ≡ Some number →
+      (k : ℕ) × (slice_get helpers k ≡ Some word) × (number ≡ pos (k + 1))
   pub written : (k : ℕ) (word : List ℕ) → slice_get helpers k ≡ Some word → helper_of word ≡ Some (pos (k + 1))
 
 -- the line of this number has a fault of its own, and no line before it has one
@@ -61,10 +62,15 @@ pub record IsFirstJump (lines : List (List ℕ)) (fault : Fault) (number : ℕ) 
   pub own : insn_of read.names (sum_by placed_units front) jump.source ≡ Err fault
   pub is : number ≡ jump.line
 
--- a text is refused by its first fault, at its line: a line's own, behind lines that have none, before the count, before the jumps
+-- a text is refused by its first fault, at its line: a line's own, behind lines that have none, before the count,
+-- before the jumps
 pub record FaultsAreFirst : Type 0 where
   pub only : (text : List ℕ) (fault : Fault) (number : ℕ) → said text ≡ Err (At fault number)
-      → IsFirstLine (lines_of text) fault number ⊎ (IsMiscounted (lines_of text) fault number ⊎ IsFirstJump (lines_of text) fault number)
-  pub line : (text : List ℕ) (fault : Fault) (number : ℕ) → IsFirstLine (lines_of text) fault number → said text ≡ Err (At fault number)
-  pub count : (text : List ℕ) (fault : Fault) (number : ℕ) → IsMiscounted (lines_of text) fault number → said text ≡ Err (At fault number)
-  pub jump : (text : List ℕ) (fault : Fault) (number : ℕ) → IsFirstJump (lines_of text) fault number → said text ≡ Err (At fault number)
+      → IsFirstLine (lines_of text) fault number
+      ⊎ (IsMiscounted (lines_of text) fault number ⊎ IsFirstJump (lines_of text) fault number)
+  pub line : (text : List ℕ) (fault : Fault) (number : ℕ) → IsFirstLine (lines_of text) fault number →
+      said text ≡ Err (At fault number)
+  pub count : (text : List ℕ) (fault : Fault) (number : ℕ) → IsMiscounted (lines_of text) fault number →
+      said text ≡ Err (At fault number)
+  pub jump : (text : List ℕ) (fault : Fault) (number : ℕ) → IsFirstJump (lines_of text) fault number →
+      said text ≡ Err (At fault number)

@@ -50,7 +50,12 @@ pub record Outline : Type 0 where
 
 unfoldable pub named : List ℕ → Option Outline
 named code =
-    if is_name (before colon code) then (line_words (from Solid (drop 1 (from colon code))) >>= λ words. Some (record { name = Some (before colon code); words = words }))
+    if is_name (before colon code)
+    then (line_words (from Solid (drop 1 (from colon code))) >>= λ words. Some (record {
+      name =
+          Some (before colon code);
+      words = words;
+    }))
     else None
 
 -- a line has a name where a colon stands in its first word

@@ -52,6 +52,8 @@ pub record LeadsTo (text : List ℕ) (program : List Insn) (unit : ℕ) (name : 
 
 -- each statement of a text that jumps to a name leads to where the name is defined
 abbrev pub JumpsLeadToNames : Type 0
-JumpsLeadToNames = (text : List ℕ) (program : List Insn) (read : Read) (front : List Placed) (p : Placed) (back : List Placed) (name : List ℕ) →
-    said text ≡ Ok program → read_on nothing 1 (lines_of text) ≡ Ok read → read.sources ≡ front ++ p ∷ back → goal_name p.source ≡ Some name →
+JumpsLeadToNames = (text : List ℕ) (program : List Insn) (read : Read) (front : List Placed) (p : Placed)
+    (back : List Placed) (name : List ℕ) →
+    said text ≡ Ok program → read_on nothing 1 (lines_of text) ≡ Ok read → read.sources ≡ front ++ p ∷ back →
+    goal_name p.source ≡ Some name →
     LeadsTo text program (sum_by placed_units front) name

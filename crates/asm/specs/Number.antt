@@ -7,7 +7,8 @@ use Rattle.asm.specs.declared.number.Number.{Number}
 -- a number with an optional minus
 unfoldable pub number_of : List ℕ → Option Number
 number_of text =
-    if slice_index text 0 == 45 then (magnitude_of (drop 1 text) >>= λ n. Some (record { negative = true; magnitude = n }))
+    if slice_index text 0 == 45
+    then (magnitude_of (drop 1 text) >>= λ n. Some (record { negative = true; magnitude = n }))
     else (magnitude_of text >>= λ n. Some (record { negative = false; magnitude = n }))
 
 -- a number from -limit to limit - 1
@@ -19,5 +20,6 @@ signed_within limit n =
 -- the 64 bits of a number from -2^63 to 2^64 - 1
 unfoldable pub bits_within : Number → Option ℕ
 bits_within n =
-    if n.negative then (if nat_le n.magnitude (2 ^ 63) then Some (if n.magnitude == 0 then 0 else 2 ^ 64 - n.magnitude) else None)
+    if n.negative then (if nat_le n.magnitude (2 ^ 63) then Some (if n.magnitude == 0 then 0 else 2 ^ 64 - n.magnitude)
+    else None)
     else if nat_lt n.magnitude (2 ^ 64) then Some n.magnitude else None

@@ -22,7 +22,8 @@ register_of (r ∷ a ∷ b ∷ c ∷ rest) = None
 
 -- a register or a number
 unfoldable pub raw_of : List ℕ → Option Raw
-raw_of text = if slice_index text 0 == 114 then (register_of text >>= λ r. Some (raws.Register r)) else (number_of text >>= λ n. Some (raws.Number n))
+raw_of text = if slice_index text 0 == 114 then (register_of text >>= λ r. Some (raws.Register r))
+    else (number_of text >>= λ n. Some (raws.Number n))
 
 -- a number is one of 32 bits
 unfoldable pub fitted : Raw → Option Operand
@@ -32,8 +33,10 @@ fitted (raws.Number n) = signed_within (2 ^ 31) n >>= λ z. Some (Immediate z)
 -- `+k` or `-k`
 unfoldable pub signed_of : List ℕ → Option Number
 signed_of text =
-    if slice_index text 0 == 43 then (magnitude_of (drop 1 text) >>= λ n. Some (record { negative = false; magnitude = n }))
-    else if slice_index text 0 == 45 then (magnitude_of (drop 1 text) >>= λ n. Some (record { negative = true; magnitude = n }))
+    if slice_index text 0 == 43
+    then (magnitude_of (drop 1 text) >>= λ n. Some (record { negative = false; magnitude = n }))
+    else if slice_index text 0 == 45
+    then (magnitude_of (drop 1 text) >>= λ n. Some (record { negative = true; magnitude = n }))
     else None
 
 -- nothing, `+k` or `-k`
@@ -44,11 +47,13 @@ offset_of text = if length text == 0 then Some (record { negative = false; magni
 abbrev pub inside : List ℕ → Option (List ℕ)
 inside text =
     if nat_lt (length text) 2 then None
-    else if slice_index text 0 == 91 && slice_index text (length text - 1) == 93 then Some (take (length text - 2) (drop 1 text)) else None
+    else if slice_index text 0 == 91 && slice_index text (length text - 1) == 93
+    then Some (take (length text - 2) (drop 1 text)) else None
 
 -- `[rN]`, `[rN+k]` or `[rN-k]`
 unfoldable pub place_of : List ℕ → Option (ℕ × Number)
-place_of text = inside text >>= λ inner. register_of (before Sign inner) >>= λ r. offset_of (from Sign inner) >>= λ n. Some (r, n)
+place_of text =
+    inside text >>= λ inner. register_of (before Sign inner) >>= λ r. offset_of (from Sign inner) >>= λ n. Some (r, n)
 
 -- a letter or `_`
 abbrev pub is_letter : ℕ → Bool
@@ -68,4 +73,5 @@ pub data Goal : Type 0 where
   Named : List ℕ → Goal
 
 unfoldable pub goal_of : List ℕ → Option Goal
-goal_of text = if is_letter (slice_index text 0) then (if are_name text then Some (Named text) else None) else (signed_of text >>= λ n. Some (Away n))
+goal_of text = if is_letter (slice_index text 0) then (if are_name text then Some (Named text) else None)
+    else (signed_of text >>= λ n. Some (Away n))

@@ -53,7 +53,8 @@ operands_of (insns.Swap order size dst) = register_text dst ∷ []
 operands_of (insns.LoadImmediate dst number) = register_text dst ∷ decimal number ∷ []
 operands_of (insns.Jump distance) = signed_text distance ∷ []
 operands_of (insns.LongJump distance) = signed_text distance ∷ []
-operands_of (insns.Branch width condition dst operand distance) = register_text dst ∷ operand_text operand ∷ signed_text distance ∷ []
+operands_of (insns.Branch width condition dst operand distance) =
+    register_text dst ∷ operand_text operand ∷ signed_text distance ∷ []
 operands_of (insns.Load size dst base offset) = register_text dst ∷ place_text base offset ∷ []
 operands_of (insns.LoadSigned part dst base offset) = register_text dst ∷ place_text base offset ∷ []
 operands_of (insns.Store size base offset source) = place_text base offset ∷ operand_text source ∷ []
@@ -79,7 +80,8 @@ line_text insn = insn_text insn ++ codes "\n"
 -- the same with the unit before each instruction, the first of them at this one
 abbrev pub unit_lines : ℕ → List Insn → List ℕ
 unit_lines unit [] = []
-unit_lines unit (insn ∷ insns) = (decimal unit ++ codes " " ++ line_text insn) ++ unit_lines (unit + units_of insn) insns
+unit_lines unit (insn ∷ insns) =
+    (decimal unit ++ codes " " ++ line_text insn) ++ unit_lines (unit + units_of insn) insns
 
 -- one instruction a line, a line feed behind each
 abbrev pub text_of : List Insn → List ℕ

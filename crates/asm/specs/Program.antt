@@ -60,7 +60,8 @@ units_in r = sum_by placed_units r.sources
 -- a name is defined once (A5), and stands for the unit of what follows
 abbrev pub with_name : Read → Option (List ℕ) → Result Read Fault
 with_name r None = Ok r
-with_name r (Some name) = if is_some (defined r.names name) then Err faults.Twice else Ok (record r { names = (name, units_in r) ∷ r.names })
+with_name r (Some name) =
+    if is_some (defined r.names name) then Err faults.Twice else Ok (record r { names = (name, units_in r) ∷ r.names })
 
 abbrev pub with_source : Read → ℕ → Option Source → Read
 with_source r line None = r
@@ -100,14 +101,16 @@ insn_of names unit (Branch width condition dst operand goal) =
 -- the instructions behind those that are done
 abbrev pub insns_on : List (List ℕ × ℕ) → ℕ → List Insn → List Placed → Result (List Insn) AsmError
 insns_on names unit done [] = Ok done
-insns_on names unit done (p ∷ ps) = at_line p.line (insn_of names unit p.source) >>= λ insn. insns_on names (unit + placed_units p) (done ++ insn ∷ []) ps
+insns_on names unit done (p ∷ ps) = at_line p.line (insn_of names unit p.source) >>= λ insn. insns_on names
+    (unit + placed_units p) (done ++ insn ∷ []) ps
 
 abbrev pub nothing : Read
 nothing = record { names = []; sources = [] }
 
 -- 1 to 4,096 units (A7 at the number of lines, at least 1), then the instructions
 abbrev pub program_in : ℕ → Read → Result (List Insn) AsmError
-program_in lines r = if nat_lt 0 (units_in r) && nat_le (units_in r) most_units then insns_on r.names 0 [] r.sources else Err (At faults.Count (max 1 lines))
+program_in lines r = if nat_lt 0 (units_in r) && nat_le (units_in r) most_units then insns_on r.names 0 [] r.sources
+    else Err (At faults.Count (max 1 lines))
 
 -- what a text says: a program, or the first fault with its line
 unfoldable pub said : List ℕ → Result (List Insn) AsmError

@@ -124,11 +124,14 @@ source_of (words.StoreNumber bytes) operands =
     Ok (Plain (insns.Store bytes place.0 offset (seconds.Immediate number)))
 source_of words.Call operands =
     ok_or (one_of operands) faults.Operand >>= λ a.
-    if is_letter (slice_index a 0) then (ok_or (helper_of a) faults.Operand >>= λ helper. Ok (Plain (insns.Call helper)))
-    else (ok_or (number_of a) faults.Operand >>= λ n. ok_or (signed_within (2 ^ 31) n) faults.Range >>= λ helper. Ok (Plain (insns.Call helper)))
+    if is_letter (slice_index a 0)
+    then (ok_or (helper_of a) faults.Operand >>= λ helper. Ok (Plain (insns.Call helper)))
+    else (ok_or (number_of a) faults.Operand >>= λ n. ok_or (signed_within (2 ^ 31) n) faults.Range >>= λ helper. Ok
+    (Plain (insns.Call helper)))
 source_of words.Exit operands = ok_or (none_of operands) faults.Operand >>= λ o. Ok (Plain insns.Exit)
 
 -- the statement of these words, if there are any: the mnemonic (A2), then its operands
 abbrev pub statement_of : List (List ℕ) → Result (Option Source) Fault
 statement_of [] = Ok None
-statement_of (word ∷ operands) = ok_or (mnemonic_of word) faults.Mnemonic >>= λ m. source_of m operands >>= λ source. Ok (Some source)
+statement_of (word ∷ operands) =
+    ok_or (mnemonic_of word) faults.Mnemonic >>= λ m. source_of m operands >>= λ source. Ok (Some source)

@@ -104,7 +104,8 @@ IsMnemonic _ = Unit {0}
 -- all mnemonics, by their first letters
 unfoldable pub mnemonics : List Mnemonic
 mnemonics =
-    words.Arithmetic W64 op.Add ∷ words.Arithmetic W32 op.Add ∷ words.Arithmetic W64 op.And ∷ words.Arithmetic W32 op.And ∷
+    words.Arithmetic W64 op.Add ∷ words.Arithmetic W32 op.Add ∷ words.Arithmetic W64 op.And ∷
+    words.Arithmetic W32 op.And ∷
     words.Arithmetic W64 op.ArithmeticShiftRight ∷ words.Arithmetic W32 op.ArithmeticShiftRight ∷
     words.Swap Big swap.Half ∷ words.Swap Big swap.Word ∷ words.Swap Big swap.Double ∷
     words.Call ∷
@@ -113,25 +114,33 @@ mnemonics =
     words.Jump ∷ words.LongJump ∷
     words.Branch W64 c.Equal ∷ words.Branch W32 c.Equal ∷ words.Branch W64 c.Above ∷ words.Branch W32 c.Above ∷
     words.Branch W64 c.AtLeast ∷ words.Branch W32 c.AtLeast ∷ words.Branch W64 c.AnyBit ∷ words.Branch W32 c.AnyBit ∷
-    words.Branch W64 c.NotEqual ∷ words.Branch W32 c.NotEqual ∷ words.Branch W64 c.SignedAbove ∷ words.Branch W32 c.SignedAbove ∷
-    words.Branch W64 c.SignedAtLeast ∷ words.Branch W32 c.SignedAtLeast ∷ words.Branch W64 c.Below ∷ words.Branch W32 c.Below ∷
-    words.Branch W64 c.AtMost ∷ words.Branch W32 c.AtMost ∷ words.Branch W64 c.SignedBelow ∷ words.Branch W32 c.SignedBelow ∷
+    words.Branch W64 c.NotEqual ∷ words.Branch W32 c.NotEqual ∷ words.Branch W64 c.SignedAbove ∷
+    words.Branch W32 c.SignedAbove ∷
+    words.Branch W64 c.SignedAtLeast ∷ words.Branch W32 c.SignedAtLeast ∷ words.Branch W64 c.Below ∷
+    words.Branch W32 c.Below ∷
+    words.Branch W64 c.AtMost ∷ words.Branch W32 c.AtMost ∷ words.Branch W64 c.SignedBelow ∷
+    words.Branch W32 c.SignedBelow ∷
     words.Branch W64 c.SignedAtMost ∷ words.Branch W32 c.SignedAtMost ∷
     words.Swap Little swap.Half ∷ words.Swap Little swap.Word ∷ words.Swap Little swap.Double ∷
     words.Arithmetic W64 op.ShiftLeft ∷ words.Arithmetic W32 op.ShiftLeft ∷
     words.Load size.Byte ∷ words.Load size.Half ∷ words.Load size.Word ∷ words.Load size.Double ∷
     words.LoadSigned narrow.Byte ∷ words.LoadSigned narrow.Half ∷ words.LoadSigned narrow.Word ∷ words.LoadImmediate ∷
-    words.Arithmetic W64 op.Move ∷ words.Arithmetic W32 op.Move ∷ words.Arithmetic W64 op.Mul ∷ words.Arithmetic W32 op.Mul ∷
+    words.Arithmetic W64 op.Move ∷ words.Arithmetic W32 op.Move ∷ words.Arithmetic W64 op.Mul ∷
+    words.Arithmetic W32 op.Mul ∷
     words.Arithmetic W64 op.Mod ∷ words.Arithmetic W32 op.Mod ∷
-    words.SignExtend W64 narrow.Byte ∷ words.SignExtend W32 narrow.Byte ∷ words.SignExtend W64 narrow.Half ∷ words.SignExtend W32 narrow.Half ∷
+    words.SignExtend W64 narrow.Byte ∷ words.SignExtend W32 narrow.Byte ∷ words.SignExtend W64 narrow.Half ∷
+    words.SignExtend W32 narrow.Half ∷
     words.SignExtend W64 narrow.Word ∷
     words.Negate W64 ∷ words.Negate W32 ∷
     words.Arithmetic W64 op.Or ∷ words.Arithmetic W32 op.Or ∷
     words.Arithmetic W64 op.ShiftRight ∷ words.Arithmetic W32 op.ShiftRight ∷
     words.Arithmetic W64 op.Sub ∷ words.Arithmetic W32 op.Sub ∷
-    words.StoreRegister size.Byte ∷ words.StoreRegister size.Half ∷ words.StoreRegister size.Word ∷ words.StoreRegister size.Double ∷
-    words.StoreNumber size.Byte ∷ words.StoreNumber size.Half ∷ words.StoreNumber size.Word ∷ words.StoreNumber size.Double ∷
-    words.Arithmetic W64 op.SignedDiv ∷ words.Arithmetic W32 op.SignedDiv ∷ words.Arithmetic W64 op.SignedMod ∷ words.Arithmetic W32 op.SignedMod ∷
+    words.StoreRegister size.Byte ∷ words.StoreRegister size.Half ∷ words.StoreRegister size.Word ∷
+    words.StoreRegister size.Double ∷
+    words.StoreNumber size.Byte ∷ words.StoreNumber size.Half ∷ words.StoreNumber size.Word ∷
+    words.StoreNumber size.Double ∷
+    words.Arithmetic W64 op.SignedDiv ∷ words.Arithmetic W32 op.SignedDiv ∷ words.Arithmetic W64 op.SignedMod ∷
+    words.Arithmetic W32 op.SignedMod ∷
     words.Swap Reversed swap.Half ∷ words.Swap Reversed swap.Word ∷ words.Swap Reversed swap.Double ∷
     words.Arithmetic W64 op.Xor ∷ words.Arithmetic W32 op.Xor ∷ []
 

@@ -258,7 +258,8 @@ fn search(all: &[Mnemonic], word: &[u8]) -> Option<Mnemonic>
     None
 }
 
-/// The mnemonics of the table that begin as this word does; all of them where none begins so, and then none is the word.
+/// The mnemonics of the table that begin as this word does; all of them where none begins so, and then none is the
+/// word.
 #[tactic(auto)]
 fn section(word: &[u8]) -> &'static [Mnemonic]
     ensures { first_named word.now result.now ≡ mnemonic_of word.now }

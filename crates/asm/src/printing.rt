@@ -102,7 +102,8 @@ fn put_target(out: &mut String, dst: Reg) -> Result<(), AllocError>
 
 /// A register and an operand.
 fn put_pair(out: &mut String, dst: Reg, operand: Operand) -> Result<(), AllocError>
-    ensures { OnOk result (string_bytes out.new ≡ string_bytes out.old ++ operands_text (register_text dst ∷ operand_text operand ∷ [])) }
+    ensures { OnOk result (string_bytes out.new ≡ string_bytes out.old
+        ++ operands_text (register_text dst ∷ operand_text operand ∷ [])) }
 {
     put(out, " ")?;
     put_register(out, dst)?;
@@ -112,7 +113,8 @@ fn put_pair(out: &mut String, dst: Reg, operand: Operand) -> Result<(), AllocErr
 
 /// A register and a number of 64 bits.
 fn put_wide(out: &mut String, dst: Reg, number: u64) -> Result<(), AllocError>
-    ensures { OnOk result (string_bytes out.new ≡ string_bytes out.old ++ operands_text (register_text dst ∷ decimal number ∷ [])) }
+    ensures { OnOk result (string_bytes out.new ≡ string_bytes out.old
+        ++ operands_text (register_text dst ∷ decimal number ∷ [])) }
 {
     put(out, " ")?;
     put_register(out, dst)?;
@@ -130,7 +132,8 @@ fn put_distance(out: &mut String, distance: i64) -> Result<(), AllocError>
 
 /// What a branch compares, and its distance.
 fn put_branch(out: &mut String, dst: Reg, operand: Operand, distance: i16) -> Result<(), AllocError>
-    ensures { OnOk result (string_bytes out.new ≡ string_bytes out.old ++ operands_text (register_text dst ∷ operand_text operand ∷ signed_text distance ∷ [])) }
+    ensures { OnOk result (string_bytes out.new ≡ string_bytes out.old
+        ++ operands_text (register_text dst ∷ operand_text operand ∷ signed_text distance ∷ [])) }
 {
     put(out, " ")?;
     put_register(out, dst)?;
@@ -142,7 +145,8 @@ fn put_branch(out: &mut String, dst: Reg, operand: Operand, distance: i16) -> Re
 
 /// A register, and the place that it is loaded from.
 fn put_load(out: &mut String, dst: Reg, base: Reg, offset: i16) -> Result<(), AllocError>
-    ensures { OnOk result (string_bytes out.new ≡ string_bytes out.old ++ operands_text (register_text dst ∷ place_text base offset ∷ [])) }
+    ensures { OnOk result (string_bytes out.new ≡ string_bytes out.old
+        ++ operands_text (register_text dst ∷ place_text base offset ∷ [])) }
 {
     put(out, " ")?;
     put_register(out, dst)?;
@@ -152,7 +156,8 @@ fn put_load(out: &mut String, dst: Reg, base: Reg, offset: i16) -> Result<(), Al
 
 /// A place, and what is stored there.
 fn put_store(out: &mut String, base: Reg, offset: i16, source: Operand) -> Result<(), AllocError>
-    ensures { OnOk result (string_bytes out.new ≡ string_bytes out.old ++ operands_text (place_text base offset ∷ operand_text source ∷ [])) }
+    ensures { OnOk result (string_bytes out.new ≡ string_bytes out.old
+        ++ operands_text (place_text base offset ∷ operand_text source ∷ [])) }
 {
     put(out, " ")?;
     put_place(out, base, offset)?;

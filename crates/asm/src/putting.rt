@@ -1,4 +1,5 @@
-//! Parts of texts. Each is one function that is called: a text that is added in place of a call takes ten times the code.
+//! Parts of texts. Each is one function that is called: a text that is added in place of a call takes ten times the
+//! code.
 ghost use Rattle.std.specs.Prelude.{◌≡◌, ◌++◌, decimal, string_bytes, OnOk};
 ghost use Rattle.std.specs.Fmt.{signed_decimal};
 

@@ -43,7 +43,8 @@ fn put_name<'a>(reading: &mut Reading<'a>, name: &'a [u8]) -> Result<(), LineErr
 }
 
 fn read_name<'a>(reading: &mut Reading<'a>, name: Option<&'a [u8]>) -> Result<(), LineError>
-    ensures read { (r : Read) → Keeps reading.old r → GivesRead result reading.new (with_name r (name_view name.entry)) }
+    ensures read { (r : Read) → Keeps reading.old r →
+        GivesRead result reading.new (with_name r (name_view name.entry)) }
     ensures units { reading.new.units ≡ reading.old.units }
 {
     match name {
@@ -58,7 +59,11 @@ fn push_kept<'a>(
     name: &'a [u8],
     line: u64,
 ) -> Result<(), LineError>
-    ensures ok { OnOk result (map kept_view sources.new.items ≡ map kept_view sources.old.items ++ (record { source = draft_view draft name.now; line = line }) ∷ []) }
+    ensures ok { OnOk result (map kept_view sources.new.items ≡ map kept_view sources.old.items ++ (record {
+      source =
+          draft_view draft name.now;
+      line = line;
+    }) ∷ []) }
     ensures err { IfErr result (λ e. e ≡ LineError.Memory) }
 {
     let statement = Statement { draft, name };
@@ -73,7 +78,8 @@ fn put_source<'a>(
     line: u64,
 ) -> Result<(), LineError>
     requires { reading.old.units + 2 < 2 ^ 64 }
-    ensures read { (r : Read) → Keeps reading.old r → KeepsRead result reading.new (with_source r line (Some (source_view statement.now))) }
+    ensures read { (r : Read) → Keeps reading.old r →
+        KeepsRead result reading.new (with_source r line (Some (source_view statement.now))) }
     ensures units { reading.new.units ≤ reading.old.units + 2 }
 {
     reading.units += units(statement);
@@ -87,7 +93,8 @@ fn put_source<'a>(
 #[tactic(auto, unfolding(crate::specs::Program::with_words))]
 fn put_words<'a>(reading: &mut Reading<'a>, words: &[&'a [u8]], line: u64) -> Result<(), LineError>
     requires { reading.old.units + 2 < 2 ^ 64 }
-    ensures read { (r : Read) → Keeps reading.old r → GivesRead result reading.new (with_words r line (map (λ w. w.now) words.now)) }
+    ensures read { (r : Read) → Keeps reading.old r →
+        GivesRead result reading.new (with_words r line (map (λ w. w.now) words.now)) }
     ensures units { reading.new.units ≤ reading.old.units + 2 }
 {
     match read_statement(words) {

@@ -52,7 +52,8 @@ fn resolve(
     statement: &Statement<'_>,
 ) -> Result<Insn, Fault>
     requires { unit < 4096 }
-    ensures said { (ds : List (List ℕ × ℕ)) → Finds names.now ds → GivesResult (λ i. i) result (insn_of ds unit (source_view statement.now)) }
+    ensures said { (ds : List (List ℕ × ℕ)) → Finds names.now ds →
+        GivesResult (λ i. i) result (insn_of ds unit (source_view statement.now)) }
     ensures units { IfOk result (λ i. units_of i ≡ source_units (source_view statement.now)) }
     ensures well { IsWellSource (source_view statement.now) → IfOk result (λ i. IsWell i) }
 {
@@ -87,7 +88,8 @@ pub fn resolve_all(alloc: Global, reading: &Reading<'_>) -> Result<Vec<Insn>, As
     requires bound { reading.now.units ≤ 4096 }
     requires units { reading.now.units ≡ units_kept reading.now.sources.items }
     requires well { AreWellKept reading.now.sources.items }
-    ensures said { (r : Read) → Keeps reading.now r → AnswersBy (λ v. v.items) result (insns_on r.names 0 [] r.sources) }
+    ensures said { (r : Read) → Keeps reading.now r →
+        AnswersBy (λ v. v.items) result (insns_on r.names 0 [] r.sources) }
     ensures units { IfOk result (λ v. length (slots_of v.items) ≡ units_kept reading.now.sources.items) }
     ensures well { IfOk result (λ v. AllByRecursion IsWell v.items) }
 {

@@ -77,7 +77,8 @@ fn arithmetic<'a>(
     operation: Operation,
     operands: &[&'a [u8]],
 ) -> Result<Statement<'a>, Fault>
-    ensures { GivesResult source_view result (source_of (words.Arithmetic width operation) (map (λ r. r.now) operands.now)) }
+    ensures { GivesResult source_view result
+        (source_of (words.Arithmetic width operation) (map (λ r. r.now) operands.now)) }
 {
     let (a, b) = two_operands(operands).ok_or(Fault::Operand)?;
     let dst = register(a).ok_or(Fault::Operand)?;
@@ -169,7 +170,8 @@ fn branch<'a>(
     condition: Condition,
     operands: &[&'a [u8]],
 ) -> Result<Statement<'a>, Fault>
-    ensures { GivesResult source_view result (source_of (words.Branch width condition) (map (λ r. r.now) operands.now)) }
+    ensures { GivesResult source_view result
+        (source_of (words.Branch width condition) (map (λ r. r.now) operands.now)) }
 {
     let (a, b, c) = three_operands(operands).ok_or(Fault::Operand)?;
     let dst = register(a).ok_or(Fault::Operand)?;

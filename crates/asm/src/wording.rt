@@ -30,7 +30,8 @@ fn are_visible(word: &[u8]) -> bool
 
 /// A word that can be told on a line, as text.
 fn visible(word: &[u8]) -> Option<&str>
-    ensures { MatchOption result (list_all is_visible word.now ≡ false) (λ text. (list_all is_visible word.now ≡ true) × (text.now ≡ word.now)) }
+    ensures { MatchOption result (list_all is_visible word.now ≡ false) (λ text. (list_all is_visible word.now ≡ true)
+        × (text.now ≡ word.now)) }
 {
     if !are_visible(word) {
         return None;
@@ -53,7 +54,8 @@ fn put_word(out: &mut String, word: &[u8]) -> Result<(), AllocError>
 
 /// Adds the operands behind the first.
 fn put_more(out: &mut String, operands: &[&[u8]]) -> Result<(), AllocError>
-    ensures { OnOk result (string_bytes out.new ≡ string_bytes out.old ++ more_text (map word_text (map (λ w. w.now) operands.now))) }
+    ensures { OnOk result (string_bytes out.new ≡ string_bytes out.old
+        ++ more_text (map word_text (map (λ w. w.now) operands.now))) }
 {
     let [operand, rest @ ..] = operands else {
         return Ok(());
@@ -65,7 +67,8 @@ fn put_more(out: &mut String, operands: &[&[u8]]) -> Result<(), AllocError>
 
 /// Adds the operands.
 fn put_operands(out: &mut String, operands: &[&[u8]]) -> Result<(), AllocError>
-    ensures { OnOk result (string_bytes out.new ≡ string_bytes out.old ++ operands_text (map word_text (map (λ w. w.now) operands.now))) }
+    ensures { OnOk result (string_bytes out.new ≡ string_bytes out.old
+        ++ operands_text (map word_text (map (λ w. w.now) operands.now))) }
 {
     let [operand, rest @ ..] = operands else {
         return Ok(());
@@ -134,7 +137,8 @@ fn put_line<'a>(
     words: &mut Vec<&'a [u8]>,
     line: &'a [u8],
 ) -> Result<(), AllocError>
-    ensures { OnOk result (map string_bytes statements.new.items ≡ map string_bytes statements.old.items ++ line_statements line.now) }
+    ensures { OnOk result (map string_bytes statements.new.items ≡ map string_bytes statements.old.items
+        ++ line_statements line.now) }
 {
     match read_outline(words, line) {
         Ok(_name) => put_statement(alloc, statements, words.as_slice()),
@@ -143,8 +147,8 @@ fn put_line<'a>(
     }
 }
 
-/// How each unit of the program that a text says is written there: `mnemonic a, b, c` with the words of its line, twice of
-/// an `lddw`, which has two units.
+/// How each unit of the program that a text says is written there: `mnemonic a, b, c` with the words of its line, twice
+/// of an `lddw`, which has two units.
 ///
 /// # Errors
 ///

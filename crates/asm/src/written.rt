@@ -19,7 +19,8 @@ fn line_text(alloc: Global, line: u64) -> Result<String, AllocError>
 
 /// Adds the line of a unit.
 fn put_place(alloc: Global, places: &mut Vec<String>, line: u64) -> Result<(), AllocError>
-    ensures { OnOk result (map string_bytes places.new.items ≡ map string_bytes places.old.items ++ line_text line ∷ []) }
+    ensures { OnOk result (map string_bytes places.new.items ≡ map string_bytes places.old.items
+        ++ line_text line ∷ []) }
 {
     places.push(line_text(alloc, line)?)?;
     Ok(())
@@ -27,7 +28,8 @@ fn put_place(alloc: Global, places: &mut Vec<String>, line: u64) -> Result<(), A
 
 /// Adds those of a statement's units.
 fn put_places(alloc: Global, places: &mut Vec<String>, kept: &Kept<'_>) -> Result<(), AllocError>
-    ensures { OnOk result (map string_bytes places.new.items ≡ map string_bytes places.old.items ++ own_places (kept_view kept.now)) }
+    ensures { OnOk result (map string_bytes places.new.items ≡ map string_bytes places.old.items
+        ++ own_places (kept_view kept.now)) }
 {
     put_place(alloc, places, kept.line)?;
     if units(&kept.statement) == 2 {
@@ -47,14 +49,15 @@ fn all_places(alloc: Global, reading: &Reading<'_>) -> Result<Vec<String>, Alloc
     Ok(places)
 }
 
-/// Where each unit of the program that a text says is written, as `line N`, the lines being counted from 1; an `lddw` has
-/// two units. Nothing of a text that has a fault.
+/// Where each unit of the program that a text says is written, as `line N`, the lines being counted from 1; an `lddw`
+/// has two units. Nothing of a text that has a fault.
 ///
 /// # Errors
 ///
 /// Want of memory.
 pub fn places(alloc: Global, text: &str) -> Result<Vec<String>, AllocError>
-    ensures { IfOk result (λ places. AreWritten (read_on nothing 1 (lines_of text.now)) (map string_bytes places.items)) }
+    ensures { IfOk result (λ places. AreWritten (read_on nothing 1 (lines_of text.now))
+        (map string_bytes places.items)) }
 {
     match gather(alloc, text.as_bytes()) {
         Ok(reading) => all_places(alloc, &reading),

@@ -1,8 +1,8 @@
 //! Makes the calls of the laboratory's layers that take memory, and gives them damaged input.
 //!
-//! A call on what belongs to one campaign: `ready` is printed, the call made, and `back` printed. What is asked of memory
-//! between the two lines is asked by the call alone, so that something outside can refuse it there. Then the same call is made
-//! again, and what both answered is compared.
+//! A call on what belongs to one campaign: `ready` is printed, the call made, and `back` printed. What is asked of
+//! memory between the two lines is asked by the call alone, so that something outside can refuse it there. Then the
+//! same call is made again, and what both answered is compared.
 
 mod auditing;
 mod bytecode;
@@ -29,8 +29,8 @@ use std::rt::Files;
 use std::sync::Wait;
 use std::thread::Threads;
 
-/// Makes the call on the campaign of two names; where there are not two words, makes every call so, and then gives the layers
-/// damaged chronicles and schedules, and writers that fail, and damages the programs of these files.
+/// Makes the call on the campaign of two names; where there are not two words, makes every call so, and then gives the
+/// layers damaged chronicles and schedules, and writers that fail, and damages the programs of these files.
 pub fn answer<R: Print + Files + Threads + Wait + Sync + AllocGlobal>(
     rt: &R,
     words: &[String],

@@ -1,8 +1,8 @@
 //! `bench`, which times the layers of the laboratory, and gives them hostile input.
 //!
-//! `bench times`, or `bench` without a word, times the codec, the verifier, the machine, trees, rounds, oral and signed campaigns
-//! and audits: what it measures goes to standard output, which is the same at every run, and the times go to standard error.
-//! `bench hostile ..` is told in hostile.rt, and `bench all FILE..` does both.
+//! `bench times`, or `bench` without a word, times the codec, the verifier, the machine, trees, rounds, oral and signed
+//! campaigns and audits: what it measures goes to standard output, which is the same at every run, and the times go to
+//! standard error. `bench hostile ..` is told in hostile.rt, and `bench all FILE..` does both.
 #![tactic(auto)]
 
 mod bytecode;

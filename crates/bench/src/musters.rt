@@ -39,8 +39,8 @@ fn muster_time<R: Clock + Threads + Wait + Sync + AllocGlobal>(
     Ok(median(&mut times).unwrap_or(0))
 }
 
-/// How long it takes once to start a thread for each general in each round, that does nothing, in nanoseconds: what it saves
-/// that a general stays in his. How many were started is added up.
+/// How long it takes once to start a thread for each general in each round, that does nothing, in nanoseconds: what it
+/// saves that a general stays in his. How many were started is added up.
 fn start_once<R: Clock + Threads + Wait + Sync>(
     rt: &R,
     generals: u8,
@@ -68,8 +68,8 @@ fn start_time<R: Clock + Threads + Wait + Sync + AllocGlobal>(
     Ok(median(&mut times).unwrap_or(0))
 }
 
-/// Measures campaigns of thirteen generals in five rounds, of whom four take 4,096 steps, and of seven in three, of whom two
-/// meet at the board.
+/// Measures campaigns of thirteen generals in five rounds, of whom four take 4,096 steps, and of seven in three, of
+/// whom two meet at the board.
 pub fn report_musters<R: Print + Eprint + Clock + Threads + Wait + Sync + AllocGlobal>(
     rt: &R,
 ) -> Result<()> {

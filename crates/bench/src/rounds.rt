@@ -123,7 +123,8 @@ fn deliver_once<C: Clock>(
     requires told { (before : List (List LetterSeen)) × WasTold scenario.now before told.old }
     requires left { told.old.rounds ≤ scenario.now.bound }
     requires letters { AreLettersOf scenario.now (suc told.old.rounds) letters.now }
-    ensures told { (before : List (List LetterSeen)) → WasTold scenario.now before told.old → WasTold scenario.now before told.new }
+    ensures told { (before : List (List LetterSeen)) → WasTold scenario.now before told.old →
+        WasTold scenario.now before told.new }
     ensures rounds { told.new.rounds ≡ told.old.rounds }
 {
     let start = Instant::now(clock)?;

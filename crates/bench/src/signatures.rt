@@ -1,4 +1,5 @@
-//! Times a campaign of signed messages: from a scenario to its chronicle, from text to text, an audit, and the dearest close.
+//! Times a campaign of signed messages: from a scenario to its chronicle, from text to text, an audit, and the dearest
+//! close.
 
 use crate::texts::{signed_scenario_of, signing};
 use crate::timing::{Timed, nanoseconds, report_work};

@@ -26,7 +26,8 @@ call sway
 exit
 ";
 
-/// A program that signs eight orders, where it is the commander's, and then passes on the last eight chains held, each to all.
+/// A program that signs eight orders, where it is the commander's, and then passes on the last eight chains held, each
+/// to all.
 const SIGNING: &str = "ldw r6, [r1+20]
 mov r1, 0
 mov r2, 8191

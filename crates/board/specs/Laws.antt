@@ -10,7 +10,9 @@ use Rattle.board.specs.Board.{IsBoard, reply, next}
 
 -- whatever a program asks, the board's answer fits, and a board is left
 pub record BoardsServe : Type 0 where
-  pub answers : (words : List ℕ) (program : List Insn) (context : List ℕ) (relay : Relay) (s asked : State) (request : Request) → IsBoard words →
+  pub answers : (words : List ℕ) (program : List Insn) (context : List ℕ) (relay : Relay) (s asked : State)
+      (request : Request) → IsBoard words →
       step program context relay s ≡ Ask request asked → fits request (reply words request) ≡ true
-  pub stays : (words : List ℕ) (program : List Insn) (context : List ℕ) (relay : Relay) (s asked : State) (request : Request) → IsBoard words →
+  pub stays : (words : List ℕ) (program : List Insn) (context : List ℕ) (relay : Relay) (s asked : State)
+      (request : Request) → IsBoard words →
       step program context relay s ≡ Ask request asked → IsBoard (next words request)

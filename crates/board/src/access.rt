@@ -7,7 +7,8 @@ use semantics::{Copied, Reply, Request};
 use std::alloc::{AllocError, Global};
 use std::marker::Model;
 
-/// One access: who asked what in which round, and what the board answered. The reply has the form that the request fixes.
+/// One access: who asked what in which round, and what the board answered. The reply has the form that the request
+/// fixes.
 #[derive(Debug, Drop)]
 pub struct Access {
     /// The general's number.
@@ -27,7 +28,12 @@ impl Model for Access {
 
     ghost Value = { Entry };
 
-    ghost view = { λ a. record { general = a.general; round = a.round; request = a.request; reply = words_in a.reply } };
+    ghost view = { λ a. record {
+      general = a.general;
+      round = a.round;
+      request = a.request;
+      reply = words_in a.reply;
+    } };
 
     ghost invariant = { λ a. IsReplyTo a.request a.reply };
 }

@@ -53,7 +53,12 @@ impl Board {
         ensures form { IfOk result (λ r. IsReplyTo request r) }
         ensures words { OnOk result (self.new.words ≡ next self.old.words request) }
         ensures entered { OnOk result
-            (self.new.ledger ≡ self.old.ledger ++ record { general = general; round = round; request = request; reply = reply self.old.words request } ∷ []) }
+            (self.new.ledger ≡ self.old.ledger ++ record {
+              general = general;
+              round = round;
+              request = request;
+              reply = reply self.old.words request;
+            } ∷ []) }
         ensures opening { self.new.opening ≡ self.old.opening }
         ensures unserved { OnErr result (self.new ≡ self.old) }
     {

@@ -1,4 +1,5 @@
--- Interactive consistency (TOPLAS 1982, IC1 and IC2), as far as a table tells it: some generals are named as traitors, and all others count as loyal.
+-- Interactive consistency (TOPLAS 1982, IC1 and IC2), as far as a table tells it: some generals are named as traitors,
+-- and all others count as loyal.
 use Rattle.std.specs.Prelude.{ℕ, ◌*◌, ◌==◌, ◌&&◌, nat_lt, nat_le, Bool, true, false, if◌then◌else◌, List, [], ◌∷◌, map, count_by, Option, None, Some}
 use Rattle.std.specs.List.{list_all}
 use Rattle.label.specs.Labels.{on, others, generals}

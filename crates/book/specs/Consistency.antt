@@ -1,4 +1,5 @@
--- What the conditions of a table mean (TOPLAS 1982, IC1 and IC2). The statement is the contract of a function of this crate.
+-- What the conditions of a table mean (TOPLAS 1982, IC1 and IC2). The statement is the contract of a function of this
+-- crate.
 use Rattle.std.specs.Prelude.{ℕ, ◌<◌, ◌≡◌, ◌≢◌, ◌↔◌, true, false, List, [], ◌∷◌, Some}
 use Rattle.label.specs.Labels.{on}
 use Rattle.label.specs.Oral.{IsLoyalLieutenant, IsBound, IsFaithful}
@@ -30,16 +31,22 @@ IsWithin t = AreNumbersWithin t.generals t.bound t.commander
 -- where few enough are named, and all others tell what they took
 pub record IsTrusted (t : MessageTable) (traitors : List ℕ) (order : ℕ) : Type 0 where
   pub bound : IsBound t.generals t.bound (on traitors)
-  pub faithful : (g : ℕ) → g < t.generals → on traitors g ≡ false → IsFaithful t.generals t.commander t.bound order (told t.messages) g
+  pub faithful : (g : ℕ) → g < t.generals → on traitors g ≡ false →
+      IsFaithful t.generals t.commander t.bound order (told t.messages) g
 
 -- the conditions say what they mean, and hold where the agreement theorem says so
 pub record ConditionsMean : Type 0 where
-  pub bound : (t : MessageTable) (traitors : List ℕ) → ((judged t traitors).bound ≡ true) ↔ IsBound t.generals t.bound (on traitors)
+  pub bound : (t : MessageTable) (traitors : List ℕ) →
+      ((judged t traitors).bound ≡ true) ↔ IsBound t.generals t.bound (on traitors)
   pub alike : (t : MessageTable) (traitors : List ℕ) → ((judged t traitors).alike ≡ true) ↔ DecideAlike t traitors
-  pub traitor : (t : MessageTable) (traitors : List ℕ) → ((judged t traitors).obedience ≡ Traitor) ↔ (on traitors t.commander ≡ true)
+  pub traitor : (t : MessageTable) (traitors : List ℕ) →
+      ((judged t traitors).obedience ≡ Traitor) ↔ (on traitors t.commander ≡ true)
   pub obeyed : (t : MessageTable) (traitors : List ℕ) (order : ℕ) → IsWithin t →
-      ((judged t traitors).obedience ≡ Obeyed order) ↔ ((on traitors t.commander ≡ false) × TellsAll t order × DecideOn t traitors order)
+      ((judged t traitors).obedience ≡ Obeyed order)
+      ↔ ((on traitors t.commander ≡ false) × TellsAll t order × DecideOn t traitors order)
   pub disobeyed : (t : MessageTable) (traitors : List ℕ) (order : ℕ) → IsWithin t →
-      ((judged t traitors).obedience ≡ Disobeyed order) ↔ ((on traitors t.commander ≡ false) × TellsAll t order × (DecideOn t traitors order → ⊥))
+      ((judged t traitors).obedience ≡ Disobeyed order)
+      ↔ ((on traitors t.commander ≡ false) × TellsAll t order × (DecideOn t traitors order → ⊥))
   pub kept : (t : MessageTable) (traitors : List ℕ) (order : ℕ) → IsWithin t → IsTrusted t traitors order →
-      ((judged t traitors).alike ≡ true) × (on traitors t.commander ≡ false → (judged t traitors).obedience ≡ Obeyed order)
+      ((judged t traitors).alike ≡ true)
+      × (on traitors t.commander ≡ false → (judged t traitors).obedience ≡ Obeyed order)

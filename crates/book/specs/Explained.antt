@@ -31,7 +31,8 @@ order_words (Some order) = decimal order
 abbrev pub decided : MessageTable → ℕ → List ℕ → ℕ → ℕ
 decided t k w p = om (combined_by t.rule) t.generals (told t.messages) k w p
 
--- what a general who is off the label adds to the list that p combines, with k relays left behind the next one: p himself what he was told
+-- what a general who is off the label adds to the list that p combines, with k relays left behind the next one: p
+-- himself what he was told
 abbrev pub element : MessageTable → ℕ → List ℕ → ℕ → ℕ → ℕ
 element t k w p j = cond (j == p) (taken (told t.messages) w p) (decided t k (w ++ j ∷ []) p)
 
@@ -64,16 +65,19 @@ outcome Median orders = codes "median " ++ decimal (median orders)
 
 -- the line of a label: what was told of it, the others' parts, and what the list comes to
 abbrev pub list_words : List ℕ → Option ℕ → List ℕ → List ℕ → List ℕ
-list_words w order parts outcome = dotted w ++ codes ": told " ++ order_words order ++ parts ++ codes ": " ++ outcome ++ codes "\n"
+list_words w order parts outcome =
+    dotted w ++ codes ": told " ++ order_words order ++ parts ++ codes ": " ++ outcome ++ codes "\n"
 
 -- that of p
 abbrev pub list_line : MessageTable → ℕ → List ℕ → ℕ → List ℕ
-list_line t k w p = list_words w (told t.messages w p) (flat_map (part t k w p) (others t.generals (p ∷ w))) (outcome t.rule (list_of t k w p))
+list_line t k w p = list_words w (told t.messages w p) (flat_map (part t k w p) (others t.generals (p ∷ w)))
+    (outcome t.rule (list_of t k w p))
 
 -- the lines of a label and of those that go on from it, with k relays left: each below those that it is combined from
 unfoldable pub list_lines : MessageTable → ℕ → List ℕ → ℕ → List ℕ
 list_lines t zero w p = []
-list_lines t (suc k) w p = flat_map (λ j. list_lines t k (w ++ j ∷ []) p) (others t.generals (p ∷ w)) ++ list_line t k w p
+list_lines t (suc k) w p =
+    flat_map (λ j. list_lines t k (w ++ j ∷ []) p) (others t.generals (p ∷ w)) ++ list_line t k w p
 
 -- the line that begins a lieutenant's
 abbrev pub head_line : ℕ → List ℕ
@@ -89,7 +93,8 @@ decision_line p named order = codes "decision " ++ decimal p ++ mark named ++ de
 
 -- the lines of a lieutenant: who he is, his lists, and his decision
 unfoldable pub lieutenant_lines : MessageTable → List ℕ → ℕ → List ℕ
-lieutenant_lines t traitors p = head_line p ++ list_lines t t.bound (t.commander ∷ []) p ++ decision_line p (on traitors p) (decision_of t p)
+lieutenant_lines t traitors p =
+    head_line p ++ list_lines t t.bound (t.commander ∷ []) p ++ decision_line p (on traitors p) (decision_of t p)
 
 unfoldable pub yes_no : Bool → List ℕ
 yes_no is_so = if is_so then codes "yes" else codes "no"
@@ -104,24 +109,29 @@ few_words is_so = if is_so then codes "at most " else codes "more than "
 
 -- whether there are enough generals
 abbrev pub enough_part : MessageTable → Conditions → List ℕ
-enough_part t met = codes "bound " ++ yes_no met.bound ++ codes ": " ++ decimal t.generals ++ codes " generals, " ++ enough_words met.enough ++ decimal t.bound
+enough_part t met = codes "bound " ++ yes_no met.bound ++ codes ": " ++ decimal t.generals ++ codes " generals, "
+    ++ enough_words met.enough ++ decimal t.bound
 
 -- whether few enough are named
 abbrev pub few_part : MessageTable → Conditions → List ℕ
-few_part t met = codes "; " ++ decimal met.named ++ codes " named as traitors, " ++ few_words met.few ++ decimal t.bound ++ codes "\n"
+few_part t met = codes "; " ++ decimal met.named ++ codes " named as traitors, " ++ few_words met.few ++ decimal t.bound
+    ++ codes "\n"
 
 -- whether the bound holds, with its numbers
 abbrev pub bound_line : MessageTable → Conditions → List ℕ
 bound_line t met = enough_part t met ++ few_part t met
 
 abbrev pub alike_line : Bool → List ℕ
-alike_line is_so = if is_so then codes "IC1 yes: the loyal lieutenants decide alike\n" else codes "IC1 no: the loyal lieutenants do not decide alike\n"
+alike_line is_so = if is_so then codes "IC1 yes: the loyal lieutenants decide alike\n"
+    else codes "IC1 no: the loyal lieutenants do not decide alike\n"
 
 abbrev pub obedience_line : Obedience → List ℕ
 obedience_line Traitor = codes "IC2 -: the commander is named as a traitor\n"
 obedience_line Unlike = codes "IC2 -: the commander did not tell all the same order, as a loyal one does\n"
-obedience_line (Obeyed order) = codes "IC2 yes: each loyal lieutenant decides " ++ decimal order ++ codes ", as the commander told all\n"
-obedience_line (Disobeyed order) = codes "IC2 no: not each loyal lieutenant decides " ++ decimal order ++ codes ", as the commander told all\n"
+obedience_line (Obeyed order) =
+    codes "IC2 yes: each loyal lieutenant decides " ++ decimal order ++ codes ", as the commander told all\n"
+obedience_line (Disobeyed order) =
+    codes "IC2 no: not each loyal lieutenant decides " ++ decimal order ++ codes ", as the commander told all\n"
 
 -- whether the bound and the conditions hold
 unfoldable pub condition_lines : MessageTable → Conditions → List ℕ
@@ -129,7 +139,8 @@ condition_lines t met = bound_line t met ++ alike_line met.alike ++ obedience_li
 
 -- all of it, where these generals are named as traitors
 unfoldable pub explained : MessageTable → List ℕ → List ℕ
-explained t traitors = flat_map (lieutenant_lines t traitors) (lieutenants t.generals t.commander) ++ condition_lines t (judged t traitors)
+explained t traitors =
+    flat_map (lieutenant_lines t traitors) (lieutenants t.generals t.commander) ++ condition_lines t (judged t traitors)
 
 -- the general is one of the lieutenants
 abbrev pub is_lieutenant : MessageTable → ℕ → Bool

@@ -10,7 +10,8 @@ use Rattle.book.specs.Table.{MessageTable, told}
 
 -- the campaign's numbers
 abbrev pub head_text : ℕ → ℕ → ℕ → List ℕ
-head_text n m c = codes "generals " ++ decimal n ++ codes " bound " ++ decimal m ++ codes " commander " ++ decimal c ++ codes "\n"
+head_text n m c =
+    codes "generals " ++ decimal n ++ codes " bound " ++ decimal m ++ codes " commander " ++ decimal c ++ codes "\n"
 
 -- the line of a place, with this mark for its order
 abbrev pub place_line : List ℕ → ℕ → List ℕ → List ℕ
@@ -47,5 +48,6 @@ pub record IsFilledIn (order : List ℕ → ℕ → ℕ) (n m c : ℕ) (t : Mess
 
 -- a form that is filled in with orders tells a table with all of them
 abbrev pub FormsAreRead : Type 0
-FormsAreRead = (order : List ℕ → ℕ → ℕ) → ((w : List ℕ) (p : ℕ) → order w p < 2 ^ 32) → (n m c : ℕ) → is_within n m c ≡ true
+FormsAreRead =
+    (order : List ℕ → ℕ → ℕ) → ((w : List ℕ) (p : ℕ) → order w p < 2 ^ 32) → (n m c : ℕ) → is_within n m c ≡ true
     → (t : MessageTable) × (table_told (filled_text order n m c) ≡ Ok t) × IsFilledIn order n m c t

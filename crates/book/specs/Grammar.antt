@@ -18,7 +18,8 @@ use Rattle.book.specs.Table.{MessageTable, is_about}
 
 -- the rule of a name
 abbrev pub rule_named : List ℕ → Option Rule
-rule_named name = if bytes_eq name (codes "majority") then Some Majority else (if bytes_eq name (codes "median") then Some Median else None)
+rule_named name = if bytes_eq name (codes "majority") then Some Majority
+    else (if bytes_eq name (codes "median") then Some Median else None)
 
 -- the rule that a first line ends in, the majority where it names none
 abbrev pub rule_parts : List (List ℕ) → Option Rule
@@ -29,14 +30,17 @@ rule_parts _ = None
 -- the numbers of `generals N bound M commander C`, and the rule of ` rule NAME` behind it
 abbrev pub head_parts : List (List ℕ) → Option (List ℕ × List ℕ × List ℕ × Rule)
 head_parts (first ∷ n ∷ second ∷ m ∷ third ∷ c ∷ rest) =
-    if bytes_eq first (codes "generals") && bytes_eq second (codes "bound") && bytes_eq third (codes "commander") then (rule_parts rest >>= λ rule. Some (n, m, c, rule)) else None
+    if bytes_eq first (codes "generals") && bytes_eq second (codes "bound") && bytes_eq third (codes "commander")
+    then (rule_parts rest >>= λ rule. Some (n, m, c, rule)) else None
 head_parts _ = None
 
 -- the three numbers of a first line of that shape, and its rule
 unfoldable pub head_of : List ℕ → Option (ℕ × ℕ × ℕ × Rule)
-head_of line = head_parts (pieces space line) >>= λ parts. decimal_of parts.0 >>= λ n. decimal_of parts.1 >>= λ m. decimal_of parts.2 >>= λ c. Some (n, m, c, parts.3)
+head_of line = head_parts (pieces space line) >>= λ parts. decimal_of parts.0 >>= λ n. decimal_of parts.1 >>= λ m.
+    decimal_of parts.2 >>= λ c. Some (n, m, c, parts.3)
 
--- the numbers are within their limits: 2 to 13 generals, a bound of 0 to 4 and at most all generals but 2, the commander a general
+-- the numbers are within their limits: 2 to 13 generals, a bound of 0 to 4 and at most all generals but 2, the
+-- commander a general
 abbrev pub is_within : ℕ → ℕ → ℕ → Bool
 is_within n m c = nat_le n 13 && nat_le m 4 && nat_le (m + 2) n && nat_lt c n
 
@@ -44,11 +48,14 @@ is_within n m c = nat_le n 13 && nat_le m 4 && nat_le (m + 2) n && nat_lt c n
 abbrev pub opened : Option (ℕ × ℕ × ℕ × Rule) → Result MessageTable TableError
 opened None = Err (At Line 1)
 opened (Some head) =
-    if is_within head.0 head.1 head.2 then Ok (record { generals = head.0; bound = head.1; commander = head.2; rule = head.3; messages = [] }) else Err (At Range 1)
+    if is_within head.0 head.1 head.2
+    then Ok (record { generals = head.0; bound = head.1; commander = head.2; rule = head.3; messages = [] })
+    else Err (At Range 1)
 
 -- the parts of `tell LABEL RECEIVER V` behind its word
 abbrev pub tell_parts : List (List ℕ) → Option (List ℕ × List ℕ × List ℕ)
-tell_parts (word ∷ label ∷ receiver ∷ order ∷ []) = if bytes_eq word (codes "tell") then Some (label, receiver, order) else None
+tell_parts (word ∷ label ∷ receiver ∷ order ∷ []) =
+    if bytes_eq word (codes "tell") then Some (label, receiver, order) else None
 tell_parts _ = None
 
 -- the decimal numbers of all parts
@@ -62,7 +69,8 @@ order_in part = decimal_of part >>= λ v. if nat_lt v (2 ^ 32) then Some v else 
 
 -- what a line of the right shape says, whether or not its numbers are a place; a label is its generals, joined by dots
 unfoldable pub message_of : List ℕ → Option Message
-message_of line = tell_parts (pieces space line) >>= λ parts. numbers_of (pieces dot parts.0) >>= λ w. decimal_of parts.1 >>= λ p. order_in parts.2 >>= λ v.
+message_of line = tell_parts (pieces space line) >>= λ parts. numbers_of (pieces dot parts.0) >>= λ w.
+    decimal_of parts.1 >>= λ p. order_in parts.2 >>= λ v.
     Some (record { label = w; receiver = p; order = v })
 
 -- a label of the campaign, no longer than its rounds, and a general who does not stand on it
@@ -73,7 +81,8 @@ is_place t w p =
 -- a further line: its message, or the first of its faults in this order: its shape, no such place, a place told before
 abbrev pub checked : MessageTable → Option Message → Result Message Fault
 checked t None = Err Line
-checked t (Some said) = if is_place t said.label said.receiver then (if list_any (is_about said.label said.receiver) t.messages then Err Twice else Ok said) else Err Place
+checked t (Some said) = if is_place t said.label said.receiver
+    then (if list_any (is_about said.label said.receiver) t.messages then Err Twice else Ok said) else Err Place
 
 -- what the checks of a line give, a fault with the line's number
 abbrev pub at_line : {A : Type 0} → ℕ → Result A Fault → Result A TableError
@@ -92,7 +101,8 @@ with_message t said = record t { messages = t.messages ++ said ∷ [] }
 -- the further lines, in order, the first of them with this number
 abbrev pub lines_told : MessageTable → ℕ → List (List ℕ) → Result MessageTable TableError
 lines_told t number [] = Ok t
-lines_told t number (line ∷ lines) = faultless (at_line number (checked t (message_of line))) (λ said. lines_told (with_message t said) (suc number) lines)
+lines_told t number (line ∷ lines) = faultless (at_line number (checked t (message_of line)))
+    (λ said. lines_told (with_message t said) (suc number) lines)
 
 -- the table that a text tells, or the first fault in the order of its lines; an empty text has no first line
 abbrev pub told_by_lines : List (List ℕ) → Result MessageTable TableError

@@ -7,7 +7,8 @@ use Rattle.book.specs.declared.message.Message.{Message}
 use Rattle.book.specs.Table.{MessageTable, AreNumbersWithin, is_about}
 use Rattle.book.specs.Grammar.{table_told}
 
--- the message is about a label of the campaign, no longer than its rounds, and a general who does not stand on it; its order has 32 bits
+-- the message is about a label of the campaign, no longer than its rounds, and a general who does not stand on it; its
+-- order has 32 bits
 pub record IsMessage (n m c : ℕ) (message : Message) : Type 0 where
   pub label : IsLabel n c message.label
   pub rounds : length message.label ≤ m + 1

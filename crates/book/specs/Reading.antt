@@ -13,7 +13,8 @@ use Rattle.book.specs.Grammar.{numbers_of, tell_parts, order_in}
 -- the label that goes on with these generals, if each is a general, new to it, and there are rounds for them
 unfoldable pub prolonged_label : ℕ → ℕ → List ℕ → List ℕ → Option (List ℕ)
 prolonged_label n m w [] = Some w
-prolonged_label n m w (j ∷ js) = if nat_le (length w) m && nat_lt j n && not (on w j) then prolonged_label n m (w ++ j ∷ []) js else None
+prolonged_label n m w (j ∷ js) =
+    if nat_le (length w) m && nat_lt j n && not (on w j) then prolonged_label n m (w ++ j ∷ []) js else None
 
 -- the label that begins with the commander
 unfoldable pub begun_label : MessageTable → List ℕ → Option (List ℕ)
@@ -40,4 +41,5 @@ label_read t part = numbers_or (begun_label t) (numbers_of (pieces dot part))
 
 -- a line's label, not read yet, with its receiver and order
 unfoldable pub shape_of : List ℕ → Option (List ℕ × ℕ × ℕ)
-shape_of line = tell_parts (pieces space line) >>= λ parts. decimal_of parts.1 >>= λ p. order_in parts.2 >>= λ v. Some (parts.0, p, v)
+shape_of line = tell_parts (pieces space line) >>= λ parts. decimal_of parts.1 >>= λ p. order_in parts.2 >>= λ v. Some
+    (parts.0, p, v)

@@ -1,4 +1,5 @@
--- What the laws of this crate's contracts say: the agreement theorem (TOPLAS 1982, Theorem 1), over the rule of combination, the campaign and the messages;
+-- What the laws of this crate's contracts say: the agreement theorem (TOPLAS 1982, Theorem 1), over the rule of
+-- combination, the campaign and the messages;
 -- and what the lists of an explanation mean (algorithm OM(m)).
 use Rattle.std.specs.Prelude.{ℕ, suc, ◌*◌, ◌<◌, ◌≤◌, ◌≡◌, ◌==◌, ◌↔◌, Bool, false, List, [], ◌∷◌, length, find, count_by, None, Some}
 use Rattle.combine.specs.Chosen.{combined_by}
@@ -8,17 +9,22 @@ use Rattle.book.specs.Decisions.{decision_of}
 use Rattle.book.specs.Explained.{decided, list_of}
 use Rattle.book.specs.Table.{MessageTable}
 
--- by a rule with the law, with more than three times as many generals as traitors are provided for and no more traitors than these, and whatever the traitors say or leave out,
--- the loyal lieutenants decide alike, and on the order of a loyal commander
+-- by a rule with the law, with more than three times as many generals as traitors are provided for and no more traitors
+-- than these, and whatever the traitors say or leave out, the loyal lieutenants decide alike, and on the order of a
+-- loyal commander
 abbrev pub AgreementHolds : Type 0
 AgreementHolds = (f : List ℕ → ℕ) → IsMajorityRule f →
     (n c m order : ℕ) (traitor : ℕ → Bool) (M : Messages) → c < n → IsBound n m traitor →
     ((g : ℕ) → g < n → traitor g ≡ false → IsFaithful n c m order M g) →
     Agree n c order traitor (om f n M m (c ∷ []))
 
--- a list comes to what is decided about its label, and that of the commander alone to the decision; a majority is told exactly where an order stands in more than half of the places
+-- a list comes to what is decided about its label, and that of the commander alone to the decision; a majority is told
+-- exactly where an order stands in more than half of the places
 pub record ListsMean : Type 0 where
-  pub decides : (t : MessageTable) (k : ℕ) (w : List ℕ) (p : ℕ) → combined_by t.rule (list_of t k w p) ≡ decided t (suc k) w p
+  pub decides : (t : MessageTable) (k : ℕ) (w : List ℕ) (p : ℕ) →
+      combined_by t.rule (list_of t k w p) ≡ decided t (suc k) w p
   pub whole : (t : MessageTable) (p : ℕ) → decided t t.bound (t.commander ∷ []) p ≡ decision_of t p
-  pub majority : (orders : List ℕ) (v : ℕ) → (find (is_most orders) orders ≡ Some v) ↔ (length orders < 2 * count_by (λ x. x == v) orders)
-  pub none : (orders : List ℕ) → (find (is_most orders) orders ≡ None) ↔ ((v : ℕ) → 2 * count_by (λ x. x == v) orders ≤ length orders)
+  pub majority : (orders : List ℕ) (v : ℕ) →
+      (find (is_most orders) orders ≡ Some v) ↔ (length orders < 2 * count_by (λ x. x == v) orders)
+  pub none : (orders : List ℕ) →
+      (find (is_most orders) orders ≡ None) ↔ ((v : ℕ) → 2 * count_by (λ x. x == v) orders ≤ length orders)

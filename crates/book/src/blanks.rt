@@ -85,7 +85,8 @@ fn push_blank(
     label: &Label,
     receiver: u8,
 ) -> Result<(), AllocError>
-    ensures { OnOk result (string_bytes text.new ≡ string_bytes text.old ++ place_line label.now receiver (blank label.now receiver)) }
+    ensures { OnOk result (string_bytes text.new ≡ string_bytes text.old
+        ++ place_line label.now receiver (blank label.now receiver)) }
 {
     let label = dotted(alloc, label)?;
     let line = format!(in alloc; "tell {label} {receiver} ?\n")?;

@@ -84,7 +84,8 @@ fn push_lieutenant<H: Heard>(
 ) -> Result<(), AllocError>
     requires general { general < (H.seen table.now).generals }
     requires lieutenant { general ≢ (H.seen table.now).commander }
-    ensures { OnOk result (string_bytes lines.new ≡ string_bytes lines.old ++ lieutenant_lines (H.seen table.now) traitors.now general) }
+    ensures { OnOk result (string_bytes lines.new ≡ string_bytes lines.old
+        ++ lieutenant_lines (H.seen table.now) traitors.now general) }
 {
     write!(lines, "lieutenant {general}\n")?;
     let commander = table.commander();
@@ -126,7 +127,8 @@ fn push_conditions<H: Heard>(
     table: &H,
     met: &Conditions,
 ) -> Result<(), AllocError>
-    ensures { OnOk result (string_bytes lines.new ≡ string_bytes lines.old ++ condition_lines (H.seen table.now) met.now) }
+    ensures { OnOk result (string_bytes lines.new ≡ string_bytes lines.old
+        ++ condition_lines (H.seen table.now) met.now) }
 {
     let bound = bound_line(alloc, table, met)?;
     lines.push_str(bound.as_str())?;

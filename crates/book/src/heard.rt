@@ -42,5 +42,6 @@ pub trait Heard {
     fn tree(&self, general: u8) -> &Tree
         requires general { general < (seen self.now).generals }
         requires lieutenant { general ≢ (seen self.now).commander }
-        ensures { result.now ≡ tree_of (seen self.now).generals (seen self.now).bound (seen self.now).commander (told (seen self.now).messages) general };
+        ensures { result.now ≡ tree_of (seen self.now).generals (seen self.now).bound (seen self.now).commander
+            (told (seen self.now).messages) general };
 }

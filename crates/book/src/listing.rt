@@ -37,13 +37,15 @@ fn joined(alloc: Global, first: u8, rest: &[u8]) -> Result<String, AllocError>
 /// Room for how a label of four generals begins: a number of two digits and a dot for each.
 const ROOM_AHEAD: usize = 12;
 
-/// Room for the parts of a list: eight labels of five generals, each of two digits, and an order of ten digits behind each.
+/// Room for the parts of a list: eight labels of five generals, each of two digits, and an order of ten digits behind
+/// each.
 const ROOM_FOR_PARTS: usize = 216;
 
 /// How the labels begin that go on from one that is written so far, and then its last general.
 fn behind(alloc: Global, label: &Label, front: &str, last: u8) -> Result<String, AllocError>
     requires { front.now ++ decimal last ≡ dotted label.now }
-    ensures { IfOk result (λ text. (other : ℕ) → string_bytes text ++ decimal other ≡ dotted (label.now ++ other ∷ [])) }
+    ensures { IfOk result (λ text. (other : ℕ) →
+        string_bytes text ++ decimal other ≡ dotted (label.now ++ other ∷ [])) }
 {
     let _generals = label.len();
     let mut text = String::with_capacity(alloc, ROOM_AHEAD)?;
@@ -76,14 +78,16 @@ fn outcome_words(rule: Rule, orders: &[u32], order: u32) -> &'static str
     }
 }
 
-/// Adds what a general adds to a list: the label with him, which is written so before his number, and what is held of it.
+/// Adds what a general adds to a list: the label with him, which is written so before his number, and what is held of
+/// it.
 fn push_part(
     parts: &mut String,
     front: &str,
     general: u8,
     held: Option<u32>,
 ) -> Result<(), AllocError>
-    ensures { (w : List ℕ) → front.now ++ decimal general ≡ dotted w → OnOk result (string_bytes parts.new ≡ string_bytes parts.old ++ part_words w held) }
+    ensures { (w : List ℕ) → front.now ++ decimal general ≡ dotted w →
+        OnOk result (string_bytes parts.new ≡ string_bytes parts.old ++ part_words w held) }
 {
     match held {
         Some(order) => write!(parts, ", {front}{general} {order}"),
@@ -100,7 +104,9 @@ fn push_silent_list(
     words: &str,
     order: u32,
 ) -> Result<(), AllocError>
-    ensures { (w : List ℕ) → front.now ++ decimal last ≡ dotted w → OnOk result (string_bytes lines.new ≡ string_bytes lines.old ++ list_words w None parts.now (words.now ++ decimal order)) }
+    ensures { (w : List ℕ) → front.now ++ decimal last ≡ dotted w →
+        OnOk result (string_bytes lines.new ≡ string_bytes lines.old
+        ++ list_words w None parts.now (words.now ++ decimal order)) }
 {
     write!(lines, "{front}{last}: told ")?;
     write!(lines, "nothing{parts}: {words}{order}\n")
@@ -116,7 +122,9 @@ fn push_list(
     words: &str,
     order: u32,
 ) -> Result<(), AllocError>
-    ensures { (w : List ℕ) → front.now ++ decimal last ≡ dotted w → OnOk result (string_bytes lines.new ≡ string_bytes lines.old ++ list_words w told parts.now (words.now ++ decimal order)) }
+    ensures { (w : List ℕ) → front.now ++ decimal last ≡ dotted w →
+        OnOk result (string_bytes lines.new ≡ string_bytes lines.old
+        ++ list_words w told parts.now (words.now ++ decimal order)) }
 {
     match told {
         Some(said) => write!(lines, "{front}{last}: told {said}{parts}: {words}{order}\n"),
@@ -124,8 +132,8 @@ fn push_list(
     }
 }
 
-/// Adds the lines of a label, which is written so before its last general, and of those that go on from it, with so many
-/// relays left: what the lieutenant then holds of the label.
+/// Adds the lines of a label, which is written so before its last general, and of those that go on from it, with so
+/// many relays left: what the lieutenant then holds of the label.
 pub(crate) fn push_lists<H: Heard>(
     alloc: Global,
     lines: &mut String,
@@ -140,7 +148,8 @@ pub(crate) fn push_lists<H: Heard>(
     requires spelt { front.now ++ decimal last ≡ dotted label.now }
     requires relays { length label.now + relays ≡ (H.seen table.now).bound + 1 }
     ensures held { IfOk result (λ order. order ≡ held (H.seen table.now) relays label.now general) }
-    ensures lines { OnOk result (string_bytes lines.new ≡ string_bytes lines.old ++ list_lines (H.seen table.now) relays label.now general) }
+    ensures lines { OnOk result
+        (string_bytes lines.new ≡ string_bytes lines.old ++ list_lines (H.seen table.now) relays label.now general) }
 {
     let told = table.told(label, general);
     if relays == 0 {

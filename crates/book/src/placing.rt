@@ -41,7 +41,8 @@ pub fn label_in(table: &Table, part: &[u8]) -> Result<Label, Fault>
 #[tactic(auto, unfolding(crate::specs::Reading::prolonged_label))]
 fn prolonged(table: &Table, label: Label, rest: Option<&[u8]>) -> Result<Label, Fault>
     requires { length label ≤ table.now.bound + 1 }
-    ensures { result ≡ numbers_or (prolonged_label table.now.generals table.now.bound label) (numbers_of (left dot rest.entry)) }
+    ensures { result ≡ numbers_or (prolonged_label table.now.generals table.now.bound label)
+        (numbers_of (left dot rest.entry)) }
 {
     let Some(rest) = rest else {
         return Ok(label);
@@ -71,7 +72,8 @@ fn no_label(rest: Option<&[u8]>) -> Fault
 /// Whether the label may go on with this general.
 fn is_next(table: &Table, label: &Label, next: u128) -> bool
     ensures small { OnTrue result ((next < 13) × (length label.now < 13)) }
-    ensures value { result ≡ (nat_le (length label.now) table.now.bound && nat_lt next table.now.generals && not (on label.now next)) }
+    ensures value { result ≡ (nat_le (length label.now) table.now.bound && nat_lt next table.now.generals
+        && not (on label.now next)) }
 {
     label.len() <= (table.bound() as usize)
         && next < (table.generals() as u128)

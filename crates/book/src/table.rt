@@ -34,7 +34,13 @@ impl Model for Table {
 
     ghost use Rattle.book.specs.Trees.{AreTableTrees};
 
-    ghost view = { λ t. record { generals = t.generals; bound = t.bound; commander = t.commander; rule = t.rule; messages = t.messages.items } };
+    ghost view = { λ t. record {
+      generals = t.generals;
+      bound = t.bound;
+      commander = t.commander;
+      rule = t.rule;
+      messages = t.messages.items;
+    } };
 
     ghost invariant = { λ t. AreTableTrees t.generals t.bound t.commander t.messages.items t.trees.items };
 }
@@ -61,7 +67,13 @@ impl Table {
         rule: Rule,
     ) -> Result<Table, AllocError>
         requires { AreNumbersWithin generals bound commander }
-        ensures { IfOk result (λ t. t ≡ record { generals = generals; bound = bound; commander = commander; rule = rule; messages = [] }) }
+        ensures { IfOk result (λ t. t ≡ record {
+          generals = generals;
+          bound = bound;
+          commander = commander;
+          rule = rule;
+          messages = [];
+        }) }
     {
         let mut trees = Vec::with_capacity(alloc, generals as usize)?;
         for general in 0..generals {
@@ -95,7 +107,8 @@ impl Table {
     pub(crate) fn tree(&self, general: u8) -> &Tree
         requires general { general < self.now.generals }
         requires lieutenant { general ≢ self.now.commander }
-        ensures { result.now ≡ tree_of self.now.generals self.now.bound self.now.commander (told self.now.messages) general }
+        ensures { result.now ≡ tree_of self.now.generals self.now.bound self.now.commander
+            (told self.now.messages) general }
     {
         &self.trees[place(self.commander, general)]
     }

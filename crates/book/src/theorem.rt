@@ -1,10 +1,12 @@
-//! The agreement theorem, and what holds of every table that is told: each function does nothing, and its contract is the law.
+//! The agreement theorem, and what holds of every table that is told: each function does nothing, and its contract is
+//! the law.
 ghost use Rattle.book.specs.Consistency.{ConditionsMean};
 ghost use Rattle.book.specs.Forms.{FormsAreRead};
 ghost use Rattle.book.specs.Laws.{ToldTablesAreWhole};
 ghost use Rattle.book.specs.Theorem.{AgreementHolds, ListsMean};
 
-/// Whatever the traitors say, loyal lieutenants decide alike, and on the order of a loyal commander (TOPLAS 1982, Theorem 1).
+/// Whatever the traitors say, loyal lieutenants decide alike, and on the order of a loyal commander (TOPLAS 1982,
+/// Theorem 1).
 pub fn agreement()
     ensures { AgreementHolds }
 {}

@@ -18,8 +18,9 @@ impl From<AllocError> for Unkept {
     }
 }
 
-/// Writes a file of this name. A plain file is written whole or not at all: beside it first, under a name that nobody has,
-/// which it then gives up for its own. What is no plain file (a device, a pipe, a link) stays what it is, and is written to.
+/// Writes a file of this name. A plain file is written whole or not at all: beside it first, under a name that nobody
+/// has, which it then gives up for its own. What is no plain file (a device, a pipe, a link) stays what it is, and is
+/// written to.
 ///
 /// # Errors
 ///
@@ -102,8 +103,8 @@ fn make_folder(rt: &HostRuntime, name: &str) -> Result<(), Unkept> {
     }
 }
 
-/// Writes a scenario to FOLDER/scenario.toml, and each schedule to FOLDER/outcome-N.schedule, from 1. The folder is made,
-/// where there is none.
+/// Writes a scenario to FOLDER/scenario.toml, and each schedule to FOLDER/outcome-N.schedule, from 1. The folder is
+/// made, where there is none.
 ///
 /// # Errors
 ///

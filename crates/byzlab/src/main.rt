@@ -159,8 +159,8 @@ fn answered<T: Threads + Wait + Sync>(
     }
 }
 
-/// Explores the campaign of this scenario, whose outcomes are written to the folder, and then prints what it comes to; none
-/// where the scenario is refused.
+/// Explores the campaign of this scenario, whose outcomes are written to the folder, and then prints what it comes to;
+/// none where the scenario is refused.
 fn explored(
     rt: &HostRuntime,
     request: &Request,
@@ -245,7 +245,8 @@ fn schedule_written(rt: &HostRuntime, request: &Request, ending: Ending) -> io::
 /// The task's files; none where one of them does not open, after what says so.
 fn files(rt: &HostRuntime, request: &Request) -> io::Result<Option<(Input, Option<Input>)>>
     ensures first { IfOk result (λ files. IfSome files (λ f. IsInputIf (file_of request.now.task) (Some f.0))) }
-    ensures second { IfOk result (λ files. IfSome files (λ f. IsSecondIf (second_of request.now.task) (seed_of request.now.task) f.1)) }
+    ensures second { IfOk result
+        (λ files. IfSome files (λ f. IsSecondIf (second_of request.now.task) (seed_of request.now.task) f.1)) }
     ensures memory { IfErr result (λ error. error_kind error ≡ ErrorKind.OutOfMemory) }
 {
     let Some(first) = opened(rt, request, request.task.file())? else {
@@ -275,7 +276,8 @@ fn random(rt: &HostRuntime, task: &Task) -> io::Result<Option<Input>>
     }
 }
 
-/// Does what is asked for on these files, and tells behind a fault of its output why, where it explains what it refuses.
+/// Does what is asked for on these files, and tells behind a fault of its output why, where it explains what it
+/// refuses.
 fn served<T: Threads + Wait + Sync>(
     rt: &HostRuntime,
     threads: &T,
@@ -327,7 +329,8 @@ fn unasked(rt: &HostRuntime, error: TaskError) -> io::Result<u8>
     }
 }
 
-/// The first file, in which a scenario has the files that it names; none where one of them is not taken, after what says so.
+/// The first file, in which a scenario has the files that it names; none where one of them is not taken, after what
+/// says so.
 fn completed(rt: &HostRuntime, request: &Request, first: Input) -> io::Result<Option<Input>>
     ensures other { reads_scenario request.now.task ≡ false → result ≡ Ok (Some first) }
     ensures memory { IfErr result (λ error. error_kind error ≡ ErrorKind.OutOfMemory) }
@@ -351,8 +354,8 @@ fn completed(rt: &HostRuntime, request: &Request, first: Input) -> io::Result<Op
     }
 }
 
-/// The bytes of a scenario in which the files stand that it names, for a page behind its story; none where it names some, and
-/// is refused, and an explanation is asked for, after what says so at its own lines and those of the files.
+/// The bytes of a scenario in which the files stand that it names, for a page behind its story; none where it names
+/// some, and is refused, and an explanation is asked for, after what says so at its own lines and those of the files.
 fn made(
     rt: &HostRuntime,
     request: &Request,
@@ -450,7 +453,8 @@ fn tell_untaken<D: Display + Drop>(
     turn_down(rt, request, Explained { lines, kind })
 }
 
-/// The line and the exit status where the words could not be had, help not be written, or memory to open a file not be had.
+/// The line and the exit status where the words could not be had, help not be written, or memory to open a file not be
+/// had.
 fn failure(kind: ErrorKind) -> (&'static str, u8)
     ensures { ((result.0).now, result.1) ≡ failure_of kind }
 {

@@ -5,8 +5,8 @@ use std::time::Instant;
 /// As wide as what is told at most.
 const BLANK: &str = "                                                  ";
 
-/// How far a call with several files is, told on standard error where that is a terminal, from the first second on: on a
-/// line over which the next one is written.
+/// How far a call with several files is, told on standard error where that is a terminal, from the first second on: on
+/// a line over which the next one is written.
 #[derive(Drop)]
 pub struct Progress<'a> {
     rt: &'a HostRuntime,

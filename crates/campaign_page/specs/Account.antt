@@ -51,7 +51,8 @@ unfoldable pub recorded_words : List ℕ
 recorded_words = codes "As the chronicle tells: the accesses to the board are made in its order."
 
 unfoldable pub unscheduled_words : List ℕ
-unscheduled_words = codes "By no schedule: in each round the loyal generals write, and then each traitor acts up to his end, by their numbers."
+unscheduled_words = codes
+    "By no schedule: in each round the loyal generals write, and then each traitor acts up to his end, by their numbers."
 
 unfoldable pub verdict_heading : List ℕ
 verdict_heading = codes "Verdict, and what was promised"
@@ -108,7 +109,8 @@ picture_told svg = heading picture_heading ++ picture picture_name svg
 abbrev pub picture_part : MessageTable → Chronicle → List ℕ
 picture_part t c = picture_told (svg_text t c)
 
--- what a lieutenant decides, his tree, three levels below the commander's, and shorter where all tell the same, and how his decision comes about
+-- what a lieutenant decides, his tree, three levels below the commander's, and shorter where all tell the same, and how
+-- his decision comes about
 abbrev pub view : View
 view = record { depth = 3; folds = true }
 
@@ -116,7 +118,8 @@ abbrev pub traitor_words : Bool → List ℕ
 traitor_words is_traitor = if is_traitor then codes ", a traitor," else []
 
 unfoldable pub lieutenant_words : ℕ → Bool → ℕ → List ℕ
-lieutenant_words g is_traitor order = codes "Lieutenant " ++ (decimal g ++ (traitor_words is_traitor ++ (codes " decides " ++ decimal order)))
+lieutenant_words g is_traitor order =
+    codes "Lieutenant " ++ (decimal g ++ (traitor_words is_traitor ++ (codes " decides " ++ decimal order)))
 
 -- of five rounds, in which he may have more than a thousand lists, who tells them
 unfoldable pub elsewhere_words : ℕ → List ℕ
@@ -128,7 +131,8 @@ abbrev pub why_part : MessageTable → List ℕ → ℕ → List ℕ
 why_part t traitors g = if nat_lt t.bound 4 then lines (explained_one t traitors g) else paragraph (elsewhere_words g)
 
 abbrev pub lieutenant_told : MessageTable → List ℕ → ℕ → List ℕ
-lieutenant_told t traitors g = fold (lieutenant_words g (on traitors g) (decision_of t g)) (tree_told t traitors view g ++ why_part t traitors g)
+lieutenant_told t traitors g =
+    fold (lieutenant_words g (on traitors g) (decision_of t g)) (tree_told t traitors view g ++ why_part t traitors g)
 
 abbrev pub lieutenant_part : MessageTable → List ℕ → ℕ → List ℕ
 lieutenant_part t traitors g = if g == t.commander then [] else lieutenant_told t traitors g
@@ -139,10 +143,12 @@ lieutenants_part t traitors =
 
 -- the accesses, in the board's order, if there are any: a table with a row for each
 abbrev pub access_heads : List ℕ
-access_heads = row (head (codes "Round") ++ head (codes "General") ++ head (codes "What he does") ++ head (codes "What the board answers"))
+access_heads = row (head (codes "Round") ++ head (codes "General") ++ head (codes "What he does")
+    ++ head (codes "What the board answers"))
 
 abbrev pub access_row : Access → List ℕ
-access_row a = row (cell (decimal a.round) ++ cell (decimal a.general) ++ cell (asked_words a.request) ++ cell (answered_words a.reply))
+access_row a = row (cell (decimal a.round) ++ cell (decimal a.general) ++ cell (asked_words a.request)
+    ++ cell (answered_words a.reply))
 
 abbrev pub accesses_part : List Access → List ℕ
 accesses_part [] = []
@@ -172,16 +178,19 @@ verdict_told v bound =
 abbrev pub verdict_part : Verdict → List ℕ
 verdict_part v = verdict_told v (bound_told v.bound)
 
--- all sections, of a chronicle whose letters tell this message table, whose scenario this text tells, and which was played by this schedule, if by one
+-- all sections, of a chronicle whose letters tell this message table, whose scenario this text tells, and which was
+-- played by this schedule, if by one
 unfoldable pub parts : List ℕ → Option (List (List Repeat)) → MessageTable → Chronicle → List ℕ
 parts text schedule t c =
-    scenario_part text ++ schedule_part schedule ++ programs_part c.scenario ++ picture_part t c ++ lieutenants_part t (traitors_of c.scenario) ++ accesses_part c.accesses ++ chronicle_part c
+    scenario_part text ++ schedule_part schedule ++ programs_part c.scenario ++ picture_part t c
+    ++ lieutenants_part t (traitors_of c.scenario) ++ accesses_part c.accesses ++ chronicle_part c
     ++ verdict_part c.verdict
 
 -- the campaign's numbers
 unfoldable pub title_words : ℕ → ℕ → ℕ → ℕ → List ℕ
 title_words n m c order =
-    decimal n ++ (codes " generals, traitors provided for: " ++ (decimal m ++ (codes "; commander " ++ (decimal c ++ (codes " was given order " ++ decimal order)))))
+    decimal n ++ (codes " generals, traitors provided for: "
+    ++ (decimal m ++ (codes "; commander " ++ (decimal c ++ (codes " was given order " ++ decimal order)))))
 
 abbrev pub title : Scenario → List ℕ
 title s = title_words s.generals s.bound s.commander s.order

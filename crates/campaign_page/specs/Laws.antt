@@ -16,11 +16,13 @@ use Rattle.world.specs.declared.schedule.Repeat.{Repeat}
 use Rattle.campaign_page.specs.Account.{page_text, view}
 use Rattle.campaign_page.specs.Calls.{helper_name}
 
--- a page is one element of XML, between the line that says that it is HTML and a line feed, whatever stands in the scenario
+-- a page is one element of XML, between the line that says that it is HTML and a line feed, whatever stands in the
+-- scenario
 abbrev pub CampaignPagesAreElements : Type 0
 CampaignPagesAreElements =
     (scenario : List ℕ) (schedule : Option (List (List Repeat))) (t : MessageTable) (c : Chronicle)
-    → (text : List ℕ) × IsElement text × (page_text scenario schedule t c ≡ codes "<!DOCTYPE html>\n" ++ text ++ codes "\n")
+    → (text : List ℕ) × IsElement text
+    × (page_text scenario schedule t c ≡ codes "<!DOCTYPE html>\n" ++ text ++ codes "\n")
 
 -- a text stands in another
 abbrev pub StandsIn : List ℕ → List ℕ → Type 0

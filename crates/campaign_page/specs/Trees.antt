@@ -1,4 +1,5 @@
--- The tree of what lieutenant p was told, as nested lists: a label whose labels below are shown is a fold with their list.
+-- The tree of what lieutenant p was told, as nested lists: a label whose labels below are shown is a fold with their
+-- list.
 use Rattle.std.specs.Prelude.{ℕ, zero, suc, if◌then◌else◌, List, [], ◌∷◌, ◌++◌}
 use Rattle.std.specs.List.{flat_map}
 use Rattle.label.specs.Labels.{others}
@@ -22,11 +23,13 @@ node_by t traitors view k w p j = node_at t traitors view (mark_at t traitors w 
 unfoldable pub items_below : MessageTable → List ℕ → View → ℕ → List ℕ → ℕ → List ℕ
 items_below t traitors view zero w p = []
 items_below t traitors view (suc k) w p =
-    flat_map (λ j. label_item (node_by t traitors view k w p j) (items_below t traitors (deeper view) k (w ++ j ∷ []) p)) (others t.generals (p ∷ w))
+    flat_map (λ j. label_item (node_by t traitors view k w p j)
+    (items_below t traitors (deeper view) k (w ++ j ∷ []) p)) (others t.generals (p ∷ w))
 
 -- that of j
 abbrev pub item_by : MessageTable → List ℕ → View → ℕ → List ℕ → ℕ → ℕ → List ℕ
-item_by t traitors view k w p j = label_item (node_by t traitors view k w p j) (items_below t traitors (deeper view) k (w ++ j ∷ []) p)
+item_by t traitors view k w p j =
+    label_item (node_by t traitors view k w p j) (items_below t traitors (deeper view) k (w ++ j ∷ []) p)
 
 -- the commander's word, and the list below it, if it is shown
 abbrev pub root_told : Node → List ℕ → List ℕ
@@ -34,4 +37,5 @@ root_told node below = paragraph (said node) ++ (if is_open node.extent then lis
 
 unfoldable pub tree_told : MessageTable → List ℕ → View → ℕ → List ℕ
 tree_told t traitors view p =
-    root_told (node_at t traitors view (root_mark traitors t.commander) t.bound (t.commander ∷ []) p) (items_below t traitors (deeper view) t.bound (t.commander ∷ []) p)
+    root_told (node_at t traitors view (root_mark traitors t.commander) t.bound (t.commander ∷ []) p)
+    (items_below t traitors (deeper view) t.bound (t.commander ∷ []) p)

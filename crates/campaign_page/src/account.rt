@@ -15,8 +15,8 @@ use std::alloc::{AllocError, Global};
 use trace::{Latch, write_chronicle};
 use world::{Chronicle, Schedule};
 
-/// The campaign of a chronicle, whose letters tell this message table, whose scenario this text tells, and which was played by
-/// this schedule, if by one, as one page of HTML.
+/// The campaign of a chronicle, whose letters tell this message table, whose scenario this text tells, and which was
+/// played by this schedule, if by one, as one page of HTML.
 ///
 /// # Errors
 ///
@@ -28,7 +28,8 @@ pub fn page_text<H: Heard>(
     table: &H,
     chronicle: &Chronicle,
 ) -> Result<String, AllocError>
-    ensures { IfOk result (λ text. string_bytes text ≡ page_text scenario_text.now (option_map (λ s. s.now) schedule.entry) (H.seen table.now) chronicle.now) }
+    ensures { IfOk result (λ text. string_bytes text
+        ≡ page_text scenario_text.now (option_map (λ s. s.now) schedule.entry) (H.seen table.now) chronicle.now) }
 {
     let title = title(alloc, chronicle.scenario())?;
     let mut out = start(alloc, title.as_str())?;
@@ -46,7 +47,8 @@ fn put_parts<H: Heard>(
     table: &H,
     chronicle: &Chronicle,
 ) -> Result<(), AllocError>
-    ensures { OnOk result (string_bytes out.new ≡ string_bytes out.old ++ parts scenario_text.now (option_map (λ s. s.now) schedule.entry) (H.seen table.now) chronicle.now) }
+    ensures { OnOk result (string_bytes out.new ≡ string_bytes out.old
+        ++ parts scenario_text.now (option_map (λ s. s.now) schedule.entry) (H.seen table.now) chronicle.now) }
 {
     put_scenario(out, scenario_text)?;
     put_schedule(alloc, out, schedule)?;
@@ -107,7 +109,8 @@ fn put_diagram<H: Heard>(
     table: &H,
     chronicle: &Chronicle,
 ) -> Result<(), AllocError>
-    ensures { OnOk result (string_bytes out.new ≡ string_bytes out.old ++ picture_part (H.seen table.now) chronicle.now) }
+    ensures { OnOk result (string_bytes out.new ≡ string_bytes out.old
+        ++ picture_part (H.seen table.now) chronicle.now) }
 {
     let svg = campaign_svg(alloc, table, chronicle)?;
     put_svg(out, svg.as_str())

@@ -1,5 +1,5 @@
-//! A campaign as a page of HTML: its scenario, the programs, the picture, the trees, the chronicle and the verdict. Its parts
-//! are public, for pages of other campaigns.
+//! A campaign as a page of HTML: its scenario, the programs, the picture, the trees, the chronicle and the verdict. Its
+//! parts are public, for pages of other campaigns.
 #![tactic(auto)]
 
 mod accesses;

@@ -26,7 +26,8 @@ pub(crate) fn put_tree<H: Heard>(
 ) -> Result<(), AllocError>
     requires general { general < (H.seen table.now).generals }
     requires lieutenant { general ≢ (H.seen table.now).commander }
-    ensures { OnOk result (string_bytes out.new ≡ string_bytes out.old ++ tree_told (H.seen table.now) traitors.now view general) }
+    ensures { OnOk result (string_bytes out.new ≡ string_bytes out.old
+        ++ tree_told (H.seen table.now) traitors.now view general) }
 {
     let commander = table.commander();
     let relays = table.bound();
@@ -83,7 +84,8 @@ fn put_item<H: Heard>(
 ) -> Result<(), AllocError>
     requires place { is_place (H.seen table.now) label.now general ≡ true }
     requires relays { length label.now + relays ≡ (H.seen table.now).bound + 1 }
-    ensures { OnOk result (string_bytes out.new ≡ string_bytes out.old ++ label_item node.now (items_below (H.seen table.now) traitors.now (deeper view) relays label.now general)) }
+    ensures { OnOk result (string_bytes out.new ≡ string_bytes out.old
+        ++ label_item node.now (items_below (H.seen table.now) traitors.now (deeper view) relays label.now general)) }
 {
     let words = words(alloc, node)?;
     if !is_open(node.extent) {
@@ -122,7 +124,8 @@ fn put_items<H: Heard>(
 ) -> Result<(), AllocError>
     requires place { is_place (H.seen table.now) label.now general ≡ true }
     requires relays { length label.now + relays ≡ (H.seen table.now).bound + 1 }
-    ensures { OnOk result (string_bytes out.new ≡ string_bytes out.old ++ items_below (H.seen table.now) traitors.now view relays label.now general) }
+    ensures { OnOk result (string_bytes out.new ≡ string_bytes out.old
+        ++ items_below (H.seen table.now) traitors.now view relays label.now general) }
 {
     if relays == 0 {
         return Ok(());

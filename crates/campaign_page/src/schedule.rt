@@ -17,7 +17,8 @@ pub fn put_schedule(
     out: &mut String,
     schedule: Option<&Schedule>,
 ) -> Result<(), AllocError>
-    ensures { OnOk result (string_bytes out.new ≡ string_bytes out.old ++ schedule_part (option_map (λ s. s.now) schedule.entry)) }
+    ensures { OnOk result (string_bytes out.new ≡ string_bytes out.old
+        ++ schedule_part (option_map (λ s. s.now) schedule.entry)) }
 {
     put_heading(out, schedule_heading())?;
     match schedule {

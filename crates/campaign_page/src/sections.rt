@@ -62,7 +62,8 @@ fn no_programs() -> &'static str
 
 /// Adds that of each traitor.
 fn put_each_program(alloc: Global, out: &mut String, scenario: &Scenario) -> Result<(), AllocError>
-    ensures { OnOk result (string_bytes out.new ≡ string_bytes out.old ++ flat_map (program_part scenario.now) (range_with_len 0 scenario.now.generals)) }
+    ensures { OnOk result (string_bytes out.new ≡ string_bytes out.old
+        ++ flat_map (program_part scenario.now) (range_with_len 0 scenario.now.generals)) }
 {
     for general in 0..scenario.generals() {
         put_program_of(alloc, out, scenario, general)?;
@@ -116,7 +117,8 @@ pub(crate) fn put_lieutenants<H: Heard>(
     table: &H,
     chronicle: &Chronicle,
 ) -> Result<(), AllocError>
-    ensures { OnOk result (string_bytes out.new ≡ string_bytes out.old ++ lieutenants_part (H.seen table.now) (traitors_of chronicle.now.scenario)) }
+    ensures { OnOk result (string_bytes out.new ≡ string_bytes out.old
+        ++ lieutenants_part (H.seen table.now) (traitors_of chronicle.now.scenario)) }
 {
     let traitors = traitors(alloc, chronicle.scenario())?;
     put_heading(out, lieutenants_heading())?;
@@ -130,7 +132,8 @@ fn put_each_lieutenant<H: Heard>(
     table: &H,
     traitors: &[u8],
 ) -> Result<(), AllocError>
-    ensures { OnOk result (string_bytes out.new ≡ string_bytes out.old ++ flat_map (lieutenant_part (H.seen table.now) traitors.now) (range_with_len 0 (H.seen table.now).generals)) }
+    ensures { OnOk result (string_bytes out.new ≡ string_bytes out.old
+        ++ flat_map (lieutenant_part (H.seen table.now) traitors.now) (range_with_len 0 (H.seen table.now).generals)) }
 {
     for general in 0..table.generals() {
         put_lieutenant_of(alloc, out, table, traitors, general)?;
@@ -147,7 +150,8 @@ fn put_lieutenant_of<H: Heard>(
     general: u8,
 ) -> Result<(), AllocError>
     requires { general < (H.seen table.now).generals }
-    ensures { OnOk result (string_bytes out.new ≡ string_bytes out.old ++ lieutenant_part (H.seen table.now) traitors.now general) }
+    ensures { OnOk result (string_bytes out.new ≡ string_bytes out.old
+        ++ lieutenant_part (H.seen table.now) traitors.now general) }
 {
     if general == table.commander() {
         return Ok(());
@@ -185,7 +189,8 @@ fn put_why<H: Heard>(
     traitors: &[u8],
     general: u8,
 ) -> Result<(), AllocError>
-    ensures { OnOk result (string_bytes out.new ≡ string_bytes out.old ++ why_part (H.seen table.now) traitors.now general) }
+    ensures { OnOk result (string_bytes out.new ≡ string_bytes out.old
+        ++ why_part (H.seen table.now) traitors.now general) }
 {
     if table.bound() >= 4 {
         let words = elsewhere_words(alloc, general)?;

@@ -22,4 +22,5 @@ AreRuns bytes contexts outcomes =
 abbrev pub AreBegun : List ℕ → List ℕ → List Outcome → List Outcome → Type 0
 AreBegun bytes contexts before after =
     (index : ℕ) →
-    IfSome (slice_get after index) (λ o. IsOutcome bytes (context_at contexts index) o ⊎ (slice_get before index ≡ Some o))
+    IfSome (slice_get after index) (λ o. IsOutcome bytes (context_at contexts index) o
+    ⊎ (slice_get before index ≡ Some o))

@@ -10,8 +10,8 @@ use crate::status::{DONE, REFUSED};
 use crate::verdict::byzlab_verify;
 use std::alloc::Global;
 
-/// Answers as `byzlab_verify`, and writes what the verifier knows at each unit, and why it refuses the program, if so: into
-/// `text` as much as there is room for, and into `needed` how many bytes the whole has.
+/// Answers as `byzlab_verify`, and writes what the verifier knows at each unit, and why it refuses the program, if so:
+/// into `text` as much as there is room for, and into `needed` how many bytes the whole has.
 #[unsafe(no_mangle)]
 pub extern "C" fn byzlab_explain(
     alloc: Global,
@@ -51,8 +51,8 @@ pub extern "C" fn byzlab_explain(
     status
 }
 
-/// Writes the assembly text of the program that the bytes spell, accepted or not: into `text` as much as there is room for,
-/// and into `needed` how many bytes the whole has.
+/// Writes the assembly text of the program that the bytes spell, accepted or not: into `text` as much as there is room
+/// for, and into `needed` how many bytes the whole has.
 #[unsafe(no_mangle)]
 pub extern "C" fn byzlab_disassemble(
     alloc: Global,

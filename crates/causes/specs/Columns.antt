@@ -25,7 +25,8 @@ of_units tells (suc n) = of_units tells n ++ tells n ∷ []
 
 -- for each of the first so many units whether it sets what is asked about
 abbrev pub setting : List Insn → KnownByUnit → Subject → ℕ → List Bool
-setting program survey subject n = of_units (λ unit. set_by subject (instruction_at program unit) (known_by (survey unit))) n
+setting program survey subject n =
+    of_units (λ unit. set_by subject (instruction_at program unit) (known_by (survey unit))) n
 
 -- the stack that a store or a call leaves; the others leave it as it is
 abbrev pub stack_behind : Option Insn → Option AbsState → Option Known
@@ -34,7 +35,8 @@ stack_behind (Some (Call number)) (Some a) = Some (left (Call number) a).stack
 stack_behind i known = None
 
 abbrev pub stacks_behind : List Insn → KnownByUnit → ℕ → List (Option Known)
-stacks_behind program survey n = of_units (λ unit. stack_behind (instruction_at program unit) (known_by (survey unit))) n
+stacks_behind program survey n =
+    of_units (λ unit. stack_behind (instruction_at program unit) (known_by (survey unit))) n
 
 -- that which a unit leaves
 abbrev pub stack_at : Option (Option Known) → Option Known
@@ -53,7 +55,8 @@ flag_at (Some flag) = flag
 
 -- a column for each cell, with each unit of the program
 abbrev pub IsColumn : List Insn → KnownByUnit → ℕ → Column → Type 0
-IsColumn program survey cell column = column.changed.items ≡ setting program survey (Cell cell) (length (slots_of program))
+IsColumn program survey cell column =
+    column.changed.items ≡ setting program survey (Cell cell) (length (slots_of program))
 
 pub record AreColumns (program : List Insn) (survey : KnownByUnit) (columns : List Column) : Type 0 where
   pub all : length columns ≡ 512

@@ -1,4 +1,5 @@
--- What is known of one cell of a stack: that it is a byte, or a piece of a pointer that stands there whole, or nothing (own).
+-- What is known of one cell of a stack: that it is a byte, or a piece of a pointer that stands there whole, or nothing
+-- (own).
 use Rattle.std.specs.Prelude.{ℕ, ℤ, zero, suc, ◌-◌, ◌/◌, ◌%◌, ◌&&◌, nat_le, nat_lt, Bool, true, false, if◌then◌else◌, Option, Some, None}
 use Rattle.std.specs.Option.{option_or}
 use Rattle.std.specs.Ordering.{int_eq}

@@ -1,4 +1,5 @@
--- What an instruction leaves of what is known, where it may run: what the verifier's transfer leaves. Of the stack only stores and copies to the stack leave something else (own).
+-- What an instruction leaves of what is known, where it may run: what the verifier's transfer leaves. Of the stack only
+-- stores and copies to the stack leave something else (own).
 use Rattle.std.specs.Prelude.{ℕ, ℤ, nat_le, if◌then◌else◌, Option, Some, None}
 use Rattle.insn.specs.declared.insn.Insn.{Insn}
 use Rattle.insn.specs.declared.insn.Insn.TheVariants.{Arithmetic, Negate, SignExtend, Swap, LoadImmediate, Load, LoadSigned, Store, Call}
@@ -33,9 +34,15 @@ behind_call helper target counts known = known
 
 abbrev pub left : Insn → AbsState → AbsState
 left (Store size base offset source) a =
-    record { registers = a.registers; stack = stored_in_stack size (known_at a.registers base) offset (operand_known a.registers source) a.stack }
+    record {
+      registers = a.registers;
+      stack = stored_in_stack size (known_at a.registers base) offset (operand_known a.registers source) a.stack;
+    }
 left (Call number) a =
-    record { registers = (transfer (Call number) a).registers; stack = behind_call (helper_of number) (known_at a.registers 2) (known_at a.registers 3) a.stack }
+    record {
+      registers = (transfer (Call number) a).registers;
+      stack = behind_call (helper_of number) (known_at a.registers 2) (known_at a.registers 3) a.stack;
+    }
 left i a = transfer i a
 
 -- the register that takes the result

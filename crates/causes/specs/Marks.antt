@@ -1,4 +1,5 @@
--- Which units set a register or a cell last before a unit, on the ways that lead there (own; the reaching definitions of a compiler).
+-- Which units set a register or a cell last before a unit, on the ways that lead there (own; the reaching definitions
+-- of a compiler).
 use Rattle.std.specs.Prelude.{ℕ, ℤ, zero, suc, pos, negsuc, ◌-◌, ◌||◌, Bool, true, false, if◌then◌else◌, List, [], ◌∷◌, Option, Some, None, length, replicate, slice_get, slice_set}
 use Rattle.insn.specs.declared.insn.Insn.{Insn}
 use Rattle.insn.specs.Program.{slots_of, instruction_at}
@@ -9,7 +10,8 @@ use Rattle.causes.specs.declared.mark.Mark.TheVariants.{Closed, Open, Sets}
 use Rattle.causes.specs.declared.subject.Subject.{Subject}
 use Rattle.causes.specs.Setting.{sets}
 
--- what is known at a unit: the outer None where the pass does not come there, for a fault of structure or at an earlier unit; the inner None where no path leads to it
+-- what is known at a unit: the outer None where the pass does not come there, for a fault of structure or at an earlier
+-- unit; the inner None where no path leads to it
 abbrev pub KnownByUnit : Type 0
 KnownByUnit = ℕ → Option (Option AbsState)
 
@@ -32,17 +34,21 @@ leads_open marks (z ∷ []) = open_at marks z
 leads_open marks (z ∷ y ∷ []) = open_at marks z || open_at marks y
 leads_open marks _ = false
 
--- a unit from which a way leads to an open one sets what is asked about, or is open; from others no way leads on which it stays as it is
+-- a unit from which a way leads to an open one sets what is asked about, or is open; from others no way leads on which
+-- it stays as it is
 abbrev pub mark_of : Subject → List Mark → ℕ → Option Insn → Option AbsState → Mark
-mark_of subject marks unit (Some i) (Some a) = if leads_open marks (leads_to i unit) then (if sets subject i a then Sets else Open) else Closed
+mark_of subject marks unit (Some i) (Some a) =
+    if leads_open marks (leads_to i unit) then (if sets subject i a then Sets else Open) else Closed
 mark_of subject marks unit i known = Closed
 
--- the marks once so many units below the one that is asked about have theirs; it is open itself, and the others are closed
+-- the marks once so many units below the one that is asked about have theirs; it is open itself, and the others are
+-- closed
 abbrev pub marked : List Insn → KnownByUnit → Subject → ℕ → ℕ → List Mark
 marked program survey subject unit zero = slice_set (replicate (length (slots_of program)) Closed) unit Open
 marked program survey subject unit (suc n) =
     slice_set (marked program survey subject unit n) (unit - suc n)
-    (mark_of subject (marked program survey subject unit n) (unit - suc n) (instruction_at program (unit - suc n)) (known_by (survey (unit - suc n))))
+    (mark_of subject (marked program survey subject unit n) (unit - suc n) (instruction_at program (unit - suc n))
+    (known_by (survey (unit - suc n))))
 
 -- the marks before a unit
 abbrev pub marks : List Insn → KnownByUnit → Subject → ℕ → List Mark

@@ -1,4 +1,5 @@
--- A program with an instruction put before another or in its place, or a sum in the pointer's register, and how far the verifier comes in it (own).
+-- A program with an instruction put before another or in its place, or a sum in the pointer's register, and how far the
+-- verifier comes in it (own).
 use Rattle.std.specs.Prelude.{ℕ, ℤ, pos, ◌+◌, ◌+ℤ◌, ◌==◌, ◌&&◌, nat_lt, nat_le, int_lt, if◌then◌else◌, List, [], ◌∷◌, ◌++◌, Option, Some, None, length}
 use Rattle.word.specs.declared.Width.TheVariants.{W64}
 use Rattle.word.specs.declared.Operation.{Operation}
@@ -27,12 +28,14 @@ grown (Moved (Some mask) number pointer) = 2
 -- a jump over the place of the edit leads so many units further
 abbrev pub longer : ℕ → ℕ → ℕ → ℤ → ℤ
 longer more place unit distance =
-    if int_lt (pos place) (pos (unit + 1) +ℤ distance) && int_lt distance (pos most_units) then distance +ℤ pos more else distance
+    if int_lt (pos place) (pos (unit + 1) +ℤ distance) && int_lt distance (pos most_units) then distance +ℤ pos more
+    else distance
 
 abbrev pub stretched : ℕ → ℕ → ℕ → Insn → Insn
 stretched more place unit (Jump distance) = Jump (longer more place unit distance)
 stretched more place unit (LongJump distance) = LongJump (longer more place unit distance)
-stretched more place unit (Branch w condition dst operand distance) = Branch w condition dst operand (longer more place unit distance)
+stretched more place unit (Branch w condition dst operand distance) =
+    Branch w condition dst operand (longer more place unit distance)
 stretched more place unit i = i
 
 abbrev pub wide : Operation → ℕ → Operand → Insn
@@ -46,7 +49,8 @@ masked (Some mask) number = wide And number (Immediate mask) ∷ []
 abbrev pub put_at : Edit → Insn → List Insn
 put_at (Before operation dst operand) i = wide operation dst operand ∷ i ∷ []
 put_at (Instead operation dst operand) i = wide operation dst operand ∷ []
-put_at (Moved mask number pointer) i = masked mask number ++ wide Add pointer (Register number) ∷ wide Move number (Register pointer) ∷ []
+put_at (Moved mask number pointer) i =
+    masked mask number ++ wide Add pointer (Register number) ∷ wide Move number (Register pointer) ∷ []
 
 -- another instruction
 abbrev pub passed : Edit → ℕ → ℕ → Insn → Insn
@@ -70,7 +74,8 @@ comes unit (Some Memory) = Refused
 -- of a program with the edit, that has not more units than a program may have
 abbrev pub tried_with : List Insn → ℕ → Trial
 tried_with program unit =
-    if nat_lt 0 (length (slots_of program)) && nat_le (length (slots_of program)) most_units then comes unit (judged program) else Refused
+    if nat_lt 0 (length (slots_of program)) && nat_le (length (slots_of program)) most_units
+    then comes unit (judged program) else Refused
 
 abbrev pub tried : Edit → ℕ → List Insn → ℕ → Trial
 tried edit place program unit = tried_with (mended edit place 0 program) unit

@@ -53,7 +53,8 @@ fn stacks_behind(
     program: &Program,
     states: &[Option<AbsState>],
 ) -> Result<Vec<Option<AbsStack>>, AllocError>
-    ensures { IfOk result (λ vec. vec.items ≡ stacks_behind program.now (slice_get states.now) (length (slots_of program.now))) }
+    ensures { IfOk result (λ vec. vec.items
+        ≡ stacks_behind program.now (slice_get states.now) (length (slots_of program.now))) }
 {
     let mut stacks = Vec::new(alloc);
     for unit in 0..program.units() {
@@ -107,7 +108,8 @@ fn flags_of(
     cell: u16,
 ) -> Result<Vec<bool>, AllocError>
     requires { stacks.now ≡ stacks_behind program.now (slice_get states.now) (length (slots_of program.now)) }
-    ensures { IfOk result (λ vec. vec.items ≡ setting program.now (slice_get states.now) (Cell cell) (length (slots_of program.now))) }
+    ensures { IfOk result (λ vec. vec.items
+        ≡ setting program.now (slice_get states.now) (Cell cell) (length (slots_of program.now))) }
 {
     let mut changed = Vec::new(alloc);
     for unit in 0..program.units() {

@@ -36,7 +36,8 @@ fn mark_of(
     states: &[Option<AbsState>],
     unit: usize,
 ) -> Mark
-    ensures { result ≡ mark_of subject.now behind.now unit (instruction_at program.now unit) (known_by (slice_get states.now unit)) }
+    ensures { result ≡ mark_of subject.now behind.now unit (instruction_at program.now unit)
+        (known_by (slice_get states.now unit)) }
 {
     let Some(insn) = program.at(unit) else {
         return Mark::Closed;
@@ -85,7 +86,8 @@ fn cell_mark_of(
     unit: usize,
 ) -> Mark
     requires { changed ≡ set_by (Cell cell) (instruction_at program.now unit) (known_by (slice_get states.now unit)) }
-    ensures { result ≡ mark_of (Cell cell) behind.now unit (instruction_at program.now unit) (known_by (slice_get states.now unit)) }
+    ensures { result ≡ mark_of (Cell cell) behind.now unit (instruction_at program.now unit)
+        (known_by (slice_get states.now unit)) }
 {
     let Some(insn) = program.at(unit) else {
         return Mark::Closed;

@@ -168,8 +168,10 @@ divided Remainder n = if n == 1 then op.SignedMod else op.Mod
 
 -- the opcode is the one that instructions of the form are spelled with
 abbrev pub IsOpcode : Form → ℕ → Type 0
-IsOpcode (forms.Immediate width operation) n = (n ≡ operation_code operation + alu_class width) × (operation_offset operation ≡ 0)
-IsOpcode (forms.Register width operation) n = (n ≡ operation_code operation + 8 + alu_class width) × (operation_offset operation ≡ 0)
+IsOpcode (forms.Immediate width operation) n =
+    (n ≡ operation_code operation + alu_class width) × (operation_offset operation ≡ 0)
+IsOpcode (forms.Register width operation) n =
+    (n ≡ operation_code operation + 8 + alu_class width) × (operation_offset operation ≡ 0)
 IsOpcode (forms.DivideImmediate width division) n = n ≡ operation_code (divided division 0) + alu_class width
 IsOpcode (forms.DivideRegister width division) n = n ≡ operation_code (divided division 0) + 8 + alu_class width
 IsOpcode (forms.MoveRegister width) n = n ≡ 0xb8 + alu_class width

@@ -20,8 +20,10 @@ OneSpelling = (a b : List ℕ) (program : List Insn) → SpellsProgram a program
 
 -- no bytes have two first faults
 abbrev pub OneFirstFault : Type 0
-OneFirstFault = (bytes : List ℕ) (f g : Fault) (u v : ℕ) → IsFirstFault bytes f u → IsFirstFault bytes g v → (f ≡ g) × (u ≡ v)
+OneFirstFault =
+    (bytes : List ℕ) (f g : Fault) (u v : ℕ) → IsFirstFault bytes f u → IsFirstFault bytes g v → (f ≡ g) × (u ≡ v)
 
 -- a program's bytes have no first fault
 abbrev pub NoFaultInPrograms : Type 0
-NoFaultInPrograms = (bytes : List ℕ) (program : List Insn) (fault : Fault) (unit : ℕ) → SpellsProgram bytes program → IsFirstFault bytes fault unit → ⊥
+NoFaultInPrograms = (bytes : List ℕ) (program : List Insn) (fault : Fault) (unit : ℕ) → SpellsProgram bytes program →
+    IsFirstFault bytes fault unit → ⊥

@@ -28,7 +28,8 @@ pub record IsFaultAt (bytes : List ℕ) (fault : Fault) (unit : ℕ) (before : L
 -- the first fault and its unit: the length, then how many units, then the instructions from the front
 pub record IsFirstFault (bytes : List ℕ) (fault : Fault) (unit : ℕ) : Type 0 where
   pub by_length : length bytes % 8 ≢ 0 → (fault ≡ faults.Length) × (unit ≡ length bytes / 8)
-  pub by_count : length bytes % 8 ≡ 0 → (length bytes ≡ 0) ⊎ (8 * most_units < length bytes) → (fault ≡ faults.Count) × (unit ≡ 0)
+  pub by_count : length bytes % 8 ≡ 0 → (length bytes ≡ 0) ⊎ (8 * most_units < length bytes) →
+      (fault ≡ faults.Count) × (unit ≡ 0)
   pub by_instruction : length bytes % 8 ≡ 0 → 0 < length bytes → length bytes ≤ 8 * most_units →
       (before : List Insn) × IsFaultAt bytes fault unit before
 

@@ -40,22 +40,28 @@ is_no_swap n = not (n == 16 || n == 32 || n == 64)
 abbrev pub is_reserved_set : Fields → Bool
 is_reserved_set f = is_set f.opcode || is_set f.dst || is_set f.src || is_set f.offset
 
--- the checks of an instruction in their order, behind that of its opcode: used registers, a form that is left out, operands that choose, unused fields, the second half
+-- the checks of an instruction in their order, behind that of its opcode: used registers, a form that is left out,
+-- operands that choose, unused fields, the second half
 abbrev pub checks_of : Form → Fields → List ℕ → List (Bool × Fault)
 checks_of (forms.Immediate width operation) f behind =
     (is_past f.dst, faults.Register) ∷ (is_set f.src, faults.Reserved) ∷ (is_set f.offset, faults.Reserved) ∷ []
 checks_of (forms.Register width operation) f behind =
-    (is_past f.dst, faults.Register) ∷ (is_past f.src, faults.Register) ∷ (is_set f.offset, faults.Reserved) ∷ (is_set f.imm, faults.Reserved) ∷ []
+    (is_past f.dst, faults.Register) ∷ (is_past f.src, faults.Register) ∷ (is_set f.offset, faults.Reserved) ∷
+    (is_set f.imm, faults.Reserved) ∷ []
 checks_of (forms.DivideImmediate width division) f behind =
     (is_past f.dst, faults.Register) ∷ (nat_lt 1 f.offset, faults.Operand) ∷ (is_set f.src, faults.Reserved) ∷ []
 checks_of (forms.DivideRegister width division) f behind =
-    (is_past f.dst, faults.Register) ∷ (is_past f.src, faults.Register) ∷ (nat_lt 1 f.offset, faults.Operand) ∷ (is_set f.imm, faults.Reserved) ∷ []
+    (is_past f.dst, faults.Register) ∷ (is_past f.src, faults.Register) ∷ (nat_lt 1 f.offset, faults.Operand) ∷
+    (is_set f.imm, faults.Reserved) ∷ []
 checks_of (forms.MoveRegister width) f behind =
-    (is_past f.dst, faults.Register) ∷ (is_past f.src, faults.Register) ∷ (is_no_part width f.offset, faults.Operand) ∷ (is_set f.imm, faults.Reserved) ∷ []
+    (is_past f.dst, faults.Register) ∷ (is_past f.src, faults.Register) ∷ (is_no_part width f.offset, faults.Operand) ∷
+    (is_set f.imm, faults.Reserved) ∷ []
 checks_of (forms.Negate width) f behind =
-    (is_past f.dst, faults.Register) ∷ (is_set f.src, faults.Reserved) ∷ (is_set f.offset, faults.Reserved) ∷ (is_set f.imm, faults.Reserved) ∷ []
+    (is_past f.dst, faults.Register) ∷ (is_set f.src, faults.Reserved) ∷ (is_set f.offset, faults.Reserved) ∷
+    (is_set f.imm, faults.Reserved) ∷ []
 checks_of (forms.Swap order) f behind =
-    (is_past f.dst, faults.Register) ∷ (is_no_swap f.imm, faults.Operand) ∷ (is_set f.src, faults.Reserved) ∷ (is_set f.offset, faults.Reserved) ∷ []
+    (is_past f.dst, faults.Register) ∷ (is_no_swap f.imm, faults.Operand) ∷ (is_set f.src, faults.Reserved) ∷
+    (is_set f.offset, faults.Reserved) ∷ []
 checks_of forms.LoadImmediate f behind =
     (is_past f.dst, faults.Register) ∷ (is_set f.src, faults.LeftOut) ∷ (is_set f.offset, faults.Reserved) ∷
     (nat_lt (length behind) 8, faults.WideCut) ∷ (is_reserved_set (fields_of behind), faults.Reserved) ∷ []
@@ -78,7 +84,8 @@ checks_of (forms.StoreRegister _) f behind =
 checks_of forms.Call f behind =
     (is_set f.src, faults.LeftOut) ∷ (is_set f.dst, faults.Reserved) ∷ (is_set f.offset, faults.Reserved) ∷ []
 checks_of forms.Exit f behind =
-    (is_set f.dst, faults.Reserved) ∷ (is_set f.src, faults.Reserved) ∷ (is_set f.offset, faults.Reserved) ∷ (is_set f.imm, faults.Reserved) ∷ []
+    (is_set f.dst, faults.Reserved) ∷ (is_set f.src, faults.Reserved) ∷ (is_set f.offset, faults.Reserved) ∷
+    (is_set f.imm, faults.Reserved) ∷ []
 checks_of forms.LeftOut f behind = (true, faults.LeftOut) ∷ []
 checks_of forms.Unknown f behind = (true, faults.Opcode) ∷ []
 

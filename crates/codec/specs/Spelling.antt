@@ -91,20 +91,26 @@ swap_code Reversed = 0xd7
 
 -- the units of an instruction: one, or two of a wide one
 abbrev pub spelling : Insn → List Fields
-spelling (Arithmetic w o dst (Immediate n)) = fields (operation_code o + alu_class w) dst 0 (operation_offset o) (cast_unsigned w32 n) ∷ []
-spelling (Arithmetic w o dst (Register src)) = fields (operation_code o + 8 + alu_class w) dst src (operation_offset o) 0 ∷ []
+spelling (Arithmetic w o dst (Immediate n)) =
+    fields (operation_code o + alu_class w) dst 0 (operation_offset o) (cast_unsigned w32 n) ∷ []
+spelling (Arithmetic w o dst (Register src)) =
+    fields (operation_code o + 8 + alu_class w) dst src (operation_offset o) 0 ∷ []
 spelling (Negate w dst) = fields (0x80 + alu_class w) dst 0 0 0 ∷ []
 spelling (SignExtend w part dst src) = fields (0xb8 + alu_class w) dst src (8 * part_bytes part) 0 ∷ []
 spelling (Swap order bytes dst) = fields (swap_code order) dst 0 0 (8 * swapped_bytes bytes) ∷ []
 spelling (LoadImmediate dst number) = fields 0x18 dst 0 0 (number % 2 ^ 32) ∷ fields 0 0 0 0 (number / 2 ^ 32) ∷ []
 spelling (Jump distance) = fields 0x05 0 0 (cast_unsigned w16 distance) 0 ∷ []
 spelling (LongJump distance) = fields 0x06 0 0 0 (cast_unsigned w32 distance) ∷ []
-spelling (Branch w o dst (Immediate n) distance) = fields (condition_code o + jump_class w) dst 0 (cast_unsigned w16 distance) (cast_unsigned w32 n) ∷ []
-spelling (Branch w o dst (Register src) distance) = fields (condition_code o + 8 + jump_class w) dst src (cast_unsigned w16 distance) 0 ∷ []
+spelling (Branch w o dst (Immediate n) distance) =
+    fields (condition_code o + jump_class w) dst 0 (cast_unsigned w16 distance) (cast_unsigned w32 n) ∷ []
+spelling (Branch w o dst (Register src) distance) =
+    fields (condition_code o + 8 + jump_class w) dst src (cast_unsigned w16 distance) 0 ∷ []
 spelling (Load bytes dst base offset) = fields (0x61 + size_code bytes) dst base (cast_unsigned w16 offset) 0 ∷ []
 spelling (LoadSigned part dst base offset) = fields (0x81 + part_code part) dst base (cast_unsigned w16 offset) 0 ∷ []
-spelling (Store bytes base offset (Immediate n)) = fields (0x62 + size_code bytes) base 0 (cast_unsigned w16 offset) (cast_unsigned w32 n) ∷ []
-spelling (Store bytes base offset (Register src)) = fields (0x63 + size_code bytes) base src (cast_unsigned w16 offset) 0 ∷ []
+spelling (Store bytes base offset (Immediate n)) =
+    fields (0x62 + size_code bytes) base 0 (cast_unsigned w16 offset) (cast_unsigned w32 n) ∷ []
+spelling (Store bytes base offset (Register src)) =
+    fields (0x63 + size_code bytes) base src (cast_unsigned w16 offset) 0 ∷ []
 spelling (Call helper) = fields 0x85 0 0 0 (cast_unsigned w32 helper) ∷ []
 spelling Exit = fields 0x95 0 0 0 0 ∷ []
 

@@ -17,7 +17,8 @@ pub fn immediate(width: Width, operation: Operation, fields: Fields) -> Result<I
     requires opcode { fields.opcode ≡ operation_code operation + alu_class width }
     requires offset { operation_offset operation ≡ 0 }
     ensures found { IfOk result (λ i. IsInsn i × (spelling i ≡ fields ∷ [])) }
-    ensures fault { (behind : List ℕ) → IfErr result (λ e. first_fault (checks_of (forms.Immediate width operation) fields behind) ≡ Some e) }
+    ensures fault { (behind : List ℕ) →
+        IfErr result (λ e. first_fault (checks_of (forms.Immediate width operation) fields behind) ≡ Some e) }
 {
     let dst = used(fields.dst)?;
     if fields.src != 0 || fields.offset != 0 {
@@ -36,7 +37,8 @@ pub fn register(width: Width, operation: Operation, fields: Fields) -> Result<In
     requires opcode { fields.opcode ≡ operation_code operation + 8 + alu_class width }
     requires offset { operation_offset operation ≡ 0 }
     ensures found { IfOk result (λ i. IsInsn i × (spelling i ≡ fields ∷ [])) }
-    ensures fault { (behind : List ℕ) → IfErr result (λ e. first_fault (checks_of (forms.Register width operation) fields behind) ≡ Some e) }
+    ensures fault { (behind : List ℕ) →
+        IfErr result (λ e. first_fault (checks_of (forms.Register width operation) fields behind) ≡ Some e) }
 {
     let dst = used(fields.dst)?;
     let src = used(fields.src)?;
@@ -73,7 +75,8 @@ fn chosen(division: Division, offset: u16) -> Result<Operation, Fault>
 pub fn divide_immediate(width: Width, division: Division, fields: Fields) -> Result<Insn, Fault>
     requires opcode { fields.opcode ≡ operation_code (divided division 0) + alu_class width }
     ensures found { IfOk result (λ i. IsInsn i × (spelling i ≡ fields ∷ [])) }
-    ensures fault { (behind : List ℕ) → IfErr result (λ e. first_fault (checks_of (forms.DivideImmediate width division) fields behind) ≡ Some e) }
+    ensures fault { (behind : List ℕ) →
+        IfErr result (λ e. first_fault (checks_of (forms.DivideImmediate width division) fields behind) ≡ Some e) }
 {
     let dst = used(fields.dst)?;
     let operation = chosen(division, fields.offset)?;
@@ -92,7 +95,8 @@ pub fn divide_immediate(width: Width, division: Division, fields: Fields) -> Res
 pub fn divide_register(width: Width, division: Division, fields: Fields) -> Result<Insn, Fault>
     requires opcode { fields.opcode ≡ operation_code (divided division 0) + 8 + alu_class width }
     ensures found { IfOk result (λ i. IsInsn i × (spelling i ≡ fields ∷ [])) }
-    ensures fault { (behind : List ℕ) → IfErr result (λ e. first_fault (checks_of (forms.DivideRegister width division) fields behind) ≡ Some e) }
+    ensures fault { (behind : List ℕ) →
+        IfErr result (λ e. first_fault (checks_of (forms.DivideRegister width division) fields behind) ≡ Some e) }
 {
     let dst = used(fields.dst)?;
     let src = used(fields.src)?;
@@ -129,7 +133,8 @@ fn part(width: Width, offset: u16) -> Result<Option<Narrow>, Fault>
 pub fn move_register(width: Width, fields: Fields) -> Result<Insn, Fault>
     requires opcode { fields.opcode ≡ 0xb8 + alu_class width }
     ensures found { IfOk result (λ i. IsInsn i × (spelling i ≡ fields ∷ [])) }
-    ensures fault { (behind : List ℕ) → IfErr result (λ e. first_fault (checks_of (forms.MoveRegister width) fields behind) ≡ Some e) }
+    ensures fault { (behind : List ℕ) →
+        IfErr result (λ e. first_fault (checks_of (forms.MoveRegister width) fields behind) ≡ Some e) }
 {
     let dst = used(fields.dst)?;
     let src = used(fields.src)?;
@@ -157,7 +162,8 @@ pub fn move_register(width: Width, fields: Fields) -> Result<Insn, Fault>
 pub fn negate(width: Width, fields: Fields) -> Result<Insn, Fault>
     requires opcode { fields.opcode ≡ 0x80 + alu_class width }
     ensures found { IfOk result (λ i. IsInsn i × (spelling i ≡ fields ∷ [])) }
-    ensures fault { (behind : List ℕ) → IfErr result (λ e. first_fault (checks_of (forms.Negate width) fields behind) ≡ Some e) }
+    ensures fault { (behind : List ℕ) →
+        IfErr result (λ e. first_fault (checks_of (forms.Negate width) fields behind) ≡ Some e) }
 {
     let dst = used(fields.dst)?;
     if fields.src != 0 || fields.offset != 0 || fields.imm != 0 {
@@ -183,7 +189,8 @@ fn swap_size(bits: u32) -> Result<SwapSize, Fault>
 pub fn swap(order: ByteOrder, fields: Fields) -> Result<Insn, Fault>
     requires opcode { fields.opcode ≡ swap_code order }
     ensures found { IfOk result (λ i. IsInsn i × (spelling i ≡ fields ∷ [])) }
-    ensures fault { (behind : List ℕ) → IfErr result (λ e. first_fault (checks_of (forms.Swap order) fields behind) ≡ Some e) }
+    ensures fault { (behind : List ℕ) →
+        IfErr result (λ e. first_fault (checks_of (forms.Swap order) fields behind) ≡ Some e) }
 {
     let dst = used(fields.dst)?;
     let size = swap_size(fields.imm)?;

@@ -104,7 +104,8 @@ pub fn decode(alloc: Global, bytes: &[u8]) -> Result<Program, CodecError>
     // An error is the first fault, unless memory runs out.
     ensures fault { IfErr result (λ e. IsAnswered bytes.now e) }
     // What spells a program is read as that, unless memory runs out.
-    ensures only { (p : List InsnValue) → SpellsProgram bytes.now p → MatchResult result (λ q. q ≡ p) (λ e. e ≡ CodecError.Memory) }
+    ensures only { (p : List InsnValue) → SpellsProgram bytes.now p →
+        MatchResult result (λ q. q ≡ p) (λ e. e ≡ CodecError.Memory) }
 {
     let units = bytes.len() / 8;
     if bytes.len() % 8 != 0 {
@@ -119,7 +120,8 @@ pub fn decode(alloc: Global, bytes: &[u8]) -> Result<Program, CodecError>
 /// The first fault of the bytes with its unit, as `decode` tells it; none exactly where they spell a program. So every
 /// list of bytes spells a program or has a first fault. It takes no memory.
 pub fn first_fault(bytes: &[u8]) -> Option<(Fault, usize)>
-    ensures { MatchOption result ((p : List InsnValue) × SpellsProgram bytes.now p) (λ found. IsFirstFault bytes.now found.0 found.1) }
+    ensures { MatchOption result ((p : List InsnValue)
+        × SpellsProgram bytes.now p) (λ found. IsFirstFault bytes.now found.0 found.1) }
 {
     let units = bytes.len() / 8;
     if bytes.len() % 8 != 0 {
@@ -136,7 +138,8 @@ fn first_fault_of(bytes: &[u8], units: usize) -> Option<(Fault, usize)>
     requires whole { length bytes.now ≡ 8 * units }
     requires some { 0 < units }
     requires bound { units ≤ 4096 }
-    ensures { MatchOption result ((p : List InsnValue) × SpellsProgram bytes.now p) (λ found. IsFirstFault bytes.now found.0 found.1) }
+    ensures { MatchOption result ((p : List InsnValue)
+        × SpellsProgram bytes.now p) (λ found. IsFirstFault bytes.now found.0 found.1) }
 {
     let mut unit = 0;
     while unit < units {

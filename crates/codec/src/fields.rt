@@ -48,7 +48,8 @@ fn read_half(bytes: &[u8]) -> u16
 /// The number in the first four bytes.
 fn read_word(bytes: &[u8]) -> u32
     requires { 4 ≤ length bytes.now }
-    ensures { result ≡ from_le_bytes w32 (slice_index bytes.now 0 ∷ slice_index bytes.now 1 ∷ slice_index bytes.now 2 ∷ slice_index bytes.now 3 ∷ []) }
+    ensures { result ≡ from_le_bytes w32
+        (slice_index bytes.now 0 ∷ slice_index bytes.now 1 ∷ slice_index bytes.now 2 ∷ slice_index bytes.now 3 ∷ []) }
 {
     LittleEndian::read_u32(bytes)
 }

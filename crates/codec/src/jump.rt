@@ -27,7 +27,8 @@ pub fn near(fields: Fields) -> Result<Insn, Fault>
 pub fn long(fields: Fields) -> Result<Insn, Fault>
     requires opcode { fields.opcode ≡ 0x06 }
     ensures found { IfOk result (λ i. IsInsn i × (spelling i ≡ fields ∷ [])) }
-    ensures fault { (behind : List ℕ) → IfErr result (λ e. first_fault (checks_of forms.LongJump fields behind) ≡ Some e) }
+    ensures fault { (behind : List ℕ) →
+        IfErr result (λ e. first_fault (checks_of forms.LongJump fields behind) ≡ Some e) }
 {
     if fields.dst != 0 || fields.src != 0 || fields.offset != 0 {
         return Err(Fault::Reserved);
@@ -41,7 +42,8 @@ pub fn long(fields: Fields) -> Result<Insn, Fault>
 pub fn branch_immediate(width: Width, condition: Condition, fields: Fields) -> Result<Insn, Fault>
     requires opcode { fields.opcode ≡ condition_code condition + jump_class width }
     ensures found { IfOk result (λ i. IsInsn i × (spelling i ≡ fields ∷ [])) }
-    ensures fault { (behind : List ℕ) → IfErr result (λ e. first_fault (checks_of (forms.BranchImmediate width condition) fields behind) ≡ Some e) }
+    ensures fault { (behind : List ℕ) →
+        IfErr result (λ e. first_fault (checks_of (forms.BranchImmediate width condition) fields behind) ≡ Some e) }
 {
     let dst = used(fields.dst)?;
     if fields.src != 0 {
@@ -60,7 +62,8 @@ pub fn branch_immediate(width: Width, condition: Condition, fields: Fields) -> R
 pub fn branch_register(width: Width, condition: Condition, fields: Fields) -> Result<Insn, Fault>
     requires opcode { fields.opcode ≡ condition_code condition + 8 + jump_class width }
     ensures found { IfOk result (λ i. IsInsn i × (spelling i ≡ fields ∷ [])) }
-    ensures fault { (behind : List ℕ) → IfErr result (λ e. first_fault (checks_of (forms.BranchRegister width condition) fields behind) ≡ Some e) }
+    ensures fault { (behind : List ℕ) →
+        IfErr result (λ e. first_fault (checks_of (forms.BranchRegister width condition) fields behind) ≡ Some e) }
 {
     let dst = used(fields.dst)?;
     let src = used(fields.src)?;

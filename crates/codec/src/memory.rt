@@ -13,7 +13,8 @@ use word::Narrow;
 pub fn load(size: Size, fields: Fields) -> Result<Insn, Fault>
     requires opcode { fields.opcode ≡ 0x61 + size_code size }
     ensures found { IfOk result (λ i. IsInsn i × (spelling i ≡ fields ∷ [])) }
-    ensures fault { (behind : List ℕ) → IfErr result (λ e. first_fault (checks_of (forms.Load size) fields behind) ≡ Some e) }
+    ensures fault { (behind : List ℕ) →
+        IfErr result (λ e. first_fault (checks_of (forms.Load size) fields behind) ≡ Some e) }
 {
     let dst = used(fields.dst)?;
     let base = used(fields.src)?;
@@ -32,7 +33,8 @@ pub fn load(size: Size, fields: Fields) -> Result<Insn, Fault>
 pub fn load_signed(part: Narrow, fields: Fields) -> Result<Insn, Fault>
     requires opcode { fields.opcode ≡ 0x81 + part_code part }
     ensures found { IfOk result (λ i. IsInsn i × (spelling i ≡ fields ∷ [])) }
-    ensures fault { (behind : List ℕ) → IfErr result (λ e. first_fault (checks_of (forms.LoadSigned part) fields behind) ≡ Some e) }
+    ensures fault { (behind : List ℕ) →
+        IfErr result (λ e. first_fault (checks_of (forms.LoadSigned part) fields behind) ≡ Some e) }
 {
     let dst = used(fields.dst)?;
     let base = used(fields.src)?;
@@ -51,7 +53,8 @@ pub fn load_signed(part: Narrow, fields: Fields) -> Result<Insn, Fault>
 pub fn store_immediate(size: Size, fields: Fields) -> Result<Insn, Fault>
     requires opcode { fields.opcode ≡ 0x62 + size_code size }
     ensures found { IfOk result (λ i. IsInsn i × (spelling i ≡ fields ∷ [])) }
-    ensures fault { (behind : List ℕ) → IfErr result (λ e. first_fault (checks_of (forms.StoreImmediate size) fields behind) ≡ Some e) }
+    ensures fault { (behind : List ℕ) →
+        IfErr result (λ e. first_fault (checks_of (forms.StoreImmediate size) fields behind) ≡ Some e) }
 {
     let base = used(fields.dst)?;
     if fields.src != 0 {
@@ -69,7 +72,8 @@ pub fn store_immediate(size: Size, fields: Fields) -> Result<Insn, Fault>
 pub fn store_register(size: Size, fields: Fields) -> Result<Insn, Fault>
     requires opcode { fields.opcode ≡ 0x63 + size_code size }
     ensures found { IfOk result (λ i. IsInsn i × (spelling i ≡ fields ∷ [])) }
-    ensures fault { (behind : List ℕ) → IfErr result (λ e. first_fault (checks_of (forms.StoreRegister size) fields behind) ≡ Some e) }
+    ensures fault { (behind : List ℕ) →
+        IfErr result (λ e. first_fault (checks_of (forms.StoreRegister size) fields behind) ≡ Some e) }
 {
     let base = used(fields.dst)?;
     let src = used(fields.src)?;
@@ -87,7 +91,8 @@ pub fn store_register(size: Size, fields: Fields) -> Result<Insn, Fault>
 /// The wide instruction, whose second half stands behind the fields (section 3.2).
 pub fn load_immediate(fields: Fields, behind: &[u8]) -> Result<Insn, Fault>
     requires opcode { fields.opcode ≡ 0x18 }
-    ensures found { IfOk result (λ i. IsInsn i × (8 ≤ length behind.now) × (spelling i ≡ fields ∷ fields_of behind.now ∷ [])) }
+    ensures found { IfOk result (λ i. IsInsn i × (8 ≤ length behind.now)
+        × (spelling i ≡ fields ∷ fields_of behind.now ∷ [])) }
     ensures fault { IfErr result (λ e. first_fault (checks_of forms.LoadImmediate fields behind.now) ≡ Some e) }
 {
     let dst = used(fields.dst)?;

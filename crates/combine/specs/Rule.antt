@@ -12,7 +12,8 @@ majority xs = unwrap_or (find (is_most xs) xs) 0
 
 -- at most half of the places have less, and more than half have no more
 unfoldable pub is_middle : List ℕ → ℕ → Bool
-is_middle xs v = nat_le (count_by (λ x. nat_lt x v) xs) (length xs / 2) && nat_lt (length xs / 2) (count_by (λ x. nat_le x v) xs)
+is_middle xs v =
+    nat_le (count_by (λ x. nat_lt x v) xs) (length xs / 2) && nat_lt (length xs / 2) (count_by (λ x. nat_le x v) xs)
 
 -- the median of a list, 0 of the empty one
 unfoldable pub median : List ℕ → ℕ

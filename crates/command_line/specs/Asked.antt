@@ -14,7 +14,8 @@ words_of = map (λ word. word.now)
 
 -- the subcommand's name, and what it takes of its words
 abbrev pub told_in : Usage → List Text → Option Told
-told_in usage words = option_map (λ met. record { name = usage.name; value = λ name. value_at name met }) (taken_in usage words)
+told_in usage words =
+    option_map (λ met. record { name = usage.name; value = λ name. value_at name met }) (taken_in usage words)
 
 -- what `clap` takes: a subcommand's name, and its words
 abbrev pub spelt : List Text → Option Told
@@ -37,7 +38,8 @@ has_notation told = not (has (codes "asm") told && has (codes "elf") told) && wa
 
 -- the order and the liar are numbers, and nobody lies in a table that is not filled in
 abbrev pub has_filling : Told → Bool
-has_filling told = reads order_in (codes "loyal") told && reads general_in (codes "lie") told && wants (codes "lie") (codes "loyal") told
+has_filling told = reads order_in (codes "loyal") told && reads general_in (codes "lie") told
+    && wants (codes "lie") (codes "loyal") told
 
 -- somebody's tree is drawn in one way, to a depth
 abbrev pub has_tree : Told → Bool

@@ -29,7 +29,14 @@ leaf usage = record { top = shape usage; subs = [] }
 
 -- the program before its subcommands
 abbrev pub app_before : App
-app_before = record { top = record (new_shape (codes "byzlab")) { no_binary_name = true; subcommand_required = true; has_version = true }; subs = [] }
+app_before = record {
+  top = record (new_shape (codes "byzlab")) {
+    no_binary_name = true;
+    subcommand_required = true;
+    has_version = true;
+  };
+  subs = [];
+}
 
 -- the program with these subcommands
 abbrev pub app_with : List Usage → App

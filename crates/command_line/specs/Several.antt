@@ -77,10 +77,12 @@ request_of name kept files = name ∷ kept ++ codes "--" ∷ files
 
 abbrev pub requests_by : Text → List Text → ℕ → Parted → List (List Text)
 requests_by name words number parts =
-    if are_several number parts then map (request_of name parts.kept) (groups number parts.files) else (name ∷ words) ∷ []
+    if are_several number parts then map (request_of name parts.kept) (groups number parts.files)
+    else (name ∷ words) ∷ []
 
 -- the words of each request: where verdicts are asked for, for the files of each, and else the words themselves
 abbrev pub requests_of : List Text → List (List Text)
 requests_of [] = [] ∷ []
 requests_of (name ∷ words) =
-    option_map_or (λ usage. requests_by name words (length usage.places) (parted usage.flags false words)) (judging name) ((name ∷ words) ∷ [])
+    option_map_or (λ usage. requests_by name words (length usage.places) (parted usage.flags false words))
+    (judging name) ((name ∷ words) ∷ [])

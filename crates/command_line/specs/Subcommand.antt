@@ -19,7 +19,11 @@ help_of (variant.Option name value help) = help
 help_of (variant.Letter name c value help) = help
 
 abbrev pub usage_of : Subcommand → Usage
-usage_of s = record { name = s.name.now; places = map (λ place. place.name.now) s.places.now; flags = map flag_of s.flags.now }
+usage_of s = record {
+  name = s.name.now;
+  places = map (λ place. place.name.now) s.places.now;
+  flags = map flag_of s.flags.now;
+}
 
 -- the rule of a flag, and the shape of a subcommand
 unfoldable pub rule_for : declared.Flag → Rule

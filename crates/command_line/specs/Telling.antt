@@ -8,18 +8,23 @@ use Rattle.command_line.specs.declared.errors.Misuse.TheVariants.{Traitors, Of, 
 
 -- the word is none that the option takes, and this is what it takes
 abbrev pub invalid : List ℕ → List ℕ → List ℕ → Option (List ℕ)
-invalid word option wanted = option_map (λ quoted. codes "invalid value " ++ quoted ++ codes " for '" ++ option ++ codes "': " ++ wanted) (debug_str word)
+invalid word option wanted = option_map
+    (λ quoted. codes "invalid value " ++ quoted ++ codes " for '" ++ option ++ codes "': " ++ wanted) (debug_str word)
 
 abbrev pub misuse_text : Misuse → Option (List ℕ)
-misuse_text (Traitors word) = invalid (string_bytes word) (codes "--traitors <G,H>") (codes "the numbers of generals, 0 to 12, joined by commas")
+misuse_text (Traitors word) =
+    invalid (string_bytes word) (codes "--traitors <G,H>") (codes "the numbers of generals, 0 to 12, joined by commas")
 misuse_text (Of word) = invalid (string_bytes word) (codes "--of <G>") (codes "the number of a general, 0 to 12")
 misuse_text (Lie word) = invalid (string_bytes word) (codes "--lie <G>") (codes "the number of a general, 0 to 12")
 misuse_text (Loyal word) = invalid (string_bytes word) (codes "--loyal <V>") (codes "an order, 0 to 4294967295")
-misuse_text (Most word) = invalid (string_bytes word) (codes "--most <N>") (codes "a whole number, 1 to 18446744073709551615")
+misuse_text (Most word) =
+    invalid (string_bytes word) (codes "--most <N>") (codes "a whole number, 1 to 18446744073709551615")
 misuse_text (Depth word) = invalid (string_bytes word) (codes "--depth <D>") (codes "a number of levels, 0 to 4")
-misuse_text (Seed word) = invalid (string_bytes word) (codes "--seed <S>") (codes "a whole number, 0 to 18446744073709551615")
+misuse_text (Seed word) =
+    invalid (string_bytes word) (codes "--seed <S>") (codes "a whole number, 0 to 18446744073709551615")
 misuse_text NobodyNamed = Some (codes "the argument '--of <G>' is required")
-misuse_text TwoDrawings = Some (codes "the arguments '--dot' and '--svg' cannot be used with each other, or with '--text' or '--ascii'")
+misuse_text TwoDrawings =
+    Some (codes "the arguments '--dot' and '--svg' cannot be used with each other, or with '--text' or '--ascii'")
 misuse_text TwoNotations = Some (codes "the argument '--elf' cannot be used with '--asm'")
 misuse_text UnitsOfParts = Some (codes "the argument '--units' cannot be used with '--partial'")
 misuse_text TwoCourses = Some (codes "the argument '--schedule <FILE>' cannot be used with '--chronicle <FILE>'")

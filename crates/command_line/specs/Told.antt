@@ -32,7 +32,8 @@ use Rattle.command_line.specs.declared.errors.Misuse.TheVariants.{Traitors, Of, 
 use Rattle.command_line.specs.declared.errors.TaskError.{TaskError}
 use Rattle.command_line.specs.declared.errors.TaskError.TheVariants as error
 
--- a subcommand's name, and what was met behind it by each name: the word at a place, the value of an option, `true` of a switch
+-- a subcommand's name, and what was met behind it by each name: the word at a place, the value of an option, `true` of
+-- a switch
 pub record Told : Type 0 where
   pub name : Text
   pub value : Text → Option Text
@@ -68,8 +69,10 @@ coursed = codes "draw" ∷ codes "page" ∷ []
 -- ---- what the words say of a part of a task
 
 abbrev pub IsNotation : Told → Notation → Type 0
-IsNotation told Bytecode = (has (codes "asm") told ≡ false) × (has (codes "elf") told ≡ false) × (word_of (codes "entry") told ≡ None)
-IsNotation told Assembly = (has (codes "asm") told ≡ true) × (has (codes "elf") told ≡ false) × (word_of (codes "entry") told ≡ None)
+IsNotation told Bytecode =
+    (has (codes "asm") told ≡ false) × (has (codes "elf") told ≡ false) × (word_of (codes "entry") told ≡ None)
+IsNotation told Assembly =
+    (has (codes "asm") told ≡ true) × (has (codes "elf") told ≡ false) × (word_of (codes "entry") told ≡ None)
 IsNotation told (Object entry) = (has (codes "asm") told ≡ false) × (has (codes "elf") told ≡ true)
     × (word_of (codes "entry") told ≡ option_map string_bytes entry)
 
@@ -113,23 +116,28 @@ NamesSeed told None = word_of (codes "seed") told ≡ None
 NamesSeed told (Some seed) = (word_of (codes "seed") told >>= seed_in) ≡ Some seed
 
 abbrev pub AreTurns : Told → Turns → Type 0
-AreTurns told (OfFile file) = (word_of (codes "schedule") told ≡ option_map string_bytes file) × (word_of (codes "seed") told ≡ None)
+AreTurns told (OfFile file) =
+    (word_of (codes "schedule") told ≡ option_map string_bytes file) × (word_of (codes "seed") told ≡ None)
     × (word_of (codes "schedule-out") told ≡ None)
 AreTurns told (OfSeed seed target) = (word_of (codes "schedule") told ≡ None) × NamesSeed told (Some seed)
     × (word_of (codes "schedule-out") told ≡ option_map string_bytes target)
 
 -- the word at the second place names a chronicle, or lists the accesses
 abbrev pub AreAccesses : Told → Accesses → Type 0
-AreAccesses told (OfChronicle file) = (word_of (codes "CHRONICLE") told ≡ Some (string_bytes file)) × (has (codes "accesses") told ≡ false)
-AreAccesses told (Listed text) = (word_of (codes "CHRONICLE") told ≡ Some (string_bytes text)) × (has (codes "accesses") told ≡ true)
+AreAccesses told (OfChronicle file) =
+    (word_of (codes "CHRONICLE") told ≡ Some (string_bytes file)) × (has (codes "accesses") told ≡ false)
+AreAccesses told (Listed text) =
+    (word_of (codes "CHRONICLE") told ≡ Some (string_bytes text)) × (has (codes "accesses") told ≡ true)
 
 -- lines of text are asked for: they are drawn too where nothing is
 abbrev pub is_text : Told → Bool
 is_text told = has (codes "text") told || has (codes "ascii") told
 
 abbrev pub IsDrawing : Told → Drawing → Type 0
-IsDrawing told Boxes = (has (codes "ascii") told ≡ false) × (has (codes "dot") told ≡ false) × (has (codes "svg") told ≡ false)
-IsDrawing told Ascii = (has (codes "ascii") told ≡ true) × (has (codes "dot") told ≡ false) × (has (codes "svg") told ≡ false)
+IsDrawing told Boxes =
+    (has (codes "ascii") told ≡ false) × (has (codes "dot") told ≡ false) × (has (codes "svg") told ≡ false)
+IsDrawing told Ascii =
+    (has (codes "ascii") told ≡ true) × (has (codes "dot") told ≡ false) × (has (codes "svg") told ≡ false)
 IsDrawing told Graph = (is_text told ≡ false) × (has (codes "dot") told ≡ true) × (has (codes "svg") told ≡ false)
 IsDrawing told Svg = (is_text told ≡ false) × (has (codes "dot") told ≡ false) × (has (codes "svg") told ≡ true)
 
@@ -139,8 +147,10 @@ levels_in None = Some 4
 levels_in (Some word) = depth_in word
 
 abbrev pub IsCourse : Told → Course → Type 0
-IsCourse told (Scheduled file) = (word_of (codes "schedule") told ≡ option_map string_bytes file) × (word_of (codes "chronicle") told ≡ None)
-IsCourse told (Recorded file) = (word_of (codes "schedule") told ≡ None) × (word_of (codes "chronicle") told ≡ Some (string_bytes file))
+IsCourse told (Scheduled file) =
+    (word_of (codes "schedule") told ≡ option_map string_bytes file) × (word_of (codes "chronicle") told ≡ None)
+IsCourse told (Recorded file) =
+    (word_of (codes "schedule") told ≡ None) × (word_of (codes "chronicle") told ≡ Some (string_bytes file))
 
 -- ---- the words say this task
 
@@ -159,10 +169,12 @@ Says told (AssemblePartly file spelling target explained) = (told.name ≡ codes
     × (has (codes "partial") told ≡ true)
 Says told (Disassemble file notation units explained) = (told.name ≡ codes "dis")
     × (word_of (codes "FILE") told ≡ Some (string_bytes file)) × IsNotation told notation
-    × (has (codes "units") told ≡ units) × (has (codes "explain") told ≡ explained) × (has (codes "partial") told ≡ false)
+    × (has (codes "units") told ≡ units) × (has (codes "explain") told ≡ explained)
+    × (has (codes "partial") told ≡ false)
 Says told (DisassemblePartly file notation explained) = (told.name ≡ codes "dis")
     × (word_of (codes "FILE") told ≡ Some (string_bytes file)) × IsNotation told notation
-    × (has (codes "units") told ≡ false) × (has (codes "explain") told ≡ explained) × (has (codes "partial") told ≡ true)
+    × (has (codes "units") told ≡ false) × (has (codes "explain") told ≡ explained)
+    × (has (codes "partial") told ≡ true)
 Says told (Book file) = (told.name ≡ codes "book")
     × (word_of (codes "FILE") told ≡ Some (string_bytes file))
     × (has (codes "explain") told ≡ false) × (word_of (codes "traitors") told ≡ None)
@@ -197,7 +209,8 @@ Says told (Retrace scenario accesses) = (told.name ≡ codes "schedule")
 
 -- the words ask for this: the task, and whether its answer is to be JSON, or one line
 abbrev pub Asks : Told → Request → Type 0
-Asks told request = Says told request.task × (has (codes "json") told ≡ request.json) × (has (codes "verdicts") told ≡ request.verdicts)
+Asks told request =
+    Says told request.task × (has (codes "json") told ≡ request.json) × (has (codes "verdicts") told ≡ request.verdicts)
 
 -- ---- the names of the task's files: of its only or first, of the second, and of the one that it writes
 
@@ -295,13 +308,18 @@ IsMisused told (Seed word) = (is_of (codes "play" ∷ []) told ≡ true)
 IsMisused told NobodyNamed = (is_of (codes "tree" ∷ []) told ≡ true) × (has (codes "of") told ≡ false)
 IsMisused told TwoDrawings = (is_of (codes "tree" ∷ []) told ≡ true)
     × (are_two (is_text told) (has (codes "dot") told) (has (codes "svg") told) ≡ true)
-IsMisused told TwoNotations = (is_of programs told ≡ true) × (has (codes "asm") told ≡ true) × (has (codes "elf") told ≡ true)
-IsMisused told UnitsOfParts = (is_of (codes "dis" ∷ []) told ≡ true) × (has (codes "units") told ≡ true) × (has (codes "partial") told ≡ true)
+IsMisused told TwoNotations =
+    (is_of programs told ≡ true) × (has (codes "asm") told ≡ true) × (has (codes "elf") told ≡ true)
+IsMisused told UnitsOfParts =
+    (is_of (codes "dis" ∷ []) told ≡ true) × (has (codes "units") told ≡ true) × (has (codes "partial") told ≡ true)
 IsMisused told TwoCourses = (is_of coursed told ≡ true)
     × (has (codes "schedule") told ≡ true) × (has (codes "chronicle") told ≡ true)
-IsMisused told EntryAlone = (is_of programs told ≡ true) × (has (codes "entry") told ≡ true) × (has (codes "elf") told ≡ false)
-IsMisused told OfAlone = (is_of campaigns told ≡ true) × (has (codes "of") told ≡ true) × (has (codes "explain") told ≡ false)
-IsMisused told LieAlone = (is_of (codes "table" ∷ []) told ≡ true) × (has (codes "lie") told ≡ true) × (has (codes "loyal") told ≡ false)
+IsMisused told EntryAlone =
+    (is_of programs told ≡ true) × (has (codes "entry") told ≡ true) × (has (codes "elf") told ≡ false)
+IsMisused told OfAlone =
+    (is_of campaigns told ≡ true) × (has (codes "of") told ≡ true) × (has (codes "explain") told ≡ false)
+IsMisused told LieAlone =
+    (is_of (codes "table" ∷ []) told ≡ true) × (has (codes "lie") told ≡ true) × (has (codes "loyal") told ≡ false)
 IsMisused told TwoSchedules = (is_of (codes "play" ∷ []) told ≡ true)
     × (has (codes "seed") told ≡ true) × (has (codes "schedule") told ≡ true)
 IsMisused told OutAlone = (is_of (codes "play" ∷ []) told ≡ true)

@@ -9,14 +9,15 @@ use Rattle.clap.specs.Walk.{attached_value}
 abbrev pub Text : Type 0
 Text = List ℕ
 
--- a switch `--NAME`, which has no value; an option `--NAME VALUE` or `--NAME=VALUE`; an option of this name and a letter, `-L VALUE`,
--- `-LVALUE` or `-L=VALUE`
+-- a switch `--NAME`, which has no value; an option `--NAME VALUE` or `--NAME=VALUE`; an option of this name and a
+-- letter, `-L VALUE`, `-LVALUE` or `-L=VALUE`
 pub data Flag : Type 0 where
   switch : Text → Flag
   option : Text → Flag
   letter : Text → ℕ → Flag
 
--- a subcommand: its name, the names of its places, each of which a word has to fill, and its flags, each of which may stand once
+-- a subcommand: its name, the names of its places, each of which a word has to fill, and its flags, each of which may
+-- stand once
 pub record Usage : Type 0 where
   pub name : Text
   pub places : List Text
@@ -32,7 +33,8 @@ is_short c (switch name) = false
 is_short c (option name) = false
 is_short c (letter name own) = own == c
 
--- ---- what a word looks like: `--`; `--NAME` or `--NAME=VALUE`; a hyphen, a letter and what stands behind it; or no flag
+-- ---- what a word looks like: `--`; `--NAME` or `--NAME=VALUE`; a hyphen, a letter and what stands behind it; or no
+-- flag
 
 pub data Look : Type 0 where
   end_of_flags : Look

@@ -7,7 +7,8 @@ abbrev pub check : Usage
 check = record {
   name = codes "check";
   places = codes "FILE" ∷ [];
-  flags = switch (codes "asm") ∷ switch (codes "elf") ∷ switch (codes "explain") ∷ switch (codes "trace") ∷ switch (codes "json") ∷ switch (codes "verdicts") ∷ option (codes "context") ∷ option (codes "entry") ∷ [];
+  flags = switch (codes "asm") ∷ switch (codes "elf") ∷ switch (codes "explain") ∷ switch (codes "trace") ∷ switch
+      (codes "json") ∷ switch (codes "verdicts") ∷ option (codes "context") ∷ option (codes "entry") ∷ [];
 }
 
 abbrev pub asm : Usage
@@ -21,7 +22,8 @@ abbrev pub dis : Usage
 dis = record {
   name = codes "dis";
   places = codes "FILE" ∷ [];
-  flags = switch (codes "elf") ∷ switch (codes "units") ∷ switch (codes "explain") ∷ switch (codes "partial") ∷ option (codes "entry") ∷ [];
+  flags = switch (codes "elf") ∷ switch (codes "units") ∷ switch (codes "explain") ∷ switch (codes "partial") ∷ option
+      (codes "entry") ∷ [];
 }
 
 abbrev pub book : Usage
@@ -49,7 +51,8 @@ abbrev pub play : Usage
 play = record {
   name = codes "play";
   places = codes "SCENARIO" ∷ [];
-  flags = switch (codes "table") ∷ switch (codes "explain") ∷ switch (codes "json") ∷ switch (codes "verdicts") ∷ option (codes "schedule")
+  flags = switch (codes "table") ∷ switch (codes "explain") ∷ switch (codes "json") ∷ switch (codes "verdicts") ∷ option
+      (codes "schedule")
       ∷ option (codes "seed") ∷ option (codes "schedule-out") ∷ option (codes "of") ∷ [];
 }
 
@@ -61,7 +64,11 @@ audit = record {
 }
 
 abbrev pub explore : Usage
-explore = record { name = codes "explore"; places = codes "SCENARIO" ∷ []; flags = option (codes "most") ∷ option (codes "keep") ∷ [] }
+explore = record {
+  name = codes "explore";
+  places = codes "SCENARIO" ∷ [];
+  flags = option (codes "most") ∷ option (codes "keep") ∷ [];
+}
 
 abbrev pub tree : Usage
 tree = record {
@@ -72,7 +79,11 @@ tree = record {
 }
 
 abbrev pub draw : Usage
-draw = record { name = codes "draw"; places = codes "SCENARIO" ∷ []; flags = option (codes "schedule") ∷ option (codes "chronicle") ∷ [] }
+draw = record {
+  name = codes "draw";
+  places = codes "SCENARIO" ∷ [];
+  flags = option (codes "schedule") ∷ option (codes "chronicle") ∷ [];
+}
 
 abbrev pub page : Usage
 page = record {
@@ -82,7 +93,11 @@ page = record {
 }
 
 abbrev pub schedule : Usage
-schedule = record { name = codes "schedule"; places = codes "SCENARIO" ∷ codes "CHRONICLE" ∷ []; flags = switch (codes "accesses") ∷ [] }
+schedule = record {
+  name = codes "schedule";
+  places = codes "SCENARIO" ∷ codes "CHRONICLE" ∷ [];
+  flags = switch (codes "accesses") ∷ [];
+}
 
 abbrev pub usages : List Usage
 usages = check ∷ asm ∷ dis ∷ book ∷ table ∷ muster ∷ play ∷ audit ∷ explore ∷ tree ∷ draw ∷ page ∷ schedule ∷ []

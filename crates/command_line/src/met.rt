@@ -379,7 +379,8 @@ impl<'m, 'a> Met<'m, 'a> {
     /// Whose lies are marked.
     fn traitors(self, alloc: Global) -> Result<Vec<u8>, TaskError>
         requires { is_of (codes "tree" ∷ []) (told_by self) ≡ true }
-        ensures named { IfOk result (λ traitors. named true (word_of (codes "traitors") (told_by self.entry)) ≡ Some traitors.items) }
+        ensures named { IfOk result
+            (λ traitors. named true (word_of (codes "traitors") (told_by self.entry)) ≡ Some traitors.items) }
         ensures refused { IfErr result (IsErrorOf (told_by self.entry)) }
     {
         let Some(word) = self.value("traitors") else {

@@ -18,14 +18,15 @@ struct Parts<'a> {
     files: Vec<&'a str>,
 }
 
-/// The words of each request: where `--verdicts` stands among the flags of `check`, `play` or `audit`, for each file (of
-/// `audit` for a scenario and a chronicle each) those of the flags, `--`, and the file; else the words themselves.
+/// The words of each request: where `--verdicts` stands among the flags of `check`, `play` or `audit`, for each file
+/// (of `audit` for a scenario and a chronicle each) those of the flags, `--`, and the file; else the words themselves.
 ///
 /// # Errors
 ///
 /// `AllocError` where memory is refused.
 pub fn each<'a>(alloc: Global, words: &[&'a str]) -> Result<Vec<Vec<&'a str>>, AllocError>
-    ensures { IfOk result (λ requests. map (λ request. words_of request.items) requests.items ≡ requests_of (words_of words.now)) }
+    ensures { IfOk result (λ requests. map (λ request. words_of request.items) requests.items
+        ≡ requests_of (words_of words.now)) }
 {
     let Some((name, rest)) = words.split_first() else {
         return alone(alloc, words);
@@ -59,7 +60,8 @@ fn judging(name: &str) -> Option<Subcommand<'static>>
 
 /// The words themselves, as the only request.
 fn alone<'a>(alloc: Global, words: &[&'a str]) -> Result<Vec<Vec<&'a str>>, AllocError>
-    ensures { IfOk result (λ requests. map (λ request. words_of request.items) requests.items ≡ words_of words.now ∷ []) }
+    ensures { IfOk result (λ requests. map (λ request. words_of request.items) requests.items
+        ≡ words_of words.now ∷ []) }
 {
     let mut request = Vec::new(alloc);
     request.extend_from_slice(words)?;
@@ -113,10 +115,12 @@ fn parted<'a>(alloc: Global, flags: &[Flag], words: &[&'a str]) -> Result<Parts<
 }
 
 impl<'a> Parts<'a> {
-    /// Takes one word more, which is the value of an option or stands before `--`; the answer is whether the next is a value.
+    /// Takes one word more, which is the value of an option or stands before `--`; the answer is whether the next is a
+    /// value.
     fn take(&mut self, flags: &[Flag], is_value: bool, word: &'a str) -> Result<bool, AllocError>
         requires { is_value ≡ false → bytes_eq word.now (codes "--") ≡ false }
-        ensures { IfOk result (λ next. (rest : List Text) → onto (parted_of self.new) (parted (map flag_of flags.now) next rest)
+        ensures { IfOk result (λ next. (rest : List Text) →
+            onto (parted_of self.new) (parted (map flag_of flags.now) next rest)
             ≡ onto (parted_of self.old) (parted (map flag_of flags.now) is_value (word.now ∷ rest))) }
     {
         if is_value {
@@ -154,7 +158,8 @@ impl<'a> Parts<'a> {
         name: &'a str,
         files: &[&'a str],
     ) -> Result<Vec<&'a str>, AllocError>
-        ensures { IfOk result (λ request. words_of request.items ≡ request_of name.now (parted_of self.now).kept (words_of files.now)) }
+        ensures { IfOk result (λ request. words_of request.items
+            ≡ request_of name.now (parted_of self.now).kept (words_of files.now)) }
     {
         let mut request = Vec::new(alloc);
         request.push(name)?;

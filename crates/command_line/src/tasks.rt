@@ -79,15 +79,16 @@ pub enum Task {
         chronicle: String,
         explained: Option<Lieutenants>,
     },
-    /// Play a campaign in each order of its accesses, or in this many, 1 or more, where there are more, and keep what comes out
-    /// in a folder where one is named.
+    /// Play a campaign in each order of its accesses, or in this many, 1 or more, where there are more, and keep what
+    /// comes out in a folder where one is named.
     Explore {
         scenario: String,
         most: Option<u64>,
         folder: Option<String>,
     },
-    /// Draw what this general was told by a message table or in a campaign, so many levels below the commander's, 0 to 4, with the lies of
-    /// these marked, and without what is below a label where all tell the same, if it is to be folded.
+    /// Draw what this general was told by a message table or in a campaign, so many levels below the commander's, 0 to
+    /// 4, with the lies of these marked, and without what is below a label where all tell the same, if it is to be
+    /// folded.
     Tree {
         file: String,
         general: u8,

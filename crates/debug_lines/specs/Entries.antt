@@ -55,7 +55,8 @@ format_at place formats = option_and_then (format_behind formats) (unsigned_at p
 -- behind so many formats
 unfoldable pub behind_formats : ℕ → ℕ → List ℕ → Option ℕ
 behind_formats zero place formats = Some place
-behind_formats (suc n) place formats = option_and_then (λ format. behind_formats n format.next formats) (format_at place formats)
+behind_formats (suc n) place formats =
+    option_and_then (λ format. behind_formats n format.next formats) (format_at place formats)
 
 -- what follows a value in a format
 abbrev pub behind_then : {A : Type 0} → (ℕ → ℕ → Option A) → List ℕ → ℕ → Format → Option A
@@ -69,7 +70,8 @@ behind_entry (suc n) formats from bytes place =
 
 abbrev pub path_by : (ℕ → ℕ → Option Path) → List ℕ → ℕ → Format → Option Path
 path_by next bytes place format =
-    if format.content == 1 then Some (record { form = format.form; place = place }) else behind_then next bytes place format
+    if format.content == 1 then Some (record { form = format.form; place = place })
+    else behind_then next bytes place format
 
 -- the value of such an entry whose content is the path (DW_LNCT_path)
 unfoldable pub path_in : ℕ → List ℕ → ℕ → List ℕ → ℕ → Option Path
@@ -87,11 +89,13 @@ behind_entries (suc n) count formats from bytes place =
 -- has more entries than bytes
 abbrev pub entries_by : ℕ → ℕ → List ℕ → Read → Option Entries
 entries_by formats from bytes count =
-    if nat_le count.value (length bytes) then Some (record { formats = formats; from = from; count = count.value; first = count.next }) else None
+    if nat_le count.value (length bytes)
+    then Some (record { formats = formats; from = from; count = count.value; first = count.next }) else None
 
 abbrev pub entries_behind : ℕ → ℕ → List ℕ → ℕ → Option Entries
 entries_behind formats from bytes next = option_and_then (entries_by formats from bytes) (unsigned_at next bytes)
 
 abbrev pub entries_at : ℕ → List ℕ → Option Entries
 entries_at place bytes =
-    option_and_then (entries_behind (number_at 1 place bytes) (place + 1) bytes) (behind_formats (number_at 1 place bytes) (place + 1) bytes)
+    option_and_then (entries_behind (number_at 1 place bytes) (place + 1) bytes)
+    (behind_formats (number_at 1 place bytes) (place + 1) bytes)

@@ -31,7 +31,8 @@ header_in bytes = header_from (number_at 2 4 bytes) (fields_of (number_at 2 4 by
 -- version 4 or 5, one operation an instruction, no opcodes but the standard's, and tables and program within the bytes
 abbrev pub is_read : Header → List ℕ → Bool
 is_read header bytes =
-    ((header.version == 4) || (header.version == 5)) && (number_at 1 (fields_of header.version + 1) bytes == 1) && nat_lt 0 header.range &&
+    ((header.version == 4) || (header.version == 5)) && (number_at 1 (fields_of header.version + 1) bytes == 1)
+    && nat_lt 0 header.range &&
     nat_lt 0 header.opcodes && nat_le header.opcodes 13 &&
     nat_le header.tables header.program && nat_le header.program header.end && nat_le header.end (length bytes)
 

@@ -18,7 +18,8 @@ path_of_entry bytes files place = path_in files.formats bytes files.from bytes p
 abbrev pub path_among : List ℕ → ℕ → Entries → Option Path
 path_among bytes file files =
     if nat_lt file files.count
-    then option_and_then (path_of_entry bytes files) (behind_entries file files.formats bytes files.from bytes files.first)
+    then option_and_then (path_of_entry bytes files)
+    (behind_entries file files.formats bytes files.from bytes files.first)
     else None
 
 -- the files stand behind the directories
@@ -43,7 +44,8 @@ file_formats = 1 ∷ 8 ∷ 2 ∷ 15 ∷ 3 ∷ 15 ∷ 4 ∷ 15 ∷ []
 -- an empty string of a list of strings stands so many bytes from its beginning
 abbrev pub empty_here : ℕ → List ℕ → ℕ → Option ℕ
 empty_here tables bytes n =
-    if (number_at 1 (tables + n) bytes == 0) && ((n == 0) || (number_at 1 (tables + n - 1) bytes == 0)) then Some (tables + n) else None
+    if (number_at 1 (tables + n) bytes == 0) && ((n == 0) || (number_at 1 (tables + n - 1) bytes == 0))
+    then Some (tables + n) else None
 
 -- the empty string that ends the directories
 abbrev pub directories_end : ℕ → List ℕ → Option ℕ
@@ -51,7 +53,8 @@ directories_end tables bytes = first_some (empty_here tables bytes) (length byte
 
 -- of the file that has so many before it, the directories ending at a place
 abbrev pub path_behind : List ℕ → ℕ → ℕ → Option Path
-path_behind bytes before end = option_and_then (path_in 4 file_formats 0 bytes) (behind_entries before 4 file_formats 0 bytes (end + 1))
+path_behind bytes before end =
+    option_and_then (path_in 4 file_formats 0 bytes) (behind_entries before 4 file_formats 0 bytes (end + 1))
 
 abbrev pub path_in_four : ℕ → List ℕ → ℕ → Option Path
 path_in_four tables bytes file =

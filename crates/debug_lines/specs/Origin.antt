@@ -20,7 +20,8 @@ address_in section symbol addend = if symbol.section == section then Some ((symb
 abbrev pub origin_here : List ℕ → List ℕ → ℕ → ℕ → List ℕ → ℕ → ℕ → Option ℕ
 origin_here bytes symbols section size relocations place index =
     if (relocation_at size index relocations).place == place
-    then address_in section (symbol_at (relocation_at size index relocations).symbol symbols) (addend_of size index relocations place bytes)
+    then address_in section (symbol_at (relocation_at size index relocations).symbol symbols)
+    (addend_of size index relocations place bytes)
     else None
 
 -- by the first relocation of the place that leads into the section

@@ -21,12 +21,14 @@ AreRowsBy header bytes origins rows = HasRows header bytes origins rows ⊎ (Bre
 abbrev pub AreRows : List ℕ → ℕ → Option Header → List Row → Type 0
 AreRows object section None rows = rows ≡ []
 AreRows object section (Some header) rows =
-    AreRowsBy header (take header.end (lines_in object)) (origins_in object (take header.end (lines_in object)) section) rows
+    AreRowsBy header (take header.end (lines_in object))
+    (origins_in object (take header.end (lines_in object)) section) rows
 
 -- the address lies from the row on and before the next, in one sequence and in the function's section
 abbrev pub is_of : ℕ → Row → Row → Bool
 is_of address row next =
-    row.registers.inside && not row.last && nat_le row.registers.address address && nat_lt address next.registers.address
+    row.registers.inside && not row.last && nat_le row.registers.address address
+    && nat_lt address next.registers.address
 
 abbrev pub row_by : ℕ → Option Row → Option Row → Option Row
 row_by address (Some row) (Some next) = if is_of address row next then Some row else None
@@ -69,7 +71,8 @@ texts_of names rows start (suc n) = texts_of names rows start n ++ text_at names
 abbrev pub TellsPlaces : List ℕ → Symbol → List (List ℕ) → Type 0
 TellsPlaces object function texts =
     (rows : List Row) × AreRows object function.section (header_of (lines_in object)) rows
-    × (texts ≡ texts_of (name_in object (header_of (lines_in object))) rows function.value (min (function.size / 8) 4096))
+    × (texts ≡ texts_of (name_in object (header_of (lines_in object))) rows function.value
+    (min (function.size / 8) 4096))
 
 -- those of the entry, if the object has one
 abbrev pub AreEntryPlaces : List ℕ → Result Symbol Fault → List (List ℕ) → Type 0

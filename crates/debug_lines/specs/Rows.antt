@@ -64,7 +64,8 @@ next_of header bytes origins m = option_map (moved origins m) (step_at header m.
 -- the machine behind so many instructions
 unfoldable pub machine_after : Header → List ℕ → Origins → ℕ → Option Machine
 machine_after header bytes origins zero = Some (record { place = header.program; registers = at_start; rows = [] })
-machine_after header bytes origins (suc n) = option_and_then (next_of header bytes origins) (machine_after header bytes origins n)
+machine_after header bytes origins (suc n) =
+    option_and_then (next_of header bytes origins) (machine_after header bytes origins n)
 
 -- behind so many instructions the machine is there
 abbrev pub Comes : Header → List ℕ → Origins → Machine → Type 0

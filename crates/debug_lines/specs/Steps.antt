@@ -32,12 +32,14 @@ no_step n = Other
 
 -- DW_LNS_fixed_advance_pc has two bytes
 abbrev pub fixed_advance : ℕ → List ℕ → Option Stepped
-fixed_advance place bytes = if nat_le (place + 2) (length bytes) then Some (stepped (Address (number_at 2 place bytes)) (place + 2)) else None
+fixed_advance place bytes =
+    if nat_le (place + 2) (length bytes) then Some (stepped (Address (number_at 2 place bytes)) (place + 2)) else None
 
 -- DW_LNS_copy and DW_LNS_const_add_pc; the others without operands say nothing
 abbrev pub alone : Header → ℕ → Step
 alone header opcode =
-    if opcode == 1 then Row 0 0 else if opcode == 8 then Address (address_advance header (255 - header.opcodes)) else Other
+    if opcode == 1 then Row 0 0 else if opcode == 8 then Address (address_advance header (255 - header.opcodes))
+    else Other
 
 -- a standard opcode, whose operands stand at a place: DW_LNS_advance_pc, DW_LNS_advance_line, DW_LNS_set_file, then
 -- DW_LNS_set_column and DW_LNS_set_isa
@@ -52,13 +54,15 @@ standard header opcode place bytes =
 
 -- DW_LNE_end_sequence, DW_LNE_set_address with an address of 8 bytes, and what says nothing of rows
 abbrev pub extended_step : ℕ → ℕ → ℕ → Step
-extended_step size opcode place = if opcode == 1 then End else if (opcode == 2) && (size == 9) then Start place else Other
+extended_step size opcode place =
+    if opcode == 1 then End else if (opcode == 2) && (size == 9) then Start place else Other
 
 -- an extended opcode, of so many bytes from a place on
 abbrev pub extended_of : List ℕ → Read → Option Stepped
 extended_of bytes size =
     if nat_lt 0 size.value && nat_le (size.next + size.value) (length bytes)
-    then Some (stepped (extended_step size.value (number_at 1 size.next bytes) (size.next + 1)) (size.next + size.value))
+    then Some (stepped (extended_step size.value (number_at 1 size.next bytes) (size.next + 1))
+    (size.next + size.value))
     else None
 
 abbrev pub extended : ℕ → List ℕ → Option Stepped

@@ -39,7 +39,8 @@ relocates_here table home index =
 
 -- the first such section; the first of all where there is none
 abbrev pub relocations_of : List ℕ → ℕ → ℕ
-relocations_of object home = unwrap_or (first_some (relocates_here (section_table object) home) (section_count object)) 0
+relocations_of object home =
+    unwrap_or (first_some (relocates_here (section_table object) home) (section_count object)) 0
 
 -- ---- line number information
 
@@ -57,11 +58,13 @@ strings_in object = bytes_of object (section_named object (codes ".debug_str"))
 
 -- the table of symbols
 abbrev pub symbols_in : List ℕ → List ℕ
-symbols_in object = section_bytes object (section_at (symbols_section (section_table object) (section_count object)) (section_table object))
+symbols_in object = section_bytes object
+    (section_at (symbols_section (section_table object) (section_count object)) (section_table object))
 
 abbrev pub origins_by : List ℕ → List ℕ → ℕ → ℕ → Origins
 origins_by object bytes section relocations =
-    origin_of bytes (symbols_in object) section (relocation_size (section_at relocations (section_table object))) (bytes_of object relocations)
+    origin_of bytes (symbols_in object) section (relocation_size (section_at relocations (section_table object)))
+    (bytes_of object relocations)
 
 -- which address of the section of this number the operand at a place of the program is, if it lies there
 abbrev pub origins_in : List ℕ → List ℕ → ℕ → Origins

@@ -1,4 +1,5 @@
-//! The lines of an object's program: for each unit of a function the file and line of the text that it was compiled from (DWARF 5 and 4, "Line Number Information").
+//! The lines of an object's program: for each unit of a function the file and line of the text that it was compiled
+//! from (DWARF 5 and 4, "Line Number Information").
 #![tactic(auto)]
 
 mod entries;

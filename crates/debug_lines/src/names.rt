@@ -196,7 +196,8 @@ fn is_plain(name: &[u8]) -> bool
 
 /// A name that can be told on a line, as text.
 pub fn plain(name: &[u8]) -> Option<&str>
-    ensures { MatchOption result (is_plain name.now ≡ false) (λ text. (is_plain name.now ≡ true) × (text.now ≡ name.now)) }
+    ensures { MatchOption result (is_plain name.now ≡ false) (λ text. (is_plain name.now ≡ true)
+        × (text.now ≡ name.now)) }
 {
     if !is_plain(name) {
         return None;

@@ -138,7 +138,8 @@ fn texts_of(
 ) -> Result<Vec<String>, AllocError>
     requires header { header ≡ header_of (lines_in object.now) }
     requires few { units ≤ 4096 }
-    ensures { IfOk result (λ texts. map string_bytes texts.items ≡ texts_of (name_in object.now header) rows.now function.value units) }
+    ensures { IfOk result (λ texts. map string_bytes texts.items
+        ≡ texts_of (name_in object.now header) rows.now function.value units) }
 {
     let mut texts = Vec::new(alloc);
     for unit in 0..units {
@@ -148,8 +149,8 @@ fn texts_of(
     Ok(texts)
 }
 
-/// File and line of each unit of a function, as `FILE:LINE`; an empty text where nothing is known of it. Tables that are
-/// damaged, and sections of more than 2^16 bytes, are not there.
+/// File and line of each unit of a function, as `FILE:LINE`; an empty text where nothing is known of it. Tables that
+/// are damaged, and sections of more than 2^16 bytes, are not there.
 ///
 /// # Errors
 ///
@@ -173,7 +174,8 @@ pub fn entry_places(
     object: &[u8],
     name: Option<&[u8]>,
 ) -> Result<Vec<String>, AllocError>
-    ensures { IfOk result (λ texts. AreEntryPlaces object.now (function_of object.now (asked name.entry)) (map string_bytes texts.items)) }
+    ensures { IfOk result (λ texts. AreEntryPlaces object.now (function_of object.now (asked name.entry))
+        (map string_bytes texts.items)) }
 {
     match elf::function(object, name) {
         Ok(function) => places(alloc, object, function),

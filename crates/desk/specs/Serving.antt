@@ -12,23 +12,30 @@ use Rattle.desk.specs.Printing.{answer_as, refusal_as}
 -- the output has grown by the task's whole answer on the files, in the form that is asked for
 abbrev pub IsShown : Request → Files → Option (List ℕ) → Option (List ℕ) → Type 0
 IsShown request files old new =
-    (text : List ℕ) × ((place : Option Shape) × IsPlacedAnswer request.task files text place × IfSome (answer_as request place text) (Appends old new))
+    (text : List ℕ) × ((place : Option Shape) × IsPlacedAnswer request.task files text place
+    × IfSome (answer_as request place text) (Appends old new))
 
 -- the output failed on this, of which at most a beginning was written, and a line says so
 abbrev pub IsUnwritten : Type 0 → (List ℕ → Type 0) → Option (List ℕ) → Option (List ℕ) → Option (List ℕ) → Type 0
-IsUnwritten unwritten tells lines old new = unwritten × IfSome lines (AppendsFront old new) × tells (codes "fault write")
+IsUnwritten unwritten tells lines old new =
+    unwritten × IfSome lines (AppendsFront old new) × tells (codes "fault write")
 
--- the output has grown by a refusal of this text, in the form that is asked for, and nothing else is told; or it failed on that
-abbrev pub IsRefusalShown : Type 0 → Type 0 → (List ℕ → Type 0) → Request → Option (List ℕ) → Option (List ℕ) → List ℕ → Type 0
+-- the output has grown by a refusal of this text, in the form that is asked for, and nothing else is told; or it failed
+-- on that
+abbrev pub IsRefusalShown : Type 0 → Type 0 → (List ℕ → Type 0) → Request → Option (List ℕ) → Option (List ℕ) → List ℕ →
+    Type 0
 IsRefusalShown quiet unwritten tells request old new text =
-    (quiet × IfSome (refusal_as request text) (Appends old new)) ⊎ IsUnwritten unwritten tells (refusal_as request text) old new
+    (quiet × IfSome (refusal_as request text) (Appends old new))
+    ⊎ IsUnwritten unwritten tells (refusal_as request text) old new
 
 -- the output failed on the task's answer, in the form that is asked for
 abbrev pub IsAnswerUnwritten : Type 0 → (List ℕ → Type 0) → Request → Files → Option (List ℕ) → Option (List ℕ) → Type 0
 IsAnswerUnwritten unwritten tells request files old new =
-    (text : List ℕ) × ((place : Option Shape) × IsPlacedAnswer request.task files text place × IsUnwritten unwritten tells (answer_as request place text) old new)
+    (text : List ℕ) × ((place : Option Shape) × IsPlacedAnswer request.task files text place
+    × IsUnwritten unwritten tells (answer_as request place text) old new)
 
 -- the task has no answer, and why stands so, where it is known how that is told; it is not want of memory
 abbrev pub IsPrevented : Type 0 → Type 0 → (List ℕ → Type 0) → Request → Files → Type 0
 IsPrevented unread second_unread shown request files =
-    (fault : Failure) × Prevents unread second_unread request.task files fault × (status_of fault ≡ 1) × IfSome (fault_text fault) shown
+    (fault : Failure) × Prevents unread second_unread request.task files fault × (status_of fault ≡ 1)
+    × IfSome (fault_text fault) shown

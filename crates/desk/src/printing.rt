@@ -39,11 +39,15 @@ pub(crate) fn show_answer<O: Output, F: Output>(
     fault: &mut F,
 ) -> u8
     ensures status { (result ≡ 0) ⊎ ((result ≡ 1) ⊎ (result ≡ 3)) }
-    ensures done { result ≡ 0 → IfSome (answer_as request.now place text.now) (Appends (O.contents out.old) (O.contents out.new)) }
+    ensures done { result ≡ 0 →
+        IfSome (answer_as request.now place text.now) (Appends (O.contents out.old) (O.contents out.new)) }
     ensures quiet { result ≡ 0 → fault.new ≡ fault.old }
-    ensures unwritten { result ≡ 1 → IsUnwritten (O.fails out.old) (Tells (F.fails fault.old) (F.contents fault.old) (F.contents fault.new)) (answer_as request.now place text.now) (O.contents out.old) (O.contents out.new) }
+    ensures unwritten { result ≡ 1 →
+        IsUnwritten (O.fails out.old) (Tells (F.fails fault.old) (F.contents fault.old) (F.contents fault.new))
+        (answer_as request.now place text.now) (O.contents out.old) (O.contents out.new) }
     ensures unprinted { result ≡ 3 → out.new ≡ out.old }
-    ensures memory { result ≡ 3 → Tells (F.fails fault.old) (F.contents fault.old) (F.contents fault.new) (codes "out of memory") }
+    ensures memory { result ≡ 3 →
+        Tells (F.fails fault.old) (F.contents fault.old) (F.contents fault.new) (codes "out of memory") }
 {
     let Ok(lines) = answer_lines(alloc, request, place, text) else {
         return lacking(fault);
@@ -63,9 +67,13 @@ pub(crate) fn show_refusal<O: Output, F: Output>(
     fault: &mut F,
 ) -> u8
     ensures status { (result ≡ 1) ⊎ (result ≡ 3) }
-    ensures shown { result ≡ 1 → IsRefusalShown (fault.new ≡ fault.old) (O.fails out.old) (Tells (F.fails fault.old) (F.contents fault.old) (F.contents fault.new)) request.now (O.contents out.old) (O.contents out.new) text.now }
+    ensures shown { result ≡ 1 →
+        IsRefusalShown (fault.new ≡ fault.old) (O.fails out.old)
+        (Tells (F.fails fault.old) (F.contents fault.old) (F.contents fault.new)) request.now (O.contents out.old)
+        (O.contents out.new) text.now }
     ensures unprinted { result ≡ 3 → out.new ≡ out.old }
-    ensures memory { result ≡ 3 → Tells (F.fails fault.old) (F.contents fault.old) (F.contents fault.new) (codes "out of memory") }
+    ensures memory { result ≡ 3 →
+        Tells (F.fails fault.old) (F.contents fault.old) (F.contents fault.new) (codes "out of memory") }
 {
     let Ok(lines) = refusal_lines(alloc, request, text) else {
         return lacking(fault);

@@ -21,8 +21,9 @@ fn is_shaped(request: &Request) -> bool
     request.json || request.verdicts
 }
 
-/// Does what is asked for, as `lab::serve` does the task; where JSON or one line is asked for, the answer or the refusal is
-/// printed so, on `out`. The result is the exit status: 0 done, 1 refused or a fault of a file, 3 want of memory.
+/// Does what is asked for, as `lab::serve` does the task; where JSON or one line is asked for, the answer or the
+/// refusal is printed so, on `out`. The result is the exit status: 0 done, 1 refused or a fault of a file, 3 want of
+/// memory.
 #[tactic(auto, using(crate::proofs::ShownLemmas::shown_plainly))]
 pub fn serve<T, R, O, F>(
     rt: &T,
@@ -46,13 +47,18 @@ where
 
     // Neither JSON nor one line is asked for.
     ensures at_fault { is_shaped request.now ≡ false → result ≡ 1 →
-        IsFault (R.fails first) (IsSomeAnd second R.fails) (O.fails out.old) (AppendsFront (O.contents out.old) (O.contents out.new)) request.now.task (files R.bytes first second)
+        IsFault (R.fails first) (IsSomeAnd second R.fails) (O.fails out.old)
+        (AppendsFront (O.contents out.old) (O.contents out.new)) request.now.task (files R.bytes first second)
         (out.new ≡ out.old) (Tells (F.fails fault.old) (F.contents fault.old) (F.contents fault.new)) }
     // One of them is.
     ensures refused { is_shaped request.now ≡ true → result ≡ 1 →
-        IsAnswerUnwritten (O.fails out.old) (Tells (F.fails fault.old) (F.contents fault.old) (F.contents fault.new)) request.now (files R.bytes first second) (O.contents out.old) (O.contents out.new)
+        IsAnswerUnwritten (O.fails out.old)
+        (Tells (F.fails fault.old) (F.contents fault.old) (F.contents fault.new)) request.now
+        (files R.bytes first second) (O.contents out.old) (O.contents out.new)
         ⊎ IsPrevented (R.fails first) (IsSomeAnd second R.fails)
-        (IsRefusalShown (fault.new ≡ fault.old) (O.fails out.old) (Tells (F.fails fault.old) (F.contents fault.old) (F.contents fault.new)) request.now (O.contents out.old) (O.contents out.new))
+        (IsRefusalShown (fault.new ≡ fault.old) (O.fails out.old)
+        (Tells (F.fails fault.old) (F.contents fault.old) (F.contents fault.new)) request.now (O.contents out.old)
+        (O.contents out.new))
         request.now (files R.bytes first second) }
 
     ensures unprinted { result ≡ 3 → out.new ≡ out.old }
@@ -73,8 +79,8 @@ where
     }
 }
 
-/// Says that the task is not done, by this line: a file of it does not open, or is not taken. The result is the exit status:
-/// 1, or 3 for want of memory.
+/// Says that the task is not done, by this line: a file of it does not open, or is not taken. The result is the exit
+/// status: 1, or 3 for want of memory.
 pub fn turned_down<D, O, F>(
     alloc: Global,
     request: &Request,
@@ -92,7 +98,10 @@ where
         × IfSome (D.output line) (Tells (F.fails fault.old) (F.contents fault.old) (F.contents fault.new)) }
     // One of them is.
     ensures shown { is_shaped request.now ≡ true → result ≡ 1 →
-        IfSome (D.output line) (IsRefusalShown (fault.new ≡ fault.old) (O.fails out.old) (Tells (F.fails fault.old) (F.contents fault.old) (F.contents fault.new)) request.now (O.contents out.old) (O.contents out.new)) }
+        IfSome (D.output line)
+        (IsRefusalShown (fault.new ≡ fault.old) (O.fails out.old)
+        (Tells (F.fails fault.old) (F.contents fault.old) (F.contents fault.new)) request.now (O.contents out.old)
+        (O.contents out.new)) }
     ensures unprinted { result ≡ 3 → out.new ≡ out.old }
     ensures memory { result ≡ 3 →
         Tells (F.fails fault.old) (F.contents fault.old) (F.contents fault.new) (codes "out of memory") }
@@ -112,7 +121,10 @@ where
     F: Output,
     ensures status { (result ≡ 1) ⊎ (result ≡ 3) }
     ensures shown { result ≡ 1 →
-        IfSome (D.output line) (IsRefusalShown (fault.new ≡ fault.old) (O.fails out.old) (Tells (F.fails fault.old) (F.contents fault.old) (F.contents fault.new)) request.now (O.contents out.old) (O.contents out.new)) }
+        IfSome (D.output line)
+        (IsRefusalShown (fault.new ≡ fault.old) (O.fails out.old)
+        (Tells (F.fails fault.old) (F.contents fault.old) (F.contents fault.new)) request.now (O.contents out.old)
+        (O.contents out.new)) }
     ensures unprinted { result ≡ 3 → out.new ≡ out.old }
     ensures memory { result ≡ 3 →
         Tells (F.fails fault.old) (F.contents fault.old) (F.contents fault.new) (codes "out of memory") }

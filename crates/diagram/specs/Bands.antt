@@ -28,25 +28,31 @@ lives n accesses height = board_line n accesses height ++ flat_map (general_life
 -- an access: a point, a line to the board, which is so far to the right, and what is said of it
 abbrev pub point : ℕ → Access → List ℕ
 point far a =
-    title (access_words a) ++ line (codes "access") 0 0 far 0 ++ mark (codes "point") (codes "M0-4a4 4 0 0 1 0 8a4 4 0 0 1 0-8z") ++ text_at (codes "small") (far + 12) 4 (shown_words a)
+    title (access_words a) ++ line (codes "access") 0 0 far 0
+    ++ mark (codes "point") (codes "M0-4a4 4 0 0 1 0 8a4 4 0 0 1 0-8z")
+    ++ text_at (codes "small") (far + 12) 4 (shown_words a)
 
 abbrev pub access_at : ℕ → ℕ → ℕ → Access → List ℕ
-access_at n top round a = if a.round == round then group_at (column a.general) top (point (board n - column a.general) a) else []
+access_at n top round a =
+    if a.round == round then group_at (column a.general) top (point (board n - column a.general) a) else []
 
 -- those of a round, in the board's order, the first of them with this place among all
 unfoldable pub accesses_from : ℕ → List Access → ℕ → ℕ → List Access → List ℕ
 accesses_from n all round place [] = []
-accesses_from n all round place (a ∷ rest) = access_at n (access_top all round place) round a ++ accesses_from n all round (place + 1) rest
+accesses_from n all round place (a ∷ rest) =
+    access_at n (access_top all round place) round a ++ accesses_from n all round (place + 1) rest
 
 -- a stroke from its teller to its receiver, as wide as it has labels, up to 5
 abbrev pub stroke_line : ℕ → ℕ → Stroke → List ℕ
 stroke_line n top st =
-    stroke_at (kind st) (min st.labels 5) (column st.teller) top (column st.receiver) (top + 16 + 16 * n + 6 * min st.row 8) (stroke_words st)
+    stroke_at (kind st) (min st.labels 5) (column st.teller) top (column st.receiver)
+    (top + 16 + 16 * n + 6 * min st.row 8) (stroke_words st)
 
 -- its row in its receiver's list
 abbrev pub row : ℕ → Stroke → List ℕ
 row top st =
-    group_at (column st.receiver) (top + 12 + 18 * st.row) (title (stroke_words st) ++ mark (kind st) (outline st) ++ text_at (codes "small") 12 4 (row_words st))
+    group_at (column st.receiver) (top + 12 + 18 * st.row)
+    (title (stroke_words st) ++ mark (kind st) (outline st) ++ text_at (codes "small") 12 4 (row_words st))
 
 -- both, where it is of this round; they begin at these heights
 abbrev pub drawn_at : ℕ → ℕ → ℕ → ℕ → Stroke → List ℕ
@@ -65,7 +71,8 @@ inside n strokes accesses wide round =
     ++ flat_map (drawn n accesses round) strokes
 
 abbrev pub band : ℕ → List Stroke → List Access → ℕ → ℕ → List ℕ
-band n strokes accesses wide before = group_at 0 (top_of n strokes accesses before) (inside n strokes accesses wide (before + 1))
+band n strokes accesses wide before =
+    group_at 0 (top_of n strokes accesses before) (inside n strokes accesses wide (before + 1))
 
 abbrev pub bands : ℕ → List Stroke → List Access → ℕ → ℕ → List ℕ
 bands n strokes accesses wide rounds = flat_map (band n strokes accesses wide) (range_with_len 0 rounds)

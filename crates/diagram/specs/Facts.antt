@@ -26,10 +26,12 @@ first_telling t order p = record {
   differs = not (is_told order (told t.messages (t.commander ∷ []) p));
 }
 
--- what p is told of the labels that go on from w with k relays left, by their next general, of each before those that go on from it
+-- what p is told of the labels that go on from w with k relays left, by their next general, of each before those that
+-- go on from it
 unfoldable pub tellings_below : MessageTable → ℕ → List ℕ → ℕ → List Telling
 tellings_below t zero w p = []
-tellings_below t (suc k) w p = flat_map (λ j. telling_at t w j p ∷ tellings_below t k (w ++ j ∷ []) p) (others t.generals (p ∷ w))
+tellings_below t (suc k) w p =
+    flat_map (λ j. telling_at t w j p ∷ tellings_below t k (w ++ j ∷ []) p) (others t.generals (p ∷ w))
 
 -- those by the next general j
 abbrev pub tellings_by : MessageTable → ℕ → List ℕ → ℕ → ℕ → List Telling
@@ -79,11 +81,13 @@ added p tellings place done telling =
 -- with those of what he was told, the first of which has this place
 unfoldable pub strokes_below : ℕ → List Telling → ℕ → List Stroke → List Telling → List Stroke
 strokes_below p tellings place done [] = done
-strokes_below p tellings place done (telling ∷ rest) = strokes_below p tellings (place + 1) (added p tellings place done telling) rest
+strokes_below p tellings place done (telling ∷ rest) =
+    strokes_below p tellings (place + 1) (added p tellings place done telling) rest
 
 -- with those to p, if he is a lieutenant
 unfoldable pub strokes_with : MessageTable → ℕ → ℕ → List Stroke → List Stroke
-strokes_with t order p done = if p == t.commander then done else strokes_below p (tellings_of t order p) 0 done (tellings_of t order p)
+strokes_with t order p done =
+    if p == t.commander then done else strokes_below p (tellings_of t order p) 0 done (tellings_of t order p)
 
 -- those to the first so many generals
 unfoldable pub strokes_to : MessageTable → ℕ → ℕ → List Stroke

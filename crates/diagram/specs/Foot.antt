@@ -1,4 +1,5 @@
--- What stands below the bands of a picture: the decisions and the verdict (TOPLAS 1982, IC1 and IC2), and what the marks mean.
+-- What stands below the bands of a picture: the decisions and the verdict (TOPLAS 1982, IC1 and IC2), and what the
+-- marks mean.
 use Rattle.std.specs.Prelude.{ℕ, ◌-◌, ◌==◌, nat_lt, Bool, true, false, if◌then◌else◌, List, [], ◌++◌, flat_map, codes, slice_get, Option, None, Some}
 use Rattle.std.specs.Fmt.{decimal}
 use Rattle.std.specs.List.{range_with_len}
@@ -22,7 +23,8 @@ unfoldable pub decides_words : ℕ → List ℕ
 decides_words order = codes "decides " ++ decimal order
 
 abbrev pub decided_at : ℕ → Bool → ℕ → List ℕ
-decided_at g traitor order = group_at (column g) 24 (mark (sort_of traitor) (shape_of traitor) ++ text_at (codes "name") 12 4 (decides_words order))
+decided_at g traitor order = group_at (column g) 24
+    (mark (sort_of traitor) (shape_of traitor) ++ text_at (codes "name") 12 4 (decides_words order))
 
 -- the place of a lieutenant's decision, under this commander
 abbrev pub place_of : ℕ → ℕ → ℕ
@@ -54,9 +56,11 @@ bound_words false = codes "The bound does not hold, by too few generals or too m
 
 abbrev pub verdict_lines : Verdict → List ℕ
 verdict_lines v =
-    text_at (codes "name") 120 64 (alike_words v.alike) ++ text_at (codes "name") 120 84 (obeyed_words v.obeyed) ++ text_at (codes "name") 120 104 (bound_words v.bound)
+    text_at (codes "name") 120 64 (alike_words v.alike) ++ text_at (codes "name") 120 84 (obeyed_words v.obeyed)
+    ++ text_at (codes "name") 120 104 (bound_words v.bound)
 
 abbrev pub foot : Chronicle → ℕ → ℕ → List ℕ
 foot c wide top =
     group_at 0 top
-    (line (codes "rule") 16 0 wide 0 ++ text_at (codes "round") 16 28 (codes "decisions") ++ decided_all c.scenario c.decisions ++ verdict_lines c.verdict ++ legend)
+    (line (codes "rule") 16 0 wide 0 ++ text_at (codes "round") 16 28 (codes "decisions")
+    ++ decided_all c.scenario c.decisions ++ verdict_lines c.verdict ++ legend)

@@ -19,7 +19,8 @@ use Rattle.diagram.specs.Words.{kind}
 
 -- each picture is one element of XML, and a line feed
 abbrev pub DiagramsAreElements : Type 0
-DiagramsAreElements = (t : MessageTable) (c : Chronicle) → (text : List ℕ) × IsElement text × (svg_text t c ≡ text ++ codes "\n")
+DiagramsAreElements =
+    (t : MessageTable) (c : Chronicle) → (text : List ℕ) × IsElement text × (svg_text t c ≡ text ++ codes "\n")
 
 -- t is the table of the messages of a finished campaign of s, and tells them at all its places
 pub record IsFinishedTable (s : Scenario) (events : List Event) (t : MessageTable) : Type 0 where
@@ -55,4 +56,5 @@ pub record StrokesAreExact : Type 0 where
   pub once : (t : MessageTable) (order p : ℕ) (telling : Telling) → p < t.generals → p ≢ t.commander →
       count_by (is_of p telling) (strokes_of t order)
       ≡ (if list_any (is_same telling) (tellings_of t order p) then 1 else 0)
-  pub wide : (t : MessageTable) (order : ℕ) → All (λ stroke. stroke.labels ≡ labels_told t order stroke) (strokes_of t order)
+  pub wide : (t : MessageTable) (order : ℕ) →
+      All (λ stroke. stroke.labels ≡ labels_told t order stroke) (strokes_of t order)

@@ -29,7 +29,8 @@ is_in round a = a.round == round
 abbrev pub is_earlier : ℕ → Access → Bool
 is_earlier round a = nat_lt a.round round
 
--- in a round's band: an access with this place among all, where strokes begin, and where the lists of what each was told begin
+-- in a round's band: an access with this place among all, where strokes begin, and where the lists of what each was
+-- told begin
 abbrev pub access_top : List Access → ℕ → ℕ → ℕ
 access_top accesses round place = 16 + 20 * (place - count_by (is_earlier round) accesses)
 

@@ -3,7 +3,8 @@ use Rattle.std.specs.Prelude.{ℕ, List, ◌++◌, codes}
 use Rattle.std.specs.Fmt.{decimal}
 
 unfoldable pub text_start : List ℕ → ℕ → ℕ → List ℕ
-text_start class x y = codes "<text class=\"" ++ (class ++ (codes "\" x=\"" ++ (decimal x ++ (codes "\" y=\"" ++ (decimal y ++ codes "\">")))))
+text_start class x y = codes "<text class=\""
+    ++ (class ++ (codes "\" x=\"" ++ (decimal x ++ (codes "\" y=\"" ++ (decimal y ++ codes "\">")))))
 
 abbrev pub text_end : List ℕ
 text_end = codes "</text>\n"
@@ -15,14 +16,19 @@ text_at class x y words = text_start class x y ++ words ++ text_end
 -- a line from one place to another
 unfoldable pub line : List ℕ → ℕ → ℕ → ℕ → ℕ → List ℕ
 line class x y u v =
-    codes "<path class=\"" ++ (class ++ (codes "\" d=\"M" ++ (decimal x ++ (codes " " ++ (decimal y ++ (codes "L" ++ (decimal u ++ (codes " " ++ (decimal v ++ codes "\"/>\n")))))))))
+    codes "<path class=\"" ++ (class
+    ++ (codes "\" d=\"M" ++ (decimal x
+    ++ (codes " " ++ (decimal y ++ (codes "L" ++ (decimal u ++ (codes " " ++ (decimal v ++ codes "\"/>\n")))))))))
 
 -- a stroke's class and width, and its way
 unfoldable pub stroke_open : List ℕ → ℕ → List ℕ
-stroke_open kind width = codes "<path class=\"stroke " ++ (kind ++ (codes "\" stroke-width=\"" ++ (decimal width ++ codes "\" d=\"")))
+stroke_open kind width =
+    codes "<path class=\"stroke " ++ (kind ++ (codes "\" stroke-width=\"" ++ (decimal width ++ codes "\" d=\"")))
 
 unfoldable pub stroke_way : ℕ → ℕ → ℕ → ℕ → List ℕ
-stroke_way x y u v = codes "M" ++ (decimal x ++ (codes " " ++ (decimal y ++ (codes "L" ++ (decimal u ++ (codes " " ++ (decimal v ++ codes "\">")))))))
+stroke_way x y u v = codes "M"
+    ++ (decimal x ++ (codes " "
+    ++ (decimal y ++ (codes "L" ++ (decimal u ++ (codes " " ++ (decimal v ++ codes "\">")))))))
 
 abbrev pub stroke_start : List ℕ → ℕ → ℕ → ℕ → ℕ → ℕ → List ℕ
 stroke_start kind width x y u v = stroke_open kind width ++ stroke_way x y u v

@@ -20,12 +20,15 @@ start = codes "<svg xmlns=\"http://www.w3.org/2000/svg\" role=\"img\""
 
 unfoldable pub box_words : ℕ → ℕ → List ℕ
 box_words w h =
-    codes " width=\"" ++ (decimal w ++ (codes "\" height=\"" ++ (decimal h ++ (codes "\" viewBox=\"0 0 " ++ (decimal w ++ (codes " " ++ (decimal h ++ codes "\">\n")))))))
+    codes " width=\"" ++ (decimal w
+    ++ (codes "\" height=\""
+    ++ (decimal h ++ (codes "\" viewBox=\"0 0 " ++ (decimal w ++ (codes " " ++ (decimal h ++ codes "\">\n")))))))
 
 -- the campaign's numbers
 unfoldable pub campaign_words : ℕ → ℕ → ℕ → ℕ → List ℕ
 campaign_words n m c order =
-    decimal n ++ (codes " generals, traitors provided for: " ++ (decimal m ++ (codes "; commander " ++ (decimal c ++ (codes " was given order " ++ decimal order)))))
+    decimal n ++ (codes " generals, traitors provided for: "
+    ++ (decimal m ++ (codes "; commander " ++ (decimal c ++ (codes " was given order " ++ decimal order)))))
 
 -- what is told of the picture to those who do not see it
 unfoldable pub key : List ℕ
@@ -51,13 +54,15 @@ look =
 -- what stands before the columns
 abbrev pub head : Scenario → List ℕ
 head s =
-    title (campaign_words s.generals s.bound s.commander s.order) ++ key ++ look ++ text_at (codes "head") 16 28 (campaign_words s.generals s.bound s.commander s.order)
+    title (campaign_words s.generals s.bound s.commander s.order) ++ key ++ look
+    ++ text_at (codes "head") 16 28 (campaign_words s.generals s.bound s.commander s.order)
 
 -- who has which column
 abbrev pub general_head : ℕ → Bool → Bool → List ℕ
 general_head g commander traitor =
     group_at (column g) 50
-    (mark (sort_of traitor) (shape_of traitor) ++ text_at (codes "name") 12 4 (general_words g) ++ text_at (codes "small") 12 20 (role_words commander traitor))
+    (mark (sort_of traitor) (shape_of traitor) ++ text_at (codes "name") 12 4 (general_words g)
+    ++ text_at (codes "small") 12 20 (role_words commander traitor))
 
 abbrev pub head_of : Scenario → ℕ → List ℕ
 head_of s g = general_head g (g == s.commander) (is_traitor s g)
@@ -79,7 +84,8 @@ svg_with strokes c =
     let s = c.scenario in
     let bottom = top_of s.generals strokes c.accesses (s.bound + 1) in
     let wide = width s.generals c.accesses in
-    picture (wide + 16) (bottom + 230) (head s ++ heads s c.accesses ++ bands s.generals strokes c.accesses wide (s.bound + 1) ++ foot c wide bottom)
+    picture (wide + 16) (bottom + 230)
+    (head s ++ heads s c.accesses ++ bands s.generals strokes c.accesses wide (s.bound + 1) ++ foot c wide bottom)
 
 -- the picture of a chronicle, whose letters tell this message table
 unfoldable pub svg_text : MessageTable → Chronicle → List ℕ

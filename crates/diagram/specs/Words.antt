@@ -22,7 +22,8 @@ tells_words teller p = codes "general " ++ (decimal teller ++ (codes " tells gen
 
 -- who told whom what, of how many labels, and whether an honest relay would not
 abbrev pub stroke_words : Stroke → List ℕ
-stroke_words stroke = tells_words stroke.teller stroke.receiver ++ order_words stroke.told ++ labels_words stroke.labels ++ differs_words stroke.differs
+stroke_words stroke = tells_words stroke.teller stroke.receiver ++ order_words stroke.told ++ labels_words stroke.labels
+    ++ differs_words stroke.differs
 
 unfoldable pub from_words : ℕ → List ℕ
 from_words teller = codes "from " ++ (decimal teller ++ codes ": ")
@@ -31,7 +32,8 @@ from_words teller = codes "from " ++ (decimal teller ++ codes ": ")
 abbrev pub row_words : Stroke → List ℕ
 row_words stroke = from_words stroke.teller ++ order_words stroke.told ++ labels_words stroke.labels
 
--- what was told as an honest relay would, a lie, or nothing where something was to be told: the class, and a circle, a diamond and a cross
+-- what was told as an honest relay would, a lie, or nothing where something was to be told: the class, and a circle, a
+-- diamond and a cross
 abbrev pub kind_of : Bool → Option ℕ → List ℕ
 kind_of false told = codes "told"
 kind_of true (Some order) = codes "lie"

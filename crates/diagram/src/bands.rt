@@ -27,7 +27,8 @@ pub(crate) fn put_bands(
     rounds: u8,
 ) -> Result<(), AllocError>
     requires { rounds < 255 }
-    ensures { OnOk result (string_bytes out.new ≡ string_bytes out.old ++ bands generals strokes.now accesses.now wide rounds) }
+    ensures { OnOk result (string_bytes out.new ≡ string_bytes out.old
+        ++ bands generals strokes.now accesses.now wide rounds) }
 {
     for before in 0..rounds {
         put_band(out, generals, strokes, accesses, wide, before)?;
@@ -45,7 +46,8 @@ fn put_band(
     before: u8,
 ) -> Result<(), AllocError>
     requires { before < 255 }
-    ensures { OnOk result (string_bytes out.new ≡ string_bytes out.old ++ band generals strokes.now accesses.now wide before) }
+    ensures { OnOk result (string_bytes out.new ≡ string_bytes out.old
+        ++ band generals strokes.now accesses.now wide before) }
 {
     put_group_start(out, 0, top_of(generals, strokes, accesses, before))?;
     put_inside(
@@ -69,7 +71,8 @@ fn put_inside(
     wide: u128,
     round: u32,
 ) -> Result<(), AllocError>
-    ensures { OnOk result (string_bytes out.new ≡ string_bytes out.old ++ inside generals strokes.now accesses.now wide round) }
+    ensures { OnOk result (string_bytes out.new ≡ string_bytes out.old
+        ++ inside generals strokes.now accesses.now wide round) }
 {
     put_line(out, "rule", 16, 0, wide, 0)?;
     put_round_text(out, round)?;
@@ -89,7 +92,8 @@ fn put_inside(
 ///
 /// No memory for the text; so of every function here.
 pub fn put_round_text(out: &mut String, round: u32) -> Result<(), AllocError>
-    ensures { OnOk result (string_bytes out.new ≡ string_bytes out.old ++ text_at (codes "round") 16 24 (round_words round)) }
+    ensures { OnOk result (string_bytes out.new ≡ string_bytes out.old
+        ++ text_at (codes "round") 16 24 (round_words round)) }
 {
     put_text_start(out, "round", 16, 24)?;
     put_round(out, round)?;
@@ -119,7 +123,8 @@ pub fn put_lives(
 
 /// Adds the line of each general.
 fn put_general_lives(out: &mut String, generals: u8, height: u128) -> Result<(), AllocError>
-    ensures { OnOk result (string_bytes out.new ≡ string_bytes out.old ++ flat_map (general_life height) (range_with_len 0 generals)) }
+    ensures { OnOk result (string_bytes out.new ≡ string_bytes out.old
+        ++ flat_map (general_life height) (range_with_len 0 generals)) }
 {
     for general in 0..generals {
         put_general_life(out, general, height)?;
@@ -163,7 +168,8 @@ pub fn put_accesses(
     accesses: &[Access],
     round: u32,
 ) -> Result<(), AllocError>
-    ensures { OnOk result (string_bytes out.new ≡ string_bytes out.old ++ accesses_from generals accesses.now round 0 accesses.now) }
+    ensures { OnOk result (string_bytes out.new ≡ string_bytes out.old
+        ++ accesses_from generals accesses.now round 0 accesses.now) }
 {
     let before = accesses_before(accesses, round);
     for (place, access) in accesses.iter().enumerate() {
@@ -213,7 +219,8 @@ fn put_access_title(out: &mut String, access: &Access) -> Result<(), AllocError>
 
 /// Adds what is written of an access.
 fn put_access_text(out: &mut String, x: u128, access: &Access) -> Result<(), AllocError>
-    ensures { OnOk result (string_bytes out.new ≡ string_bytes out.old ++ text_at (codes "small") x 4 (shown_words access.now)) }
+    ensures { OnOk result (string_bytes out.new ≡ string_bytes out.old
+        ++ text_at (codes "small") x 4 (shown_words access.now)) }
 {
     put_text_start(out, "small", x, 4)?;
     put_shown(out, access)?;
@@ -228,7 +235,8 @@ fn put_strokes(
     accesses: &[Access],
     round: u32,
 ) -> Result<(), AllocError>
-    ensures { OnOk result (string_bytes out.new ≡ string_bytes out.old ++ flat_map (drawn generals accesses.now round) strokes.now) }
+    ensures { OnOk result (string_bytes out.new ≡ string_bytes out.old
+        ++ flat_map (drawn generals accesses.now round) strokes.now) }
 {
     let top = fan_top(accesses, round);
     let below = rows_top(generals, accesses, round);
@@ -288,7 +296,8 @@ fn put_stroke_title(out: &mut String, stroke: &Stroke) -> Result<(), AllocError>
 
 /// Adds what is written of a stroke in its receiver's list.
 fn put_row_text(out: &mut String, stroke: &Stroke) -> Result<(), AllocError>
-    ensures { OnOk result (string_bytes out.new ≡ string_bytes out.old ++ text_at (codes "small") 12 4 (row_words stroke.now)) }
+    ensures { OnOk result (string_bytes out.new ≡ string_bytes out.old
+        ++ text_at (codes "small") 12 4 (row_words stroke.now)) }
 {
     put_text_start(out, "small", 12, 4)?;
     put_row_words(out, stroke)?;

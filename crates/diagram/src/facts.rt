@@ -9,8 +9,8 @@ use crate::tellings::tellings;
 use book::Heard;
 use std::alloc::{AllocError, Global};
 
-/// Who told whom what, where the commander was given this order: by receiver, in the order of his tree's labels, what one
-/// general told him of several labels of one length alike as one stroke.
+/// Who told whom what, where the commander was given this order: by receiver, in the order of his tree's labels, what
+/// one general told him of several labels of one length alike as one stroke.
 ///
 /// # Errors
 ///

@@ -10,8 +10,8 @@ use crate::shapes::{
 use crate::words::outline_of;
 use std::alloc::AllocError;
 
-/// Adds what the marks mean: of what is told as it should be, of something else, and of nothing in its place; and what the
-/// width of a line tells.
+/// Adds what the marks mean: of what is told as it should be, of something else, and of nothing in its place; and what
+/// the width of a line tells.
 ///
 /// # Errors
 ///
@@ -23,7 +23,8 @@ pub fn put_legend_of(
     missing: &str,
     wide: &str,
 ) -> Result<(), AllocError>
-    ensures { OnOk result (string_bytes out.new ≡ string_bytes out.old ++ legend_of told.now differs.now missing.now wide.now) }
+    ensures { OnOk result (string_bytes out.new ≡ string_bytes out.old
+        ++ legend_of told.now differs.now missing.now wide.now) }
 {
     put_meaning(out, 132, "told key", outline_of(false, None), told)?;
     put_meaning(out, 152, "lie key", outline_of(true, Some(0)), differs)?;

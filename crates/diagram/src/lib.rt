@@ -1,5 +1,5 @@
-//! A campaign as a picture in SVG, a space-time diagram: a column for each general and the board, a band for each round.
-//! Its parts are public, for diagrams of other campaigns.
+//! A campaign as a picture in SVG, a space-time diagram: a column for each general and the board, a band for each
+//! round. Its parts are public, for diagrams of other campaigns.
 #![tactic(auto)]
 
 pub mod bands;

@@ -116,7 +116,8 @@ pub fn put_campaign(
     commander: u8,
     order: u32,
 ) -> Result<(), AllocError>
-    ensures { OnOk result (string_bytes out.new ≡ string_bytes out.old ++ campaign_words generals bound commander order) }
+    ensures { OnOk result (string_bytes out.new ≡ string_bytes out.old
+        ++ campaign_words generals bound commander order) }
 {
     write!(
         out,
@@ -130,8 +131,10 @@ fn key() -> &'static str
     ensures { result.now ≡ key }
 {
     "<desc>A column for each general, and a band for each round, from above. In a band a line leads down from who tells something \
-     to whom he tells it, as wide as he tells it of labels, up to 5, and below stands in the column of the receiver what he was told. \
-     Circle and plain line: as an honest relay tells it. Diamond and dashes: something else. Cross and dots: nothing, where \
+     to whom he tells it, as wide as he tells it of labels, up to 5, and below stands in
+         the column of the receiver what he was told. \
+     Circle and plain line: as an honest relay tells it. Diamond and dashes: something else. Cross and dots: nothing,
+         where \
      something was to be told. Above the lines stand the accesses to the board, in its order. Square: a traitor.</desc>\n"
 }
 
@@ -164,7 +167,8 @@ pub fn put_heads(
 
 /// Adds the head of each general's column.
 fn put_general_heads(out: &mut String, scenario: &Scenario) -> Result<(), AllocError>
-    ensures { OnOk result (string_bytes out.new ≡ string_bytes out.old ++ flat_map (head_of scenario.now) (range_with_len 0 scenario.now.generals)) }
+    ensures { OnOk result (string_bytes out.new ≡ string_bytes out.old
+        ++ flat_map (head_of scenario.now) (range_with_len 0 scenario.now.generals)) }
 {
     for general in 0..scenario.generals() {
         put_head_of(out, scenario, general)?;
@@ -198,7 +202,8 @@ fn put_general_head(
     is_commander: bool,
     is_traitor: bool,
 ) -> Result<(), AllocError>
-    ensures { OnOk result (string_bytes out.new ≡ string_bytes out.old ++ general_head general is_commander is_traitor) }
+    ensures { OnOk result (string_bytes out.new ≡ string_bytes out.old
+        ++ general_head general is_commander is_traitor) }
 {
     put_group_start(out, column(u32::from(general)), 50)?;
     put_mark(out, sort_of(is_traitor), shape_of(is_traitor))?;
@@ -209,7 +214,8 @@ fn put_general_head(
 
 /// Adds a general's name beside his shape.
 fn put_name(out: &mut String, general: u8) -> Result<(), AllocError>
-    ensures { OnOk result (string_bytes out.new ≡ string_bytes out.old ++ text_at (codes "name") 12 4 (general_words general)) }
+    ensures { OnOk result (string_bytes out.new ≡ string_bytes out.old
+        ++ text_at (codes "name") 12 4 (general_words general)) }
 {
     put_text_start(out, "name", 12, 4)?;
     put_general(out, u32::from(general))?;

@@ -85,7 +85,8 @@ fn push_below<H: Heard>(
 ) -> Result<(), AllocError>
     requires place { is_place (H.seen table.now) label.now general ≡ true }
     requires relays { length label.now + relays ≡ (H.seen table.now).bound + 1 }
-    ensures { OnOk result (tellings.new.items ≡ tellings.old.items ++ tellings_below (H.seen table.now) relays label.now general) }
+    ensures { OnOk result (tellings.new.items ≡ tellings.old.items
+        ++ tellings_below (H.seen table.now) relays label.now general) }
 {
     if relays == 0 {
         return Ok(());

@@ -17,7 +17,8 @@ picture t traitors view Svg p = svg_text t traitors view p
 
 -- of one who is no lieutenant there is none
 abbrev pub drawn : MessageTable → List ℕ → View → Form → ℕ → List ℕ
-drawn t traitors view form p = if nat_lt p t.generals && not (p == t.commander) then picture t traitors view form p else []
+drawn t traitors view form p =
+    if nat_lt p t.generals && not (p == t.commander) then picture t traitors view form p else []
 
 -- the text tells a table, and this is the general's tree
 abbrev pub DrawsTable : List ℕ → List ℕ → View → Form → ℕ → List ℕ → Type 0

@@ -35,7 +35,8 @@ outcome_at t k w p = if k == 0 then Told else outcome_of t.rule (list_of t (k - 
 -- whether j lies, who tells p of w: he is named, and does not tell what he took
 abbrev pub mark_at : MessageTable → List ℕ → List ℕ → ℕ → ℕ → Mark
 mark_at t traitors w j p =
-    if on traitors j && not (is_told (taken (told t.messages) w j) (told t.messages (w ++ j ∷ []) p)) then Lie j (taken (told t.messages) w j) else Honest
+    if on traitors j && not (is_told (taken (told t.messages) w j) (told t.messages (w ++ j ∷ []) p))
+    then Lie j (taken (told t.messages) w j) else Honest
 
 abbrev pub is_honest : Mark → Bool
 is_honest Honest = true
@@ -48,12 +49,14 @@ is_same (Some order) other = is_told order other
 
 -- p is told the same of w, and by j of w, and this is no lie
 abbrev pub tells : MessageTable → List ℕ → List ℕ → ℕ → ℕ → Bool
-tells t traitors w j p = is_same (told t.messages (w ++ j ∷ []) p) (told t.messages w p) && is_honest (mark_at t traitors w j p)
+tells t traitors w j p =
+    is_same (told t.messages (w ++ j ∷ []) p) (told t.messages w p) && is_honest (mark_at t traitors w j p)
 
 -- so it is of all labels that go on from w
 unfoldable pub is_alike : MessageTable → List ℕ → ℕ → List ℕ → ℕ → Bool
 is_alike t traitors zero w p = true
-is_alike t traitors (suc k) w p = list_all (λ j. tells t traitors w j p && is_alike t traitors k (w ++ j ∷ []) p) (others t.generals (p ∷ w))
+is_alike t traitors (suc k) w p =
+    list_all (λ j. tells t traitors w j p && is_alike t traitors k (w ++ j ∷ []) p) (others t.generals (p ∷ w))
 
 -- so it is of j, and of all labels that go on from w with him
 abbrev pub is_alike_by : MessageTable → List ℕ → ℕ → List ℕ → ℕ → ℕ → Bool
@@ -75,4 +78,10 @@ extent_at t traitors view k w p =
 -- all of it
 unfoldable pub node_at : MessageTable → List ℕ → View → Mark → ℕ → List ℕ → ℕ → Node
 node_at t traitors view mark k w p =
-    record { label = w; told = told t.messages w p; outcome = outcome_at t k w p; mark = mark; extent = extent_at t traitors view k w p }
+    record {
+      label = w;
+      told = told t.messages w p;
+      outcome = outcome_at t k w p;
+      mark = mark;
+      extent = extent_at t traitors view k w p;
+    }

@@ -33,11 +33,13 @@ extent_style (Cut count) = codes ", peripheries=2"
 
 -- from the label without its last general, if there is one
 abbrev pub edge : List ℕ → List ℕ
-edge w = if nat_lt (length w) 2 then [] else codes "  \"" ++ dotted (take (length w - 1) w) ++ codes "\" -> \"" ++ dotted w ++ codes "\";\n"
+edge w = if nat_lt (length w) 2 then []
+    else codes "  \"" ++ dotted (take (length w - 1) w) ++ codes "\" -> \"" ++ dotted w ++ codes "\";\n"
 
 -- a label's box, with what stands in it
 abbrev pub graph_box : Node → List ℕ
-graph_box node = codes "  \"" ++ dotted node.label ++ codes "\" [label=\"" ++ dotted node.label ++ codes "\\n" ++ words (codes "\\n") node
+graph_box node = codes "  \"" ++ dotted node.label ++ codes "\" [label=\"" ++ dotted node.label ++ codes "\\n"
+    ++ words (codes "\\n") node
 
 abbrev pub graph_styles : Node → List ℕ
 graph_styles node = codes "\"" ++ mark_style node.mark ++ outcome_style node.outcome ++ extent_style node.extent
@@ -54,7 +56,8 @@ graph_start = codes "digraph tree {\n  rankdir=LR;\n  ordering=out;\n  labelloc=
 
 -- whose tree it is, and what he decides
 unfoldable pub graph_title : ℕ → ℕ → List ℕ
-graph_title p order = codes "  label=\"lieutenant " ++ (decimal p ++ (codes " decides " ++ (decimal order ++ codes "\";\n")))
+graph_title p order =
+    codes "  label=\"lieutenant " ++ (decimal p ++ (codes " decides " ++ (decimal order ++ codes "\";\n")))
 
 abbrev pub graph_head : ℕ → ℕ → List ℕ
 graph_head p order = graph_start ++ graph_title p order

@@ -11,8 +11,10 @@ use Rattle.drawing.specs.Words.{outcome_words}
 
 -- what is said of a label's list is what the explanation says of it
 abbrev pub OutcomesAreExplained : Type 0
-OutcomesAreExplained = (rule : Rule) (orders : List ℕ) (stop : List ℕ) → outcome_words stop (outcome_of rule orders) ≡ stop ++ outcome rule orders
+OutcomesAreExplained = (rule : Rule) (orders : List ℕ) (stop : List ℕ) →
+    outcome_words stop (outcome_of rule orders) ≡ stop ++ outcome rule orders
 
 -- each picture is one element of XML, and a line feed
 abbrev pub PicturesAreElements : Type 0
-PicturesAreElements = (t : MessageTable) (traitors : List ℕ) (view : View) (p : ℕ) → (text : List ℕ) × IsElement text × (svg_text t traitors view p ≡ text ++ codes "\n")
+PicturesAreElements = (t : MessageTable) (traitors : List ℕ) (view : View) (p : ℕ) →
+    (text : List ℕ) × IsElement text × (svg_text t traitors view p ≡ text ++ codes "\n")

@@ -38,4 +38,5 @@ node_lines style n p nodes = flat_map (node_line style n p) nodes
 
 -- who he is, his tree, and his decision
 unfoldable pub tree_text : MessageTable → List ℕ → View → Style → ℕ → List ℕ
-tree_text t traitors view style p = head_line p ++ node_lines style t.generals p (nodes_of t traitors view p) ++ decision_line p (on traitors p) (decision_of t p)
+tree_text t traitors view style p = head_line p ++ node_lines style t.generals p (nodes_of t traitors view p)
+    ++ decision_line p (on traitors p) (decision_of t p)

@@ -57,7 +57,8 @@ outline Traitor = codes " 6h6v12h-12v-12z"
 outline (Lie general took) = codes " 4l8 8l-8 8l-8-8z"
 
 unfoldable pub shape : ℕ → Mark → Outcome → List ℕ
-shape left mark outcome = codes "<path class=\"" ++ (kind mark ++ (outcome_class outcome ++ (codes "\" d=\"M" ++ (decimal left ++ (outline mark ++ codes "\"/>")))))
+shape left mark outcome = codes "<path class=\""
+    ++ (kind mark ++ (outcome_class outcome ++ (codes "\" d=\"M" ++ (decimal left ++ (outline mark ++ codes "\"/>")))))
 
 -- what is said of a label, behind its shape
 unfoldable pub word_text : ℕ → Node → List ℕ
@@ -79,8 +80,10 @@ row_end = codes "</g>\n"
 -- the row of a label
 abbrev pub row : ℕ → ℕ → ℕ → Node → List ℕ
 row n p place node =
-    row_start place ++ lines_start ++ branch_ways n p node.label ++ stub (28 * (length node.label - 1)) node.extent ++ lines_end
-    ++ shape (28 * (length node.label - 1)) node.mark node.outcome ++ word_text (28 * (length node.label - 1) + 14) node ++ row_end
+    row_start place ++ lines_start ++ branch_ways n p node.label ++ stub (28 * (length node.label - 1)) node.extent
+    ++ lines_end
+    ++ shape (28 * (length node.label - 1)) node.mark node.outcome ++ word_text (28 * (length node.label - 1) + 14) node
+    ++ row_end
 
 -- rows below each other, the first of them so many below the first of all
 unfoldable pub rows_from : ℕ → ℕ → ℕ → List Node → List ℕ

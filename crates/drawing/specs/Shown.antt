@@ -31,14 +31,17 @@ with_those node nodes = node ∷ (if is_open node.extent then nodes else [])
 unfoldable pub nodes_below : MessageTable → List ℕ → View → ℕ → List ℕ → ℕ → List Node
 nodes_below t traitors view zero w p = []
 nodes_below t traitors view (suc k) w p =
-    flat_map (λ j. with_those (node_at t traitors view (mark_at t traitors w j p) k (w ++ j ∷ []) p) (nodes_below t traitors (deeper view) k (w ++ j ∷ []) p))
+    flat_map (λ j. with_those (node_at t traitors view (mark_at t traitors w j p) k (w ++ j ∷ []) p)
+    (nodes_below t traitors (deeper view) k (w ++ j ∷ []) p))
     (others t.generals (p ∷ w))
 
 -- those of the next general j
 abbrev pub nodes_by : MessageTable → List ℕ → View → ℕ → List ℕ → ℕ → ℕ → List Node
-nodes_by t traitors view k w j p = with_those (node_at t traitors view (mark_at t traitors w j p) k (w ++ j ∷ []) p) (nodes_below t traitors (deeper view) k (w ++ j ∷ []) p)
+nodes_by t traitors view k w j p = with_those (node_at t traitors view (mark_at t traitors w j p) k (w ++ j ∷ []) p)
+    (nodes_below t traitors (deeper view) k (w ++ j ∷ []) p)
 
 -- all that are shown, the commander's first
 unfoldable pub nodes_of : MessageTable → List ℕ → View → ℕ → List Node
 nodes_of t traitors view p =
-    with_those (node_at t traitors view (root_mark traitors t.commander) t.bound (t.commander ∷ []) p) (nodes_below t traitors (deeper view) t.bound (t.commander ∷ []) p)
+    with_those (node_at t traitors view (root_mark traitors t.commander) t.bound (t.commander ∷ []) p)
+    (nodes_below t traitors (deeper view) t.bound (t.commander ∷ []) p)

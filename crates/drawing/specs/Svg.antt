@@ -23,7 +23,8 @@ unfoldable pub title : ℕ → ℕ → List ℕ
 title p order = codes "<title>lieutenant " ++ (decimal p ++ (codes " decides " ++ (decimal order ++ codes "</title>")))
 
 unfoldable pub heading : ℕ → ℕ → List ℕ
-heading p order = codes "<text x=\"10\" y=\"24\">lieutenant " ++ (decimal p ++ (codes " decides " ++ (decimal order ++ codes "</text>\n")))
+heading p order = codes "<text x=\"10\" y=\"24\">lieutenant "
+    ++ (decimal p ++ (codes " decides " ++ (decimal order ++ codes "</text>\n")))
 
 -- what is told of the shapes to those who do not see them
 unfoldable pub key : List ℕ

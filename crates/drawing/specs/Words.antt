@@ -31,7 +31,8 @@ extent_words stop (Folded count) = stop ++ decimal count ++ codes " below told t
 extent_words stop (Cut count) = stop ++ decimal count ++ codes " below not shown"
 
 abbrev pub words : List ℕ → Node → List ℕ
-words stop node = told_words node.told ++ outcome_words stop node.outcome ++ mark_words stop node.mark ++ extent_words stop node.extent
+words stop node = told_words node.told ++ outcome_words stop node.outcome ++ mark_words stop node.mark
+    ++ extent_words stop node.extent
 
 -- a label with what is said of it, on one line
 abbrev pub said : Node → List ℕ

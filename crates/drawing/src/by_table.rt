@@ -12,8 +12,8 @@ use crate::svg::tree_svg;
 use book::{Heard, TableError, read_table};
 use std::alloc::{AllocError, Global};
 
-/// What this general was told by the message table, in this form, where these are named as traitors; nothing where he is
-/// no lieutenant of the table.
+/// What this general was told by the message table, in this form, where these are named as traitors; nothing where he
+/// is no lieutenant of the table.
 ///
 /// # Errors
 ///

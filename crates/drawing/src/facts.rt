@@ -111,8 +111,8 @@ fn is_same(one: Option<u32>, other: Option<u32>) -> bool
     }
 }
 
-/// How far the word of this general is to be trusted, who tells the lieutenant of a label: the next label has him behind
-/// it.
+/// How far the word of this general is to be trusted, who tells the lieutenant of a label: the next label has him
+/// behind it.
 pub fn mark_at<H: Heard>(
     table: &H,
     traitors: &[u8],

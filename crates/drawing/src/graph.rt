@@ -10,8 +10,8 @@ use book::{Heard, decision};
 use std::alloc::{AllocError, Global};
 
 /// The tree of what a lieutenant was told, as a graph: a box for each label that is shown, an octagon for a lie and for
-/// the word of a commander who is named as a traitor, with dashes where no order has a majority, and doubled where labels
-/// below are not shown.
+/// the word of a commander who is named as a traitor, with dashes where no order has a majority, and doubled where
+/// labels below are not shown.
 ///
 /// # Errors
 ///

@@ -88,7 +88,8 @@ fn put_branches(
     general: u8,
     label: &[u8],
 ) -> Result<(), AllocError>
-    ensures { OnOk result (string_bytes out.new ≡ string_bytes out.old ++ branches_text style generals general label.now) }
+    ensures { OnOk result (string_bytes out.new ≡ string_bytes out.old
+        ++ branches_text style generals general label.now) }
 {
     for place in 0..label.len().saturating_sub(1) {
         out.push_str(branch_text(style, branch_at(generals, general, label, place)))?;

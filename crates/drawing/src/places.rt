@@ -50,8 +50,8 @@ fn has(generals: &[u8], general: u8) -> bool
     generals.iter().any(|x| *x == general)
 }
 
-/// The line that a row has below the general at this place of its label: whether the next one is the last below him, and
-/// whether the row is his.
+/// The line that a row has below the general at this place of its label: whether the next one is the last below him,
+/// and whether the row is his.
 pub(crate) fn branch_at(generals: u8, general: u8, label: &[u8], place: usize) -> Branch
     requires { place + 1 < length label.now }
     ensures { result ≡ branch_at generals general label.now place }

@@ -89,7 +89,8 @@ fn push_with<H: Heard>(
 ) -> Result<(), AllocError>
     requires place { is_place (H.seen table.now) label.now general ≡ true }
     requires relays { length label.now + relays ≡ (H.seen table.now).bound + 1 }
-    ensures { OnOk result (nodes.new.items ≡ nodes.old.items ++ with_those node (nodes_below (H.seen table.now) traitors.now (deeper view) relays label.now general)) }
+    ensures { OnOk result (nodes.new.items ≡ nodes.old.items
+        ++ with_those node (nodes_below (H.seen table.now) traitors.now (deeper view) relays label.now general)) }
 {
     let opens = is_open(node.extent);
     nodes.push(node)?;
@@ -112,7 +113,8 @@ fn push_below<H: Heard>(
 ) -> Result<(), AllocError>
     requires place { is_place (H.seen table.now) label.now general ≡ true }
     requires relays { length label.now + relays ≡ (H.seen table.now).bound + 1 }
-    ensures { OnOk result (nodes.new.items ≡ nodes.old.items ++ nodes_below (H.seen table.now) traitors.now view relays label.now general) }
+    ensures { OnOk result (nodes.new.items ≡ nodes.old.items
+        ++ nodes_below (H.seen table.now) traitors.now view relays label.now general) }
 {
     if relays == 0 {
         return Ok(());

@@ -15,7 +15,8 @@ abbrev pub is_section_whole : List ℕ → Section → Bool
 is_section_whole object section = has_no_bytes section || nat_le (section.start + section.size) (length object)
 
 abbrev pub section_damage : List ℕ → List ℕ → ℕ → Option Damage
-section_damage object table index = if is_section_whole object (section_at index table) then None else Some (damages.Section index)
+section_damage object table index =
+    if is_section_whole object (section_at index table) then None else Some (damages.Section index)
 
 -- its name begins within the strings, and its code lies within its section
 abbrev pub is_symbol_whole : List ℕ → List ℕ → Symbol → Bool
@@ -25,7 +26,8 @@ is_symbol_whole table strings symbol =
 -- of symbols only the functions are looked at
 abbrev pub symbol_damage : List ℕ → List ℕ → List ℕ → ℕ → Option Damage
 symbol_damage table symbols strings index =
-    if is_function table (symbol_at index symbols) && not (is_symbol_whole table strings (symbol_at index symbols)) then Some (damages.Symbol index) else None
+    if is_function table (symbol_at index symbols) && not (is_symbol_whole table strings (symbol_at index symbols))
+    then Some (damages.Symbol index) else None
 
 -- the relocation names a symbol that is there
 abbrev pub relocation_damage : ℕ → ℕ → ℕ → List ℕ → ℕ → Option Damage
@@ -38,7 +40,8 @@ relocations_damage object table home symbols index =
     if is_relocations (section_at index table) then
     (if (section_at index table).link == home then
     first_some
-    (relocation_damage index symbols (relocation_size (section_at index table)) (section_bytes object (section_at index table)))
+    (relocation_damage index symbols (relocation_size (section_at index table))
+    (section_bytes object (section_at index table)))
     (length (section_bytes object (section_at index table)) / relocation_size (section_at index table))
     else Some (damages.Relocations index))
     else None

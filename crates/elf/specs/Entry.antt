@@ -39,7 +39,8 @@ parts_at object table count home = record {
 
 abbrev pub parts_of : List ℕ → Parts
 parts_of object =
-    parts_at object (section_table object) (section_count object) (symbols_section (section_table object) (section_count object))
+    parts_at object (section_table object) (section_count object)
+    (symbols_section (section_table object) (section_count object))
 
 abbrev pub as_fault : Option Damage → Option Fault
 as_fault None = None
@@ -66,7 +67,8 @@ first_only (Some index) beside = only index (beside (index + 1))
 
 -- the functions that fit, from a least number on: the first
 abbrev pub entry_from : List ℕ → List ℕ → List ℕ → Option (List ℕ) → ℕ → Option ℕ
-entry_from table symbols strings name least = first_some (entry_here table symbols strings name least) (length symbols / 24)
+entry_from table symbols strings name least =
+    first_some (entry_here table symbols strings name least) (length symbols / 24)
 
 -- the one function that fits
 abbrev pub chosen : List ℕ → List ℕ → List ℕ → Option (List ℕ) → Result ℕ Fault
@@ -75,7 +77,8 @@ chosen table symbols strings name =
 
 -- the code of a function
 abbrev pub code_in : List ℕ → List ℕ → Symbol → List ℕ
-code_in object table function = window function.value function.size (section_bytes object (section_at function.section table))
+code_in object table function =
+    window function.value function.size (section_bytes object (section_at function.section table))
 
 -- the first relocation that changes its code, then the first unit that calls a function
 abbrev pub function_fault : List ℕ → List ℕ → ℕ → List ℕ → Symbol → Option Fault
@@ -97,7 +100,8 @@ then_by (Err fault) next = Err fault
 abbrev pub found_in : List ℕ → Parts → Option (List ℕ) → Result Symbol Fault
 found_in object parts name =
     then_by (chosen parts.table parts.symbols parts.strings name) (λ index.
-    unless (function_fault object parts.table parts.count parts.symbols (symbol_at index parts.symbols)) (symbol_at index parts.symbols))
+    unless (function_fault object parts.table parts.count parts.symbols (symbol_at index parts.symbols))
+    (symbol_at index parts.symbols))
 
 -- what is wrong with the object, then with the entry; else the function
 abbrev pub function_of : List ℕ → Option (List ℕ) → Result Symbol Fault
@@ -105,4 +109,5 @@ function_of object name = then_by (unless (object_fault object) (parts_of object
 
 -- its code
 abbrev pub entry_of : List ℕ → Option (List ℕ) → Result (List ℕ) Fault
-entry_of object name = then_by (function_of object name) (λ function. Ok (code_in object (section_table object) function))
+entry_of object name =
+    then_by (function_of object name) (λ function. Ok (code_in object (section_table object) function))

@@ -26,7 +26,8 @@ relocation_at size index relocations = record {
 
 -- it changes the function's code
 abbrev pub is_within : Relocation → Symbol → Bool
-is_within relocation function = nat_le function.value relocation.place && nat_lt relocation.place (function.value + function.size)
+is_within relocation function =
+    nat_le function.value relocation.place && nat_lt relocation.place (function.value + function.size)
 
 -- what is wrong with a place of the function's code that names the symbol: a machine without calls of functions
 -- leaves its function, and data is not there at all
@@ -37,7 +38,8 @@ named_at table symbol unit = if is_code (section_at symbol.section table) then L
 abbrev pub relocation_fault : List ℕ → List ℕ → Symbol → ℕ → List ℕ → ℕ → Option Fault
 relocation_fault table symbols function size relocations index =
     if is_within (relocation_at size index relocations) function
-    then Some (named_at table (symbol_at (relocation_at size index relocations).symbol symbols) (((relocation_at size index relocations).place - function.value) / 8))
+    then Some (named_at table (symbol_at (relocation_at size index relocations).symbol symbols)
+    (((relocation_at size index relocations).place - function.value) / 8))
     else None
 
 -- the first fault of a section's relocations, if they change the function's section
@@ -45,7 +47,8 @@ abbrev pub relocations_fault : List ℕ → List ℕ → List ℕ → Symbol →
 relocations_fault object table symbols function index =
     if is_relocations (section_at index table) && ((section_at index table).info == function.section)
     then first_some
-    (relocation_fault table symbols function (relocation_size (section_at index table)) (section_bytes object (section_at index table)))
+    (relocation_fault table symbols function (relocation_size (section_at index table))
+    (section_bytes object (section_at index table)))
     (length (section_bytes object (section_at index table)) / relocation_size (section_at index table))
     else None
 

@@ -21,7 +21,8 @@ section_table object = window (number_at 8 40 object) (64 * section_count object
 -- the header is there, e_shentsize is 64, and the headers of the sections are there
 abbrev pub is_table_whole : List ℕ → Bool
 is_table_whole object =
-    nat_le 64 (length object) && (number_at 2 58 object == 64) && (length (section_table object) == 64 * section_count object)
+    nat_le 64 (length object) && (number_at 2 58 object == 64)
+    && (length (section_table object) == 64 * section_count object)
 
 -- sh_type, sh_flags, sh_offset, sh_size, sh_link and sh_info; zeros past the table
 abbrev pub section_at : ℕ → List ℕ → Section

@@ -37,7 +37,8 @@ is_global symbol = (symbol.info / 16 == 1) || (symbol.info / 16 == 2)
 -- the bytes begin with the name and a zero
 abbrev pub begins_with_name : List ℕ → List ℕ → Bool
 begins_with_name bytes name =
-    nat_lt (length name) (length bytes) && bytes_eq (take (length name) bytes) name && (slice_index bytes (length name) == 0)
+    nat_lt (length name) (length bytes) && bytes_eq (take (length name) bytes) name
+    && (slice_index bytes (length name) == 0)
 
 -- the name behind a reference, where one is asked
 abbrev pub asked : Option (Bor (List ℕ)) → Option (List ℕ)
@@ -51,4 +52,5 @@ fits strings symbol (Some name) = begins_with_name (drop symbol.name strings) na
 -- the number of the symbol, from a least one on, if it is a function that fits
 abbrev pub entry_here : List ℕ → List ℕ → List ℕ → Option (List ℕ) → ℕ → ℕ → Option ℕ
 entry_here table symbols strings name least index =
-    if nat_le least index && is_function table (symbol_at index symbols) && fits strings (symbol_at index symbols) name then Some index else None
+    if nat_le least index && is_function table (symbol_at index symbols) && fits strings (symbol_at index symbols) name
+    then Some index else None

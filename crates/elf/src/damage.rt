@@ -103,7 +103,8 @@ fn first_relocation(
     relocations: &[u8],
 ) -> Option<Damage>
     requires { 16 ≤ size }
-    ensures { result ≡ first_some (relocation_damage section symbols size relocations.now) (length relocations.now / size) }
+    ensures { result ≡ first_some (relocation_damage section symbols size relocations.now)
+        (length relocations.now / size) }
 {
     for index in 0..relocations.len() / size {
         match of_relocation(section, symbols, size, relocations, index) {

@@ -171,7 +171,8 @@ pub fn function(object: &[u8], name: Option<&[u8]>) -> Result<Symbol, Fault>
 ///
 /// The first fault, as of [`function`].
 pub fn entry<'a>(object: &'a [u8], name: Option<&[u8]>) -> Result<&'a [u8], Fault>
-    ensures { MatchResult result (λ code. entry_of object.now (asked name.entry) ≡ Ok code.now) (λ fault. entry_of object.now (asked name.entry) ≡ Err fault) }
+    ensures { MatchResult result (λ code. entry_of object.now (asked name.entry) ≡ Ok code.now)
+        (λ fault. entry_of object.now (asked name.entry) ≡ Err fault) }
 {
     let function = function(object, name)?;
     Ok(code_of(object, read_table(object), function))

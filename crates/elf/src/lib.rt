@@ -1,4 +1,5 @@
-//! ELF objects for BPF: the code of one function, or the first fault (System V ABI, "Object Files"; LLVM's BPF relocations).
+//! ELF objects for BPF: the code of one function, or the first fault (System V ABI, "Object Files"; LLVM's BPF
+//! relocations).
 #![tactic(auto)]
 
 mod damage;

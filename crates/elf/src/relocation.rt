@@ -89,7 +89,8 @@ fn first_fault(
     relocations: &[u8],
 ) -> Option<Fault>
     requires { 16 ≤ size }
-    ensures { result ≡ first_some (relocation_fault table.now symbols.now function size relocations.now) (length relocations.now / size) }
+    ensures { result ≡ first_some (relocation_fault table.now symbols.now function size relocations.now)
+        (length relocations.now / size) }
 {
     for index in 0..relocations.len() / size {
         match fault_at(table, symbols, function, size, relocations, index) {

@@ -1,4 +1,5 @@
--- What is known of cells of the stack, as text: [FIRST..LAST], what they hold and from which units, for each cells in a row that hold the same from the same units (own).
+-- What is known of cells of the stack, as text: [FIRST..LAST], what they hold and from which units, for each cells in a
+-- row that hold the same from the same units (own).
 use Rattle.std.specs.Prelude.{ℕ, ℤ, zero, suc, pos, ◌-ℤ◌, Bool, true, false, if◌then◌else◌, List, [], ◌++◌, Option, Some, None, codes}
 use Rattle.std.specs.Fmt.{signed_decimal}
 use Rattle.std.specs.Ordering.{int_eq}

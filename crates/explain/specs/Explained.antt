@@ -1,4 +1,5 @@
--- The explanation of a program: what is known at each unit to which the verifier comes, and why it is refused, if so (own).
+-- The explanation of a program: what is known at each unit to which the verifier comes, and why it is refused, if so
+-- (own).
 use Rattle.std.specs.Prelude.{ℕ, ℤ, pos, ◌+◌, ◌+ℤ◌, ◌==◌, nat_lt, Bool, false, if◌then◌else◌, List, [], ◌∷◌, ◌++◌, Option, Some, None, option_map, option_and_then, codes, length}
 use Rattle.insn.specs.declared.insn.Insn.{Insn}
 use Rattle.insn.specs.declared.insn.Insn.TheVariants.{Jump, LongJump, Branch}
@@ -37,13 +38,15 @@ read_text registers None = []
 read_text registers (Some r) = codes " ; " ++ named_text r (known_at registers r)
 
 abbrev pub reads_text : List AbsVal → List (Option ℕ) → List ℕ
-reads_text registers (first ∷ second ∷ third ∷ []) = read_text registers first ++ read_text registers second ++ read_text registers third
+reads_text registers (first ∷ second ∷ third ∷ []) =
+    read_text registers first ++ read_text registers second ++ read_text registers third
 reads_text registers _ = []
 
 -- in a program of which this is known by unit
 abbrev pub known_text : List Insn → KnownByUnit → ℕ → Insn → Option AbsState → List ℕ
 known_text program survey unit i None = codes " ; no way leads here"
-known_text program survey unit i (Some a) = reads_text a.registers (read_by i) ++ cells_read (holding program survey unit a.stack) i a.registers
+known_text program survey unit i (Some a) =
+    reads_text a.registers (read_by i) ++ cells_read (holding program survey unit a.stack) i a.registers
 
 -- each line behind the end of the one before
 abbrev pub place_text : Writing → ℕ → Insn → List ℕ
@@ -70,10 +73,12 @@ abbrev pub behind_text : Option VerifyError → ℕ → Insn → Option AbsState
 behind_text fault unit i known = if is_at fault unit then [] else given_text i known
 
 abbrev pub whole_line : Writing → List Insn → KnownByUnit → Option VerifyError → ℕ → Insn → Option AbsState → List ℕ
-whole_line written program survey fault unit i known = unit_line written program survey unit i known ++ behind_text fault unit i known
+whole_line written program survey fault unit i known =
+    unit_line written program survey unit i known ++ behind_text fault unit i known
 
 -- of an instruction to which the verifier comes
-abbrev pub line_if : Writing → List Insn → KnownByUnit → Option VerifyError → ℕ → Insn → Option (Option AbsState) → List ℕ
+abbrev pub line_if : Writing → List Insn → KnownByUnit → Option VerifyError → ℕ → Insn → Option (Option AbsState) →
+    List ℕ
 line_if written program survey fault unit i None = []
 line_if written program survey fault unit i (Some known) = whole_line written program survey fault unit i known
 
@@ -81,7 +86,8 @@ line_if written program survey fault unit i (Some known) = whole_line written pr
 abbrev pub known_lines : Writing → List Insn → KnownByUnit → Option VerifyError → ℕ → List Insn → List ℕ
 known_lines written program survey fault unit [] = []
 known_lines written program survey fault unit (i ∷ is) =
-    line_if written program survey fault unit i (survey unit) ++ known_lines written program survey fault (unit + units_of i) is
+    line_if written program survey fault unit i (survey unit)
+    ++ known_lines written program survey fault (unit + units_of i) is
 
 -- ---- why it is refused
 
@@ -93,9 +99,12 @@ target_of unit i = None
 
 -- of an instruction in a program of so many units, with what is known there
 abbrev pub sentence_of : ℕ → Reason → ℕ → Insn → Option AbsState → Option Sentence
-sentence_of units reason.BackJump unit i known = option_map (λ to. sentence.Structure (structure.Back to)) (target_of unit i)
-sentence_of units reason.JumpOut unit i known = option_map (λ to. sentence.Structure (structure.Out to units)) (target_of unit i)
-sentence_of units reason.JumpInWide unit i known = option_map (λ to. sentence.Structure (structure.Inside to)) (target_of unit i)
+sentence_of units reason.BackJump unit i known =
+    option_map (λ to. sentence.Structure (structure.Back to)) (target_of unit i)
+sentence_of units reason.JumpOut unit i known =
+    option_map (λ to. sentence.Structure (structure.Out to units)) (target_of unit i)
+sentence_of units reason.JumpInWide unit i known =
+    option_map (λ to. sentence.Structure (structure.Inside to)) (target_of unit i)
 sentence_of units reason.LastNotExit unit i known = Some (sentence.Structure structure.NoExit)
 sentence_of units r unit i known = option_and_then (λ a. shortfall r i a) known
 
@@ -103,7 +112,8 @@ sentence_of units r unit i known = option_and_then (λ a. shortfall r i a) known
 abbrev pub sentence_line : Writing → ℕ → Insn → Sentence → List ℕ
 sentence_line written unit i s = place_text written unit i ++ codes ": " ++ sentence_text s
 
--- where what it is about comes from, and an edit that mends it; of a sum in the number's register also where the number does
+-- where what it is about comes from, and an edit that mends it; of a sum in the number's register also where the number
+-- does
 abbrev pub about_text : Writing → KnownByUnit → List Insn → ℕ → Insn → Sentence → Option Subject → List ℕ
 about_text written survey program unit i s None = []
 about_text written survey program unit i s (Some asked) =
@@ -113,19 +123,23 @@ about_text written survey program unit i s (Some asked) =
 
 abbrev pub told_text : Writing → KnownByUnit → List Insn → ℕ → Insn → Option Sentence → List ℕ
 told_text written survey program unit i None = []
-told_text written survey program unit i (Some s) = sentence_line written unit i s ++ about_text written survey program unit i s (subject_of s)
+told_text written survey program unit i (Some s) =
+    sentence_line written unit i s ++ about_text written survey program unit i s (subject_of s)
 
 abbrev pub refused_at : Writing → KnownByUnit → List Insn → Reason → ℕ → Option Insn → List ℕ
 refused_at written survey program r unit None = []
-refused_at written survey program r unit (Some i) = told_text written survey program unit i (sentence_of (length (slots_of program)) r unit i (known_by (survey unit)))
+refused_at written survey program r unit (Some i) =
+    told_text written survey program unit i (sentence_of (length (slots_of program)) r unit i (known_by (survey unit)))
 
 abbrev pub refused_text : Writing → KnownByUnit → List Insn → Option VerifyError → List ℕ
-refused_text written survey program (Some (At r unit)) = refused_at written survey program r unit (instruction_at program unit)
+refused_text written survey program (Some (At r unit)) =
+    refused_at written survey program r unit (instruction_at program unit)
 refused_text written survey program _ = []
 
 -- the lines of the units, and those of the refusal
 abbrev pub lines_by : Writing → KnownByUnit → List Insn → Option VerifyError → List ℕ
-lines_by written survey program fault = known_lines written program survey fault 0 program ++ refused_text written survey program fault
+lines_by written survey program fault =
+    known_lines written program survey fault 0 program ++ refused_text written survey program fault
 
 -- ---- of a program
 

@@ -1,4 +1,5 @@
--- Edits that mend a refusal, each said only where the verifier comes past the refused instruction in the program with the edit (own).
+-- Edits that mend a refusal, each said only where the verifier comes past the refused instruction in the program with
+-- the edit (own).
 use Rattle.std.specs.Prelude.{ℕ, ℤ, zero, suc, pos, ◌+◌, ◌==◌, Bool, true, false, if◌then◌else◌, List, [], ◌∷◌, ◌++◌, Option, Some, None, option_and_then, codes, decimal, map, slice_get}
 use Rattle.word.specs.declared.Width.TheVariants.{W64}
 use Rattle.word.specs.declared.Operation.TheVariants.{Add, And, Move}
@@ -54,7 +55,8 @@ is_open _ = false
 
 -- the copy that the instruction of a unit makes, if a way leads from there on which nothing sets the register
 abbrev pub copy_at : List Insn → List Mark → ℕ → ℕ → Option ℕ
-copy_at program marks r unit = if is_open (slice_get marks unit) then option_and_then (copy_of r) (instruction_at program unit) else None
+copy_at program marks r unit =
+    if is_open (slice_get marks unit) then option_and_then (copy_of r) (instruction_at program unit) else None
 
 abbrev pub or_else : Option ℕ → Option ℕ → Option ℕ
 or_else (Some copy) other = Some copy
@@ -65,9 +67,11 @@ unfoldable pub last_copy : List Insn → List Mark → ℕ → ℕ → Option �
 last_copy program marks r zero = None
 last_copy program marks r (suc n) = or_else (copy_at program marks r n) (last_copy program marks r n)
 
--- a sum or difference of a pointer and a number: with the copy in the number's place, as that may be what was tested; else a mask
+-- a sum or difference of a pointer and a number: with the copy in the number's place, as that may be what was tested;
+-- else a mask
 abbrev pub by_copy : ℕ → Insn → ℕ → Option ℕ → Option (ℕ × Choice)
-by_copy unit (Arithmetic w operation dst operand) r (Some copy) = Some (unit, Either (Instead operation dst (Register copy)) r)
+by_copy unit (Arithmetic w operation dst operand) r (Some copy) =
+    Some (unit, Either (Instead operation dst (Register copy)) r)
 by_copy unit i r copy = mask_at unit r
 
 abbrev pub for_misuse : List Insn → List Mark → ℕ → Insn → Misuse → Option (ℕ × Choice)
@@ -116,7 +120,8 @@ abbrev pub edits_of : Choice → List Edit
 edits_of (Mask r) = masks_of r
 edits_of (One edit) = edit ∷ []
 edits_of (Either edit r) = edit ∷ masks_of r
-edits_of (Exchanged number pointer) = Instead Add pointer (Register number) ∷ Moved None number pointer ∷ moves_of number pointer
+edits_of (Exchanged number pointer) =
+    Instead Add pointer (Register number) ∷ Moved None number pointer ∷ moves_of number pointer
 
 abbrev pub Help : Type 0
 Help = Edit × Trial
@@ -134,7 +139,8 @@ better edit Refused rest = rest
 -- whether the verifier comes past the refused instruction, which stands so many units further then
 abbrev pub best : List Insn → ℕ → ℕ → List Edit → Option Help
 best program place unit [] = None
-best program place unit (edit ∷ edits) = better edit (tried edit place program (unit + grown edit)) (best program place unit edits)
+best program place unit (edit ∷ edits) =
+    better edit (tried edit place program (unit + grown edit)) (best program place unit edits)
 
 -- ---- text
 
@@ -146,7 +152,8 @@ mask_text None number = []
 mask_text (Some mask) number = quoted (wide And number (Immediate mask)) ++ codes ", "
 
 unfoldable pub sum_text : ℕ → ℕ → List ℕ
-sum_text number pointer = quoted (wide Add pointer (Register number)) ++ codes " and " ++ quoted (wide Move number (Register pointer))
+sum_text number pointer =
+    quoted (wide Add pointer (Register number)) ++ codes " and " ++ quoted (wide Move number (Register pointer))
 
 abbrev pub edit_text : Edit → List ℕ
 edit_text (Before operation dst operand) = quoted (wide operation dst operand) ++ codes " before"
@@ -160,7 +167,8 @@ trial_text Refused = []
 
 abbrev pub told_help : ℕ → Option Help → List ℕ
 told_help place None = []
-told_help place (Some help) = codes "\nhelp: with " ++ edit_text help.0 ++ codes " unit " ++ decimal place ++ trial_text help.1
+told_help place (Some help) =
+    codes "\nhelp: with " ++ edit_text help.0 ++ codes " unit " ++ decimal place ++ trial_text help.1
 
 abbrev pub help_on : List Insn → ℕ → Option (ℕ × Choice) → List ℕ
 help_on program unit None = []

@@ -18,7 +18,8 @@ use Rattle.explain.specs.Explained.{sentence_of}
 abbrev pub RefusalsAreTold : Type 0
 RefusalsAreTold =
     (program : List Insn) (r : Reason) (unit : ℕ) → judged program ≡ Some (At r unit) →
-    (i : Insn) × (instruction_at program unit ≡ Some i) × IsSome (sentence_of (length (slots_of program)) r unit i (known_by (known_before program unit)))
+    (i : Insn) × (instruction_at program unit ≡ Some i)
+    × IsSome (sentence_of (length (slots_of program)) r unit i (known_by (known_before program unit)))
 
 -- the verifier comes past the refused instruction in the program with an edit, to the end where that is said
 pub record Mends (program : List Insn) (place unit : ℕ) (edit : Edit) (trial : Trial) : Type 0 where
@@ -27,4 +28,5 @@ pub record Mends (program : List Insn) (place unit : ℕ) (edit : Edit) (trial :
 
 -- so it is with each help
 abbrev pub HelpsMend : Type 0
-HelpsMend = (program : List Insn) (place unit : ℕ) (edits : List Edit) (edit : Edit) (trial : Trial) → best program place unit edits ≡ Some (edit, trial) → Mends program place unit edit trial
+HelpsMend = (program : List Insn) (place unit : ℕ) (edits : List Edit) (edit : Edit) (trial : Trial) →
+    best program place unit edits ≡ Some (edit, trial) → Mends program place unit edit trial

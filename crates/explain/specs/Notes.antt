@@ -1,4 +1,5 @@
--- Where what a refusal is about comes from: the units that set it last on the ways that lead there, and the tests and copies on these ways that tell nothing of it; and of what it was computed (own).
+-- Where what a refusal is about comes from: the units that set it last on the ways that lead there, and the tests and
+-- copies on these ways that tell nothing of it; and of what it was computed (own).
 use Rattle.std.specs.Prelude.{ℕ, zero, suc, List, [], ◌++◌, Option, Some, None, codes, slice_get}
 use Rattle.insn.specs.declared.insn.Insn.{Insn}
 use Rattle.insn.specs.Program.{instruction_at}
@@ -72,7 +73,8 @@ rule_behind (subject.Cell place) i a = []
 
 -- what an instruction that set it left
 abbrev pub set_note : Writing → Subject → ℕ → Insn → AbsState → List ℕ
-set_note written asked unit i a = noted_text written unit i ++ codes " -> " ++ found_text asked (left i a) ++ rule_behind asked i (left i a)
+set_note written asked unit i a =
+    noted_text written unit i ++ codes " -> " ++ found_text asked (left i a) ++ rule_behind asked i (left i a)
 
 abbrev pub noted_if : Writing → ℕ → Insn → Option Passing → List ℕ
 noted_if written unit i None = []
@@ -101,9 +103,11 @@ entry_note asked known mark = []
 abbrev pub notes_below : Writing → List Insn → KnownByUnit → Subject → List Mark → ℕ → List ℕ
 notes_below written program survey asked marked zero = entry_note asked (known_by (survey 0)) (slice_get marked 0)
 notes_below written program survey asked marked (suc n) =
-    notes_below written program survey asked marked n ++ note_text written asked n (instruction_at program n) (known_by (survey n)) (slice_get marked n)
+    notes_below written program survey asked marked n
+    ++ note_text written asked n (instruction_at program n) (known_by (survey n)) (slice_get marked n)
 
--- before them those of what it was computed of, where no rule says why it may be above or below 0, so many times at most
+-- before them those of what it was computed of, where no rule says why it may be above or below 0, so many times at
+-- most
 unfoldable pub origin_notes : ℕ → Writing → List Insn → KnownByUnit → List Mark → ℕ → List ℕ
 origin_notes zero written program survey marked unit = []
 origin_notes (suc n) written program survey marked unit =
@@ -113,9 +117,11 @@ origin_notes (suc n) written program survey marked unit =
     (origin_of program survey marked unit)
 
 abbrev pub notes_on : Writing → List Insn → KnownByUnit → Subject → List Mark → ℕ → List ℕ
-notes_on written program survey asked marked unit = origin_notes 8 written program survey marked unit ++ notes_below written program survey asked marked unit
+notes_on written program survey asked marked unit =
+    origin_notes 8 written program survey marked unit ++ notes_below written program survey asked marked unit
 
 -- of a number that is not what the sentence is about
 abbrev pub number_notes : Writing → List Insn → KnownByUnit → ℕ → Option ℕ → List ℕ
 number_notes written program survey unit None = []
-number_notes written program survey unit (Some r) = notes_on written program survey (subject.Register r) (marks program survey (subject.Register r) unit) unit
+number_notes written program survey unit (Some r) =
+    notes_on written program survey (subject.Register r) (marks program survey (subject.Register r) unit) unit

@@ -32,7 +32,8 @@ number_at registers (Some r) = if is_either_sign (known_at registers r) then Som
 -- the first that an operation reads; `arsh` has a rule of its own
 abbrev pub computed_of : Insn → List AbsVal → Option ℕ
 computed_of (Arithmetic w ArithmeticShiftRight dst operand) registers = None
-computed_of (Arithmetic w operation dst operand) registers = option_or (number_at registers (of_first operation dst)) (number_at registers (of_operand operand))
+computed_of (Arithmetic w operation dst operand) registers =
+    option_or (number_at registers (of_first operation dst)) (number_at registers (of_operand operand))
 computed_of i registers = None
 
 abbrev pub is_set : Option Mark → Bool
@@ -50,7 +51,8 @@ origin_at unit i known = None
 
 -- the register, and the unit that computed of it what is asked about, the last that set it
 abbrev pub origin_of : List Insn → KnownByUnit → List Mark → ℕ → Option (ℕ × ℕ)
-origin_of program survey marks unit = option_and_then (λ n. origin_at n (instruction_at program n) (known_by (survey n))) (last_set marks unit)
+origin_of program survey marks unit =
+    option_and_then (λ n. origin_at n (instruction_at program n) (known_by (survey n))) (last_set marks unit)
 
 abbrev pub from_origin : (ℕ → ℕ → List ℕ) → Option (ℕ × ℕ) → List ℕ
 from_origin tells None = []

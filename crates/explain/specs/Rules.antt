@@ -34,8 +34,10 @@ is_all bits p = p.0 == 0 && p.1 == 2 ^ bits - 1
 
 -- by the numbers that are known behind it
 abbrev pub number_rule : Insn → NumberSet → List ℕ
-number_rule (Arithmetic w ArithmeticShiftRight dst operand) n = codes ": the sign is copied, so of numbers on both sides of 2^63 it is any number"
-number_rule (Arithmetic w operation dst operand) n = if may_wrap operation && is_all (bits_of w) n.range then codes ": what may wrap is any number of its width" else []
+number_rule (Arithmetic w ArithmeticShiftRight dst operand) n =
+    codes ": the sign is copied, so of numbers on both sides of 2^63 it is any number"
+number_rule (Arithmetic w operation dst operand) n =
+    if may_wrap operation && is_all (bits_of w) n.range then codes ": what may wrap is any number of its width" else []
 number_rule (Call number) n = codes ": of an answer its range alone is known"
 number_rule (Negate w dst) n = codes ": what was 0 and more becomes 0, and just below 2^64"
 number_rule (SignExtend w part dst src) n = codes ": the sign is extended, so it is small, or just below 2^64"
@@ -78,7 +80,8 @@ is_operand r (Immediate n) = false
 -- a test of the register that tells nothing of it, or a copy of it, of which another test does not
 abbrev pub passed_by : ℕ → Insn → AbsVal → Option Passing
 passed_by r (Branch w condition dst operand distance) value =
-    if (dst == r || is_operand r operand) && is_past (limit_bits w (is_signed condition)) value then Some (Test (limit_bits w (is_signed condition))) else None
+    if (dst == r || is_operand r operand) && is_past (limit_bits w (is_signed condition)) value
+    then Some (Test (limit_bits w (is_signed condition))) else None
 passed_by r (Arithmetic W64 Move dst (Register src)) value = if src == r then Some (Copied dst) else None
 passed_by r i value = None
 

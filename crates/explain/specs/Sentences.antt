@@ -53,14 +53,18 @@ past_text region span = place_text region span ++ codes ", past " ++ limit_text 
 
 -- how a register is used
 abbrev pub misuse_text : Misuse → List ℕ
-misuse_text (misuse.Unset r) = codes "r" ++ decimal r ++ codes " is read, and may be unset, or of different kinds on different ways"
+misuse_text (misuse.Unset r) =
+    codes "r" ++ decimal r ++ codes " is read, and may be unset, or of different kinds on different ways"
 misuse_text misuse.Frame = codes "r10 is written, which marks the end of the stack"
 misuse_text (misuse.Far r region span) = would_text r ++ codes " into " ++ past_text region span
-misuse_text (misuse.EitherSign r value) = named_text r value ++ codes ": a number that moves a pointer is read as signed, and this one may be above or below 0"
-misuse_text (misuse.Computed r value) = named_text r value ++ codes ": of a pointer only a copy of 64 bits is made, or, in its own register, the 64-bit sum or difference with a number"
+misuse_text (misuse.EitherSign r value) = named_text r value
+    ++ codes ": a number that moves a pointer is read as signed, and this one may be above or below 0"
+misuse_text (misuse.Computed r value) = named_text r value
+    ++ codes ": of a pointer only a copy of 64 bits is made, or, in its own register, the 64-bit sum or difference with a number"
 misuse_text (misuse.Compared r value) = named_text r value ++ codes ": a comparison is of numbers only"
 misuse_text (misuse.Stored r value base at) =
-    named_text r value ++ codes ", stored at " ++ named_text base at ++ codes ": a pointer is stored as 8 bytes, with one offset, at one address"
+    named_text r value ++ codes ", stored at " ++ named_text base at
+    ++ codes ": a pointer is stored as 8 bytes, with one offset, at one address"
 misuse_text (misuse.NoBase r value) = named_text r value ++ codes ": memory is reached by a pointer only"
 misuse_text (misuse.Exit value) = named_text 0 value ++ codes ": a program ends with a number"
 
@@ -72,7 +76,8 @@ extent_text Context = codes "0 to 4095"
 -- what an access may touch
 abbrev pub access_text : Access → List ℕ
 access_text (access.Outside r region span) = reached_text r region span ++ codes ": it has " ++ extent_text region
-access_text (access.Empty r span cell) = reached_text r Stack span ++ codes ": no byte is known at " ++ signed_decimal (pos cell -ℤ pos 512)
+access_text (access.Empty r span cell) =
+    reached_text r Stack span ++ codes ": no byte is known at " ++ signed_decimal (pos cell -ℤ pos 512)
 access_text (access.Context r value) = named_text r value ++ codes ": the context is only read"
 
 -- the name of a helper, as in assembly

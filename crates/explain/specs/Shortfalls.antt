@@ -53,7 +53,8 @@ unset_at registers None = None
 unset_at registers (Some r) = unset_if r (known_at registers r)
 
 abbrev pub first_unset : List AbsVal → List (Option ℕ) → Option Sentence
-first_unset registers (first ∷ second ∷ third ∷ []) = option_or (unset_at registers first) (option_or (unset_at registers second) (unset_at registers third))
+first_unset registers (first ∷ second ∷ third ∷ []) =
+    option_or (unset_at registers first) (option_or (unset_at registers second) (unset_at registers third))
 first_unset registers _ = None
 
 abbrev pub pointer_if : ℕ → AbsVal → Option Sentence
@@ -66,7 +67,8 @@ pointer_at registers None = None
 pointer_at registers (Some r) = pointer_if r (known_at registers r)
 
 abbrev pub first_pointer : List AbsVal → List (Option ℕ) → Option Sentence
-first_pointer registers (first ∷ second ∷ third ∷ []) = option_or (pointer_at registers first) (option_or (pointer_at registers second) (pointer_at registers third))
+first_pointer registers (first ∷ second ∷ third ∷ []) =
+    option_or (pointer_at registers first) (option_or (pointer_at registers second) (pointer_at registers third))
 first_pointer registers _ = None
 
 -- of two that are compared
@@ -90,7 +92,8 @@ lowers _ _ = None
 -- the nearest number of 64 bits
 abbrev pub clamped : ℤ → ℤ
 clamped z =
-    if int_le z (pos (2 ^ 63 - 1)) then (if int_le (negsuc (2 ^ 63 - 1)) z then z else negsuc (2 ^ 63 - 1)) else pos (2 ^ 63 - 1)
+    if int_le z (pos (2 ^ 63 - 1)) then (if int_le (negsuc (2 ^ 63 - 1)) z then z else negsuc (2 ^ 63 - 1))
+    else pos (2 ^ 63 - 1)
 
 abbrev pub moved : Bool → Offsets → ℤ × ℤ → Span
 moved false o by = record { low = clamped (o.0 +ℤ by.0); high = clamped (o.1 +ℤ by.1) }
@@ -116,7 +119,8 @@ no_base registers base = Some (sentence.Register (misuse.NoBase base (known_at r
 
 abbrev pub stored_at : List AbsVal → ℕ → Option ℕ → Option Sentence
 stored_at registers base None = None
-stored_at registers base (Some r) = Some (sentence.Register (misuse.Stored r (known_at registers r) base (known_at registers base)))
+stored_at registers base (Some r) =
+    Some (sentence.Register (misuse.Stored r (known_at registers r) base (known_at registers base)))
 
 abbrev pub store_misuse : List AbsVal → ℕ → Option ℕ → AbsVal → Option Sentence
 store_misuse registers base source (Pointer region o) = stored_at registers base source
@@ -126,17 +130,20 @@ abbrev pub pointer_misuse : Insn → List AbsVal → Option Sentence
 pointer_misuse (Arithmetic w operation dst operand) registers =
     option_or (sum_misuse (lowers w operation) dst operand (known_at registers dst) (operand_known registers operand))
     (first_pointer registers (read_by (Arithmetic w operation dst operand)))
-pointer_misuse (Branch w condition dst operand distance) registers = option_or (compared_at registers (Some dst)) (compared_at registers (of_operand operand))
+pointer_misuse (Branch w condition dst operand distance) registers =
+    option_or (compared_at registers (Some dst)) (compared_at registers (of_operand operand))
 pointer_misuse (Load size dst base offset) registers = no_base registers base
 pointer_misuse (LoadSigned part dst base offset) registers = no_base registers base
-pointer_misuse (Store size base offset source) registers = store_misuse registers base (of_operand source) (known_at registers base)
+pointer_misuse (Store size base offset source) registers =
+    store_misuse registers base (of_operand source) (known_at registers base)
 pointer_misuse i registers = first_pointer registers (read_by i)
 
 -- ---- accesses
 
 -- a call's window, from r2 on: a word of the board or an order for each of the count
 abbrev pub counted : Size → AbsVal → Option Reach
-counted size (Number n) = if nat_le (greatest n) board_words then Some (record { base = 2; distance = pos 0; size = bytes_of size * greatest n }) else None
+counted size (Number n) = if nat_le (greatest n) board_words
+    then Some (record { base = 2; distance = pos 0; size = bytes_of size * greatest n }) else None
 counted size _ = None
 
 abbrev pub call_reach : Option Helper → AbsVal → Option Reach
@@ -147,8 +154,10 @@ call_reach _ count = None
 -- through which register, from where on and how many bytes are accessed
 abbrev pub reach_of : Insn → List AbsVal → Option Reach
 reach_of (Load size dst base offset) registers = Some (record { base = base; distance = offset; size = bytes_of size })
-reach_of (LoadSigned part dst base offset) registers = Some (record { base = base; distance = offset; size = part_bytes part })
-reach_of (Store size base offset source) registers = Some (record { base = base; distance = offset; size = bytes_of size })
+reach_of (LoadSigned part dst base offset) registers =
+    Some (record { base = base; distance = offset; size = part_bytes part })
+reach_of (Store size base offset source) registers =
+    Some (record { base = base; distance = offset; size = bytes_of size })
 reach_of (Call number) registers = call_reach (helper_of number) (known_at registers 3)
 reach_of i registers = None
 
@@ -182,7 +191,8 @@ context_written reach value = Some (sentence.Memory (access.Context reach.base v
 
 -- an argument that is to be a number below the bound, or a pointer where there is none
 abbrev pub misfit_of : Helper → ℕ → Option ℕ → AbsVal → Option Sentence
-misfit_of helper r (Some bound) (Number n) = if nat_lt (greatest n) bound then None else Some (sentence.Call (misfit.Above helper r (Number n) (bound - 1)))
+misfit_of helper r (Some bound) (Number n) =
+    if nat_lt (greatest n) bound then None else Some (sentence.Call (misfit.Above helper r (Number n) (bound - 1)))
 misfit_of helper r (Some bound) value = Some (sentence.Call (misfit.Above helper r value (bound - 1)))
 misfit_of helper r None (Number n) = Some (sentence.Call (misfit.NoPointer helper r (Number n)))
 misfit_of helper r None value = None
@@ -194,17 +204,20 @@ misfit_at helper registers r (Some argument) = misfit_of helper r (bound_of argu
 -- slot and count together
 abbrev pub past_board : AbsVal → AbsVal → Option Sentence
 past_board (Number slots) (Number counts) =
-    if nat_le (greatest slots) board_words && nat_le (greatest counts) board_words then Some (sentence.Call (misfit.Board (greatest slots + greatest counts))) else None
+    if nat_le (greatest slots) board_words && nat_le (greatest counts) board_words
+    then Some (sentence.Call (misfit.Board (greatest slots + greatest counts))) else None
 past_board _ _ = None
 
 abbrev pub arguments_misfit : Helper → List AbsVal → List (Option Argument) → Option Sentence
 arguments_misfit helper registers (first ∷ second ∷ third ∷ []) =
-    option_or (misfit_at helper registers 1 first) (option_or (misfit_at helper registers 2 second) (option_or (misfit_at helper registers 3 third)
+    option_or (misfit_at helper registers 1 first)
+    (option_or (misfit_at helper registers 2 second) (option_or (misfit_at helper registers 3 third)
     (past_board (known_at registers 1) (known_at registers 3))))
 arguments_misfit helper registers _ = None
 
 abbrev pub call_misfit : Insn → List AbsVal → Option Sentence
-call_misfit (Call number) registers = option_and_then (λ helper. arguments_misfit helper registers (arguments_of helper)) (helper_of number)
+call_misfit (Call number) registers =
+    option_and_then (λ helper. arguments_misfit helper registers (arguments_of helper)) (helper_of number)
 call_misfit i registers = None
 
 abbrev pub no_helper : Insn → Option Sentence
@@ -214,7 +227,8 @@ no_helper i = None
 -- ---- what an instruction misses, by the reason
 
 abbrev pub reached : (Reach → AbsVal → Option Sentence) → Insn → List AbsVal → Option Sentence
-reached tells i registers = option_and_then (λ reach. tells reach (known_at registers reach.base)) (reach_of i registers)
+reached tells i registers =
+    option_and_then (λ reach. tells reach (known_at registers reach.base)) (reach_of i registers)
 
 abbrev pub shortfall : Reason → Insn → AbsState → Option Sentence
 shortfall reason.Unset i a = first_unset a.registers (read_by i)

@@ -1,4 +1,5 @@
--- What a cell of the stack holds at a unit, and from which units: those that set it last on the ways that lead there (own).
+-- What a cell of the stack holds at a unit, and from which units: those that set it last on the ways that lead there
+-- (own).
 use Rattle.std.specs.Prelude.{ℕ, zero, suc, ◌&&◌, Bool, true, false, List, [], ◌∷◌, ◌++◌, codes, decimal, slice_get}
 use Rattle.std.specs.Str.{bytes_eq}
 use Rattle.insn.specs.declared.insn.Insn.{Insn}

@@ -1,4 +1,5 @@
--- How a unit is told: by its number and, where that is known, its place in the text that it was written in, and its instruction as it is written there (own).
+-- How a unit is told: by its number and, where that is known, its place in the text that it was written in, and its
+-- instruction as it is written there (own).
 use Rattle.std.specs.Prelude.{ℕ, List, [], ◌∷◌, ◌++◌, Option, Some, None, String, codes, decimal, slice_get, string_bytes}
 use Rattle.std.specs.declared.alloc.Global.{Global}
 use Rattle.insn.specs.declared.insn.Insn.{Insn}

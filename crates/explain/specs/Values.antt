@@ -33,7 +33,8 @@ is_bound bits = bits.1 == 0 && bit_and bits.0 ((bits.0 + 1) % 2 ^ 64) == 0
 
 -- the bits that are open, and those that are known to be set
 abbrev pub bits_text : ℕ × ℕ → List ℕ
-bits_text bits = codes ", bits 0x" ++ digits 16 false bits.0 ++ codes " open, 0x" ++ digits 16 false bits.1 ++ codes " set"
+bits_text bits =
+    codes ", bits 0x" ++ digits 16 false bits.0 ++ codes " open, 0x" ++ digits 16 false bits.1 ++ codes " set"
 
 -- the bits stand there where they say more than the range
 abbrev pub numbers_text : NumberSet → List ℕ

@@ -91,7 +91,8 @@ pub(crate) fn put_run(
 fn put_sourced(out: &mut String, first: usize, end: usize, held: &Held) -> Result<(), AllocError>
     requires first { first ≤ 65536 }
     requires end { end ≤ 65536 }
-    ensures { OnOk result (string_bytes out.new ≡ string_bytes out.old ++ sourced_text first end (held.now.content, held.now.units.items)) }
+    ensures { OnOk result (string_bytes out.new ≡ string_bytes out.old
+        ++ sourced_text first end (held.now.content, held.now.units.items)) }
 {
     put_run(out, first, end, held.content)?;
     put_from(out, held.units.as_slice())
@@ -101,7 +102,8 @@ fn put_sourced(out: &mut String, first: usize, end: usize, held: &Held) -> Resul
 fn put_ended(out: &mut String, first: usize, end: usize, held: &Held) -> Result<(), AllocError>
     requires first { first ≤ 65536 }
     requires end { end ≤ 65536 }
-    ensures { OnOk result (string_bytes out.new ≡ string_bytes out.old ++ ended_text first end (held.now.content, held.now.units.items)) }
+    ensures { OnOk result (string_bytes out.new ≡ string_bytes out.old
+        ++ ended_text first end (held.now.content, held.now.units.items)) }
 {
     put_sourced(out, first, end, held)?;
     put(out, ", ")
@@ -120,7 +122,8 @@ fn put_runs(
     requires stands { Stands here.now }
     requires first { first ≤ 512 }
     requires room { place + more ≤ 512 }
-    ensures { OnOk result (string_bytes out.new ≡ string_bytes out.old ++ runs_text (held_here here.now) first (held.content, held.units.items) place more) }
+    ensures { OnOk result (string_bytes out.new ≡ string_bytes out.old
+        ++ runs_text (held_here here.now) first (held.content, held.units.items) place more) }
 {
     if more == 0 {
         return put_sourced(out, first, place, &held);
@@ -180,7 +183,8 @@ fn put_reach(
 ) -> Result<(), AllocError>
     requires stands { Stands here.now }
     requires few { reach.now.size ≤ 512 }
-    ensures { OnOk result (string_bytes out.new ≡ string_bytes out.old ++ of_reach (held_here here.now) reach.now value) }
+    ensures { OnOk result (string_bytes out.new ≡ string_bytes out.old
+        ++ of_reach (held_here here.now) reach.now value) }
 {
     let AbsVal::Pointer(region, offsets) = value else {
         return Ok(());
@@ -222,7 +226,8 @@ pub(crate) fn put_cells_read(
     state: &AbsState,
 ) -> Result<(), AllocError>
     requires { Stands here.now }
-    ensures { OnOk result (string_bytes out.new ≡ string_bytes out.old ++ cells_read (held_here here.now) insn.now state.now.registers) }
+    ensures { OnOk result (string_bytes out.new ≡ string_bytes out.old
+        ++ cells_read (held_here here.now) insn.now state.now.registers) }
 {
     if !reads_cells(insn) {
         return Ok(());

@@ -56,7 +56,9 @@ fn put_known(
 ) -> Result<(), AllocError>
     requires inside { unit < length (slots_of surveyed.now.program.now) }
     requires surveyed { IsSurveyed surveyed.now }
-    ensures { OnOk result (string_bytes out.new ≡ string_bytes out.old ++ known_text surveyed.now.program.now (known_of surveyed.now) unit insn.now (option_map (λ a. a.now) state.entry)) }
+    ensures { OnOk result (string_bytes out.new ≡ string_bytes out.old
+        ++ known_text surveyed.now.program.now (known_of surveyed.now) unit insn.now
+        (option_map (λ a. a.now) state.entry)) }
 {
     let Some(state) = state else {
         return put(out, " ; no way leads here");
@@ -77,7 +79,8 @@ fn put_place(
     unit: usize,
     insn: &Insn,
 ) -> Result<(), AllocError>
-    ensures { OnOk result (string_bytes out.new ≡ string_bytes out.old ++ place_text (written_in written.now) unit insn.now) }
+    ensures { OnOk result (string_bytes out.new ≡ string_bytes out.old
+        ++ place_text (written_in written.now) unit insn.now) }
 {
     put(out, "\n")?;
     put_insn_at(out, written, unit, insn)
@@ -95,7 +98,9 @@ fn put_unit(
 ) -> Result<(), AllocError>
     requires inside { unit < length (slots_of surveyed.now.program.now) }
     requires surveyed { IsSurveyed surveyed.now }
-    ensures { OnOk result (string_bytes out.new ≡ string_bytes out.old ++ unit_line (written_in written.now) surveyed.now.program.now (known_of surveyed.now) unit insn.now (option_map (λ a. a.now) state.entry)) }
+    ensures { OnOk result (string_bytes out.new ≡ string_bytes out.old
+        ++ unit_line (written_in written.now) surveyed.now.program.now (known_of surveyed.now) unit insn.now
+        (option_map (λ a. a.now) state.entry)) }
 {
     put_place(out, written, unit, insn)?;
     put_known(alloc, out, surveyed, unit, insn, state)
@@ -114,7 +119,8 @@ fn put_result(out: &mut String, register: Option<Reg>, left: &AbsState) -> Resul
 
 /// Adds what is known of the result of an instruction that may run.
 fn put_given(out: &mut String, insn: &Insn, state: Option<&AbsState>) -> Result<(), AllocError>
-    ensures { OnOk result (string_bytes out.new ≡ string_bytes out.old ++ given_text insn.now (option_map (λ a. a.now) state.entry)) }
+    ensures { OnOk result (string_bytes out.new ≡ string_bytes out.old
+        ++ given_text insn.now (option_map (λ a. a.now) state.entry)) }
 {
     match state {
         None => Ok(()),
@@ -143,7 +149,8 @@ fn put_behind(
     insn: &Insn,
     state: &Option<AbsState>,
 ) -> Result<(), AllocError>
-    ensures { OnOk result (string_bytes out.new ≡ string_bytes out.old ++ behind_text fault.now unit insn.now state.now) }
+    ensures { OnOk result (string_bytes out.new ≡ string_bytes out.old
+        ++ behind_text fault.now unit insn.now state.now) }
 {
     if is_at(fault, unit) {
         return Ok(());
@@ -164,7 +171,9 @@ fn put_line(
 ) -> Result<(), AllocError>
     requires inside { unit < length (slots_of surveyed.now.program.now) }
     requires surveyed { IsSurveyed surveyed.now }
-    ensures { OnOk result (string_bytes out.new ≡ string_bytes out.old ++ whole_line (written_in written.now) surveyed.now.program.now (known_of surveyed.now) fault.now unit insn.now state.now) }
+    ensures { OnOk result (string_bytes out.new ≡ string_bytes out.old
+        ++ whole_line (written_in written.now) surveyed.now.program.now
+        (known_of surveyed.now) fault.now unit insn.now state.now) }
 {
     put_unit(alloc, out, written, surveyed, unit, insn, state.as_ref())?;
     put_behind(out, fault, unit, insn, state)
@@ -181,7 +190,9 @@ fn put_reached(
     insn: &Insn,
 ) -> Result<(), AllocError>
     requires { IsSurveyed surveyed.now }
-    ensures { OnOk result (string_bytes out.new ≡ string_bytes out.old ++ line_if (written_in written.now) surveyed.now.program.now (known_of surveyed.now) fault.now unit insn.now (known_of surveyed.now unit)) }
+    ensures { OnOk result (string_bytes out.new ≡ string_bytes out.old
+        ++ line_if (written_in written.now) surveyed.now.program.now (known_of surveyed.now) fault.now unit insn.now
+        (known_of surveyed.now unit)) }
 {
     match surveyed.states.get(unit) {
         Some(state) => put_line(alloc, out, written, surveyed, fault, unit, insn, state),
@@ -200,7 +211,9 @@ fn put_units(
 ) -> Result<(), AllocError>
     requires surveyed { IsSurveyed surveyed.now }
     requires few { length (slots_of insns.now) ≤ 4096 }
-    ensures { OnOk result (string_bytes out.new ≡ string_bytes out.old ++ known_lines (written_in written.now) surveyed.now.program.now (known_of surveyed.now) fault.now 0 insns.now) }
+    ensures { OnOk result (string_bytes out.new ≡ string_bytes out.old
+        ++ known_lines (written_in written.now) surveyed.now.program.now
+        (known_of surveyed.now) fault.now 0 insns.now) }
 {
     let mut unit = 0;
     for insn in insns {
@@ -253,7 +266,8 @@ fn put_sentence(
     insn: &Insn,
     sentence: Sentence,
 ) -> Result<(), AllocError>
-    ensures { OnOk result (string_bytes out.new ≡ string_bytes out.old ++ sentence_line (written_in written.now) unit insn.now sentence) }
+    ensures { OnOk result (string_bytes out.new ≡ string_bytes out.old
+        ++ sentence_line (written_in written.now) unit insn.now sentence) }
 {
     put_place(out, written, unit, insn)?;
     put(out, ": ")?;
@@ -273,7 +287,9 @@ fn put_about(
 ) -> Result<(), AllocError>
     requires inside { unit < length (slots_of program.now) }
     requires few { unit < 4096 }
-    ensures { OnOk result (string_bytes out.new ≡ string_bytes out.old ++ about_text (written_in written.now) (slice_get states.now) program.now unit insn.now sentence.now (subject_of sentence.now)) }
+    ensures { OnOk result (string_bytes out.new ≡ string_bytes out.old
+        ++ about_text (written_in written.now) (slice_get states.now) program.now unit insn.now sentence.now
+        (subject_of sentence.now)) }
 {
     let Some(asked) = subject_of(sentence) else {
         return Ok(());
@@ -308,7 +324,8 @@ fn put_told(
 ) -> Result<(), AllocError>
     requires inside { unit < length (slots_of program.now) }
     requires few { unit < 4096 }
-    ensures { OnOk result (string_bytes out.new ≡ string_bytes out.old ++ told_text (written_in written.now) (slice_get states.now) program.now unit insn.now sentence.now) }
+    ensures { OnOk result (string_bytes out.new ≡ string_bytes out.old
+        ++ told_text (written_in written.now) (slice_get states.now) program.now unit insn.now sentence.now) }
 {
     let Some(sentence) = sentence else {
         return Ok(());
@@ -326,7 +343,8 @@ fn put_refused(
     states: &[Option<AbsState>],
     fault: Option<VerifyError>,
 ) -> Result<(), AllocError>
-    ensures { OnOk result (string_bytes out.new ≡ string_bytes out.old ++ refused_text (written_in written.now) (slice_get states.now) program.now fault) }
+    ensures { OnOk result (string_bytes out.new ≡ string_bytes out.old
+        ++ refused_text (written_in written.now) (slice_get states.now) program.now fault) }
 {
     let Some(VerifyError::At(reason, unit)) = fault else {
         return Ok(());
@@ -349,7 +367,8 @@ fn put_lines(
 ) -> Result<(), AllocError>
     requires room { length states.now ≤ length (slots_of program.now) }
     requires few { length (slots_of program.now) ≤ 4096 }
-    ensures { OnOk result (string_bytes out.new ≡ string_bytes out.old ++ known_lines (written_in written.now) program.now (slice_get states.now) fault.now 0 program.now) }
+    ensures { OnOk result (string_bytes out.new ≡ string_bytes out.old
+        ++ known_lines (written_in written.now) program.now (slice_get states.now) fault.now 0 program.now) }
 {
     let set = columns(alloc, program, states)?;
     let columns = set.as_slice();
@@ -362,8 +381,9 @@ fn put_lines(
     put_units(alloc, out, written, &surveyed, fault, insns)
 }
 
-/// What is known at each unit of a program to which the verifier comes, what each instruction gives, and why the program is
-/// refused, if so, with the units and instructions as they were written. Each line stands behind the end of one.
+/// What is known at each unit of a program to which the verifier comes, what each instruction gives, and why the
+/// program is refused, if so, with the units and instructions as they were written. Each line stands behind the end of
+/// one.
 pub fn explanation_at(
     alloc: Global,
     program: &Program,

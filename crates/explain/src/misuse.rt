@@ -78,7 +78,8 @@ fn compared_at(state: &AbsState, register: Option<Reg>) -> Option<Sentence>
 
 /// The first of two that are compared that is a pointer.
 fn compared(state: &AbsState, dst: Reg, operand: Operand) -> Option<Sentence>
-    ensures { result ≡ option_or (compared_at state.now.registers (Some dst)) (compared_at state.now.registers (of_operand operand)) }
+    ensures { result ≡ option_or (compared_at state.now.registers (Some dst))
+        (compared_at state.now.registers (of_operand operand)) }
 {
     if let Some(sentence) = compared_at(state, Some(dst)) {
         return Some(sentence);

@@ -81,7 +81,8 @@ struct Start {
 
 /// The pointer is moved by the operand, whose numbers are these.
 fn far(pointer: Start, operand: Operand, numbers: NumberSet) -> Option<Sentence>
-    ensures { result ≡ far pointer.down pointer.dst pointer.region pointer.offsets operand numbers (in_a_row numbers.range) }
+    ensures { result ≡ far pointer.down pointer.dst pointer.region pointer.offsets operand numbers
+        (in_a_row numbers.range) }
 {
     let Some((least, greatest)) = numbers.as_signed() else {
         return either_sign(of_operand(operand), numbers);

@@ -86,7 +86,8 @@ fn put_noted(
     unit: usize,
     insn: &Insn,
 ) -> Result<(), AllocError>
-    ensures { OnOk result (string_bytes out.new ≡ string_bytes out.old ++ noted_text (written_in written.now) unit insn.now) }
+    ensures { OnOk result (string_bytes out.new ≡ string_bytes out.old
+        ++ noted_text (written_in written.now) unit insn.now) }
 {
     put(out, "\nnote: ")?;
     put_insn_at(out, written, unit, insn)
@@ -116,7 +117,8 @@ fn put_set(
     insn: &Insn,
     state: &AbsState,
 ) -> Result<(), AllocError>
-    ensures { OnOk result (string_bytes out.new ≡ string_bytes out.old ++ set_note (written_in written.now) asked.now unit insn.now state.now) }
+    ensures { OnOk result (string_bytes out.new ≡ string_bytes out.old
+        ++ set_note (written_in written.now) asked.now unit insn.now state.now) }
 {
     let left = left_by(insn, state);
     put_noted(out, written, unit, insn)?;
@@ -133,7 +135,8 @@ fn put_if(
     insn: &Insn,
     tells: Option<Passing>,
 ) -> Result<(), AllocError>
-    ensures { OnOk result (string_bytes out.new ≡ string_bytes out.old ++ noted_if (written_in written.now) unit insn.now tells) }
+    ensures { OnOk result (string_bytes out.new ≡ string_bytes out.old
+        ++ noted_if (written_in written.now) unit insn.now tells) }
 {
     let Some(tells) = tells else {
         return Ok(());
@@ -151,7 +154,8 @@ fn put_passing(
     insn: &Insn,
     state: &AbsState,
 ) -> Result<(), AllocError>
-    ensures { OnOk result (string_bytes out.new ≡ string_bytes out.old ++ passing_note (written_in written.now) asked.now unit insn.now state.now) }
+    ensures { OnOk result (string_bytes out.new ≡ string_bytes out.old
+        ++ passing_note (written_in written.now) asked.now unit insn.now state.now) }
 {
     match asked {
         Subject::Register(r) => put_if(
@@ -175,7 +179,8 @@ fn put_note(
     state: &AbsState,
     mark: Option<Mark>,
 ) -> Result<(), AllocError>
-    ensures { OnOk result (string_bytes out.new ≡ string_bytes out.old ++ note_by (written_in written.now) asked.now unit insn.now state.now mark) }
+    ensures { OnOk result (string_bytes out.new ≡ string_bytes out.old
+        ++ note_by (written_in written.now) asked.now unit insn.now state.now mark) }
 {
     match mark {
         Some(Mark::Sets) => put_set(out, written, asked, unit, insn, state),
@@ -194,7 +199,8 @@ fn put_note_at(
     state: Option<&AbsState>,
     mark: Option<Mark>,
 ) -> Result<(), AllocError>
-    ensures { OnOk result (string_bytes out.new ≡ string_bytes out.old ++ note_text (written_in written.now) asked.now unit insn (option_map (λ a. a.now) state.entry) mark) }
+    ensures { OnOk result (string_bytes out.new ≡ string_bytes out.old
+        ++ note_text (written_in written.now) asked.now unit insn (option_map (λ a. a.now) state.entry) mark) }
 {
     let Some(insn) = insn else {
         return Ok(());
@@ -212,7 +218,8 @@ fn put_entry(
     state: Option<&AbsState>,
     mark: Option<Mark>,
 ) -> Result<(), AllocError>
-    ensures { OnOk result (string_bytes out.new ≡ string_bytes out.old ++ entry_note asked.now (option_map (λ a. a.now) state.entry) mark) }
+    ensures { OnOk result (string_bytes out.new ≡ string_bytes out.old
+        ++ entry_note asked.now (option_map (λ a. a.now) state.entry) mark) }
 {
     let Some(state) = state else {
         return Ok(());
@@ -241,7 +248,8 @@ fn put_notes_below(
     marks: &[Mark],
     unit: usize,
 ) -> Result<(), AllocError>
-    ensures { OnOk result (string_bytes out.new ≡ string_bytes out.old ++ notes_below (written_in written.now) program.now (slice_get states.now) asked.now marks.now unit) }
+    ensures { OnOk result (string_bytes out.new ≡ string_bytes out.old
+        ++ notes_below (written_in written.now) program.now (slice_get states.now) asked.now marks.now unit) }
 {
     put_entry(out, asked, known_by(states, 0), mark_at(marks, 0))?;
     for place in 0..unit {
@@ -272,7 +280,8 @@ fn put_origin_notes(
     most: usize,
 ) -> Result<(), AllocError>
     requires { unit < length (slots_of program.now) }
-    ensures { OnOk result (string_bytes out.new ≡ string_bytes out.old ++ origin_notes most (written_in written.now) program.now (slice_get states.now) marked.now unit) }
+    ensures { OnOk result (string_bytes out.new ≡ string_bytes out.old
+        ++ origin_notes most (written_in written.now) program.now (slice_get states.now) marked.now unit) }
 {
     if most == 0 {
         return Ok(());
@@ -308,7 +317,8 @@ pub(crate) fn put_notes_on(
     unit: usize,
 ) -> Result<(), AllocError>
     requires { unit < length (slots_of program.now) }
-    ensures { OnOk result (string_bytes out.new ≡ string_bytes out.old ++ notes_on (written_in written.now) program.now (slice_get states.now) asked.now marked.now unit) }
+    ensures { OnOk result (string_bytes out.new ≡ string_bytes out.old
+        ++ notes_on (written_in written.now) program.now (slice_get states.now) asked.now marked.now unit) }
 {
     put_origin_notes(alloc, out, written, program, states, marked, unit, 8)?;
     put_notes_below(out, written, program, states, asked, marked, unit)
@@ -325,7 +335,8 @@ pub(crate) fn put_number_notes(
     number: Option<Reg>,
 ) -> Result<(), AllocError>
     requires { unit < length (slots_of program.now) }
-    ensures { OnOk result (string_bytes out.new ≡ string_bytes out.old ++ number_notes (written_in written.now) program.now (slice_get states.now) unit number) }
+    ensures { OnOk result (string_bytes out.new ≡ string_bytes out.old
+        ++ number_notes (written_in written.now) program.now (slice_get states.now) unit number) }
 {
     let Some(r) = number else {
         return Ok(());

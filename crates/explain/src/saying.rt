@@ -75,7 +75,8 @@ pub(crate) fn put_signed_between(
     number: i64,
     behind: &str,
 ) -> Result<(), AllocError>
-    ensures { OnOk result (string_bytes out.new ≡ string_bytes out.old ++ (front.now ++ signed_decimal number ++ behind.now)) }
+    ensures { OnOk result (string_bytes out.new ≡ string_bytes out.old
+        ++ (front.now ++ signed_decimal number ++ behind.now)) }
 {
     put(out, front)?;
     put_number(out, number)?;

@@ -60,7 +60,8 @@ fn set_below(alloc: Global, marks: &[Mark], unit: usize) -> Result<Vec<usize>, A
 fn sources(alloc: Global, here: &Here<'_>, cell: usize) -> Result<Vec<usize>, AllocError>
     requires stands { Stands here.now }
     requires inside { cell < 512 }
-    ensures { IfOk result (λ vec. vec.items ≡ sources here.now.surveyed.program.now (known_of here.now.surveyed) here.now.unit cell) }
+    ensures { IfOk result (λ vec. vec.items
+        ≡ sources here.now.surveyed.program.now (known_of here.now.surveyed) here.now.unit cell) }
 {
     let Surveyed {
         program,

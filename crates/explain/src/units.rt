@@ -62,7 +62,8 @@ pub(crate) fn put_insn_at(
     unit: usize,
     insn: &Insn,
 ) -> Result<(), AllocError>
-    ensures { OnOk result (string_bytes out.new ≡ string_bytes out.old ++ insn_at (written_in written.now) unit insn.now) }
+    ensures { OnOk result (string_bytes out.new ≡ string_bytes out.old
+        ++ insn_at (written_in written.now) unit insn.now) }
 {
     put_unit_text(out, written, unit)?;
     put(out, " ")?;

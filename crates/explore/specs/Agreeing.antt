@@ -6,7 +6,9 @@ use Rattle.world.specs.World.{oral_kind}
 use Rattle.explore.specs.Outcomes.{oral_outcome}
 use Rattle.explore.specs.Exploring.{Finding, Exploration, IsExploration}
 
--- of an oral campaign whose bound holds, in each outcome the loyal lieutenants decide alike, and the order of a loyal commander
+-- of an oral campaign whose bound holds, in each outcome the loyal lieutenants decide alike, and the order of a loyal
+-- commander
 abbrev pub FindingsAgree : Type 0
-FindingsAgree = (s : Scenario) (most : ℕ) (e : Exploration) → IsScenario s → IsExploration oral_kind oral_outcome s most e →
+FindingsAgree =
+    (s : Scenario) (most : ℕ) (e : Exploration) → IsScenario s → IsExploration oral_kind oral_outcome s most e →
     All (λ (f : Finding). AgreeUnderBound s f.decisions) e.findings

@@ -50,15 +50,16 @@ pub record IsLowerFinding (K : Kind) (D : Outcome) (s : Scenario) (f : Finding) 
   pub real : IsReal K D s f
   pub count : f.count ≤ ways_to K D s f.decisions
 
--- the findings of an exploration that met no limit: each is one, no two are of one outcome, no complete run comes to another,
--- and together they count all orders
+-- the findings of an exploration that met no limit: each is one, no two are of one outcome, no complete run comes to
+-- another, and together they count all orders
 pub record IsExplored (K : Kind) (D : Outcome) (s : Scenario) (findings : List Finding) : Type 0 where
   pub each : All (IsFinding K D s) findings
   pub different : AreDifferent (outcomes_of findings)
   pub whole : (events : List Event) → IsComplete K s events → Has (outcomes_of findings) (outcome_in K D s events)
   pub total : counted_in findings ≡ length (orders K s)
 
--- and of one that was to count no more than so many orders and met that limit: there are more, and it counted the least ones
+-- and of one that was to count no more than so many orders and met that limit: there are more, and it counted the least
+-- ones
 pub record IsExploredInPart (K : Kind) (D : Outcome) (s : Scenario) (most : ℕ) (findings : List Finding) : Type 0 where
   pub each : All (IsLowerFinding K D s) findings
   pub different : AreDifferent (outcomes_of findings)
@@ -71,8 +72,8 @@ pub record IsCappedFinding (K : Kind) (D : Outcome) (s : Scenario) (f : Finding)
   pub real : IsReal K D s f
   pub count : f.count ≡ min (ways_to K D s f.decisions) (2 ^ 64 - 1)
 
--- the findings of an exploration of so many orders that counts stop: each is one, no two are of one outcome, no complete run comes to
--- another, and there are at least 2 ^ 64 - 1 orders
+-- the findings of an exploration of so many orders that counts stop: each is one, no two are of one outcome, no
+-- complete run comes to another, and there are at least 2 ^ 64 - 1 orders
 pub record IsExploredBeyond (K : Kind) (D : Outcome) (s : Scenario) (findings : List Finding) : Type 0 where
   pub each : All (IsCappedFinding K D s) findings
   pub different : AreDifferent (outcomes_of findings)
@@ -84,11 +85,12 @@ pub record Exploration : Type 0 where
   pub findings : List Finding
   pub reach : Reach
 
--- of all orders, counted or too many for that, or of so many where there are more; where there is a limit, each example is the least
--- order that leads there
+-- of all orders, counted or too many for that, or of so many where there are more; where there is a limit, each example
+-- is the least order that leads there
 pub record IsExploration (K : Kind) (D : Outcome) (s : Scenario) (most : ℕ) (e : Exploration) : Type 0 where
   pub few : e.reach ≢ Beyond → counted_in e.findings ≤ most
   pub all : e.reach ≡ Whole → IsExplored K D s e.findings
   pub beyond : e.reach ≡ Beyond → IsExploredBeyond K D s e.findings
   pub part : e.reach ≡ InPart → IsExploredInPart K D s most e.findings
-  pub least : most < 2 ^ 64 - 1 → All (λ (f : Finding). first_to K D s (orders K s) f.decisions ≡ Some f.example) e.findings
+  pub least : most < 2 ^ 64 - 1 →
+      All (λ (f : Finding). first_to K D s (orders K s) f.decisions ≡ Some f.example) e.findings

@@ -11,7 +11,8 @@ use Rattle.explore.specs.Listing.{askers, round_orders, most_in_round}
 use Rattle.explore.specs.Merging.{AreAlike}
 use Rattle.explore.specs.Walks.{IsWalk}
 
--- a world, in how many ways it or an alike one comes about, and one of these: who made the accesses of its closed rounds, and of the open one
+-- a world, in how many ways it or an alike one comes about, and one of these: who made the accesses of its closed
+-- rounds, and of the open one
 pub record State : Type 0 where
   pub world : World
   pub ways : ℕ
@@ -61,7 +62,8 @@ AreFreshOf s k states = All (IsFreshOf s k) states
 -- a state with an alike world stands there
 abbrev pub IsAlikeAt : List State → State → ℕ → Type 0
 IsAlikeAt states t place =
-    (place < length states) × ((d : State) → (slice_index_or states place d).world.scenario ≡ t.world.scenario → AreAlike (slice_index_or states place d).world t.world)
+    (place < length states) × ((d : State) → (slice_index_or states place d).world.scenario ≡ t.world.scenario →
+    AreAlike (slice_index_or states place d).world t.world)
 
 -- one state more: its ways are added to those of a state with an alike world
 pub record IsJoined (states : List State) (t : State) (new : List State) : Type 0 where
@@ -86,7 +88,8 @@ pub record IsAhead (w : World) (count : ℕ) (before : List (List ℕ)) (made : 
 -- a state as a general has made his next access in this world of it; none where he is to make none
 abbrev pub IsPastOf : World → State → ℕ → Option State → Type 0
 IsPastOf w t g None = will_ask (slice_get w.parts g) ≡ false
-IsPastOf w t g (Some next) = (will_ask (slice_get w.parts g) ≡ true) × IsAhead (past oral_kind w g) t.ways t.rows (t.names ++ g ∷ []) next
+IsPastOf w t g (Some next) =
+    (will_ask (slice_get w.parts g) ≡ true) × IsAhead (past oral_kind w g) t.ways t.rows (t.names ++ g ∷ []) next
 
 -- whether he is to make one, and the states with it
 abbrev pub IsAsked : World → State → ℕ → List State → Bool → List State → Type 0
@@ -131,22 +134,26 @@ weighed_both f h next done = weighed f next + weighed h done
 pub record IsExpanded (s : Scenario) (t : State) (next done next_new done_new : List State) : Type 0 where
   pub states : (k : ℕ) → IsStateOf s k t → AreStatesOf s k next → AreStatesOf s k next_new
   pub fresh : (k : ℕ) → IsStateOf s k t → AreFreshOf s (suc k) done → AreFreshOf s (suc k) done_new
-  pub weight : (k : ℕ) (f h : World → ℕ) → IsScenario s → IsStateOf s k t → AreStatesOf s k next → AreFreshOf s (suc k) done → IsCommon f → IsSteady f → IsCommon h →
+  pub weight : (k : ℕ) (f h : World → ℕ) → IsScenario s → IsStateOf s k t → AreStatesOf s k next →
+      AreFreshOf s (suc k) done → IsCommon f → IsSteady f → IsCommon h →
       AsKept (weighed_both f h next_new done_new) (weighed_both f h next done + t.ways * stepped f h t.world)
 
 -- so do all states of a layer
 pub record IsStep (s : Scenario) (layer next done done_new : List State) : Type 0 where
   pub states : (k : ℕ) → AreStatesOf s k layer → AreStatesOf s k next
   pub fresh : (k : ℕ) → AreStatesOf s k layer → AreFreshOf s (suc k) done → AreFreshOf s (suc k) done_new
-  pub weight : (k : ℕ) (f h : World → ℕ) → IsScenario s → AreStatesOf s k layer → AreFreshOf s (suc k) done → IsCommon f → IsSteady f → IsCommon h →
+  pub weight : (k : ℕ) (f h : World → ℕ) → IsScenario s → AreStatesOf s k layer → AreFreshOf s (suc k) done →
+      IsCommon f → IsSteady f → IsCommon h →
       AsKept (weighed_both f h next done_new) (weighed h done + weighed (stepped f h) layer)
 
 -- a layer's states behind the round
 pub record IsRoundOn (s : Scenario) (most : ℕ) (first done : List State) : Type 0 where
   pub fresh : (k : ℕ) → AreStatesOf s k first → AreFreshOf s (suc k) done
-  pub weight : (k : ℕ) (h : World → ℕ) → IsScenario s → AreStatesOf s k first → IsCommon h → AsKept (weighed h done) (weighed (over_round most h) first)
+  pub weight : (k : ℕ) (h : World → ℕ) → IsScenario s → AreStatesOf s k first → IsCommon h →
+      AsKept (weighed h done) (weighed (over_round most h) first)
 
 -- the states behind so many rounds
 pub record AreLayers (s : Scenario) (k : ℕ) (states : List State) : Type 0 where
   pub fresh : AreFreshOf s k states
-  pub weight : (h : World → ℕ) → IsCommon h → AsKept (weighed h states) (over_rounds (most_in_round s) k h (opening oral_kind s))
+  pub weight : (h : World → ℕ) → IsCommon h →
+      AsKept (weighed h states) (over_rounds (most_in_round s) k h (opening oral_kind s))

@@ -19,7 +19,8 @@ abbrev pub or_end : List ℕ → (ℕ → List (List ℕ)) → List (List ℕ)
 or_end [] later = [] ∷ []
 or_end (g ∷ gs) later = branch (g ∷ gs) later
 
--- the orders in which the accesses still to be made in the open round can come, where they are at most so many, ascending
+-- the orders in which the accesses still to be made in the open round can come, where they are at most so many,
+-- ascending
 abbrev pub round_orders : Kind → ℕ → World → List (List ℕ)
 round_orders K zero w = or_end (askers w) (λ g. [])
 round_orders K (suc k) w = or_end (askers w) (λ g. round_orders K k (past K w g))
@@ -57,7 +58,8 @@ AreShort most (names ∷ order) = (length names ≤ most) × AreShort most order
 
 -- the list has each order with no round of more accesses, once, and nothing else
 pub record OrdersAreListed (K : Kind) : Type 0 where
-  pub round : (most : ℕ) (w : World) (names : List ℕ) → Has (round_orders K most w) names ↔ (IsRoundFrom K w names × (length names ≤ most))
+  pub round : (most : ℕ) (w : World) (names : List ℕ) →
+      Has (round_orders K most w) names ↔ (IsRoundFrom K w names × (length names ≤ most))
   pub once_in_round : (most : ℕ) (w : World) → AreDifferent (round_orders K most w)
   pub all : (s : Scenario) (most : ℕ) (order : List (List ℕ)) → IsScenario s →
       Has (orders_from K most (opening K s) (suc s.bound)) order ↔ (IsOrder K s order × AreShort most order)

@@ -1,4 +1,5 @@
--- Worlds of oral campaigns that go on alike: they differ in what was accessed and in how many steps, and in nothing that is told or that decides (own).
+-- Worlds of oral campaigns that go on alike: they differ in what was accessed and in how many steps, and in nothing
+-- that is told or that decides (own).
 use Rattle.std.specs.Prelude.{ℕ, ◌≡◌, List, [], ◌∷◌}
 use Rattle.round.specs.Letters.{Letter}
 use Rattle.world.specs.declared.event.Event.{Event}
@@ -30,8 +31,10 @@ pub record AreAlike (w v : World) : Type 0 where
 -- alike worlds stay alike; what can come from them, and what is decided then, is the same
 pub record AlikeWorldsGoOnAlike : Type 0 where
   pub runs : (events : List Event) (w v : World) → AreAlike w v → AreAlike (run w events) (run v events)
-  pub rounds : (names : List ℕ) (w v : World) → AreAlike w v → IsRoundFrom oral_kind w names → IsRoundFrom oral_kind v names
-  pub orders : (k : ℕ) (order : List (List ℕ)) (w v : World) → AreAlike w v → IsFrom oral_kind w k order → IsFrom oral_kind v k order
+  pub rounds : (names : List ℕ) (w v : World) → AreAlike w v → IsRoundFrom oral_kind w names →
+      IsRoundFrom oral_kind v names
+  pub orders : (k : ℕ) (order : List (List ℕ)) (w v : World) → AreAlike w v → IsFrom oral_kind w k order →
+      IsFrom oral_kind v k order
   pub outcomes : (k : ℕ) (order : List (List ℕ)) (w v : World) → AreAlike w v →
       oral_outcome (run w (replayed_rounds w k order)) ≡ oral_outcome (run v (replayed_rounds v k order))
 

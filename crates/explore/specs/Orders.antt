@@ -51,13 +51,15 @@ IsFrom K w zero order = order ≡ []
 IsFrom K w (suc k) [] = ⊥
 IsFrom K w (suc k) (names ∷ order) = IsRoundFrom K w names × IsFrom K (behind K w names) k order
 
--- runs of one order are one, which is the replay of the order; the replay of an order has that order; and an order is one choice after
--- another of who makes the next access
+-- runs of one order are one, which is the replay of the order; the replay of an order has that order; and an order is
+-- one choice after another of who makes the next access
 pub record OrdersDecide (K : Kind) : Type 0 where
-  pub worlds : (s : Scenario) (events others : List Event) → IsScenario s → IsComplete K s events → IsComplete K s others →
+  pub worlds : (s : Scenario) (events others : List Event) → IsScenario s → IsComplete K s events →
+      IsComplete K s others →
       order_of K s events ≡ order_of K s others → run K (opening K s) events ≡ run K (opening K s) others
   pub runs : (s : Scenario) (events : List Event) → IsScenario s → IsComplete K s events →
       run K (opening K s) (replayed K s (order_of K s events)) ≡ run K (opening K s) events
   pub replays : (s : Scenario) (order : List (List ℕ)) → IsScenario s → IsOrder K s order →
       IsComplete K s (replayed K s order) × (order_of K s (replayed K s order) ≡ order)
-  pub steps : (s : Scenario) (order : List (List ℕ)) → IsScenario s → IsOrder K s order ↔ IsFrom K (opening K s) (suc s.bound) order
+  pub steps : (s : Scenario) (order : List (List ℕ)) → IsScenario s →
+      IsOrder K s order ↔ IsFrom K (opening K s) (suc s.bound) order

@@ -12,4 +12,5 @@ IsNowhere findings ds = AreElsewhere (length findings) findings ds
 -- the first place where they are
 abbrev pub IsPlaceOf : List Finding → List ℕ → ℕ → Type 0
 IsPlaceOf findings ds place =
-    (place < length findings) × AreElsewhere place findings ds × ((d : Finding) → bytes_eq (slice_index_or findings place d).decisions ds ≡ true)
+    (place < length findings) × AreElsewhere place findings ds
+    × ((d : Finding) → bytes_eq (slice_index_or findings place d).decisions ds ≡ true)

@@ -16,11 +16,13 @@ use Rattle.explore.specs.Schedules.{entries_from, schedule_from}
 -- so many steps of a general, with which he has made one more access; or none, where he is to make none
 abbrev pub IsStepTo : Kind → World → ℕ → World → Option ℕ → Type 0
 IsStepTo K w g v None = will_ask (slice_get w.parts g) ≡ false
-IsStepTo K w g v (Some steps) = (will_ask (slice_get w.parts g) ≡ true) × (steps ≡ length (ticks_named g (slice_get w.parts g))) × (v ≡ past K w g)
+IsStepTo K w g v (Some steps) =
+    (will_ask (slice_get w.parts g) ≡ true) × (steps ≡ length (ticks_named g (slice_get w.parts g))) × (v ≡ past K w g)
 
 -- the entries of a round, with which these have made their accesses; or the first place where that cannot be
 abbrev pub IsLineOf : Kind → World → List ℕ → World → Line → Type 0
-IsLineOf K w names v (Made entries) = IsWalk K w names × (entries ≡ entries_from K w names) × (v ≡ run K w (names_events K w names))
+IsLineOf K w names v (Made entries) =
+    IsWalk K w names × (entries ≡ entries_from K w names) × (v ≡ run K w (names_events K w names))
 IsLineOf K w names v (Stuck place) = IsStuckAt K w names place
 
 -- the schedule from here on, or the first round and place
@@ -30,7 +32,8 @@ IsScheduleOf K w names (Never round place) = IsStuckIn K w names round place
 
 -- played by it, these make their accesses first in each round; there is none only where these cannot do so
 abbrev pub IsPlan : Kind → Scenario → List (List ℕ) → Scheduled → Type 0
-IsPlan K s names (By schedule) = (listed s (lines_by schedule) ≡ replayed K s names) × IsCompletion names (order_of K s (listed s (lines_by schedule)))
+IsPlan K s names (By schedule) = (listed s (lines_by schedule) ≡ replayed K s names)
+    × IsCompletion names (order_of K s (listed s (lines_by schedule)))
 IsPlan K s names (Never round place) = AreWalks K (opening K s) names → ⊥
 
 -- played by it, the campaign is that run
@@ -40,4 +43,5 @@ ComesAgain K s events (Never round place) = ⊥
 
 -- where the names are who made the accesses of a complete run, that run comes again
 abbrev pub BringsBack : Kind → Scenario → List (List ℕ) → Scheduled → Type 0
-BringsBack K s names scheduled = (events : List Event) → IsComplete K s events → names ≡ order_of K s events → ComesAgain K s events scheduled
+BringsBack K s names scheduled =
+    (events : List Event) → IsComplete K s events → names ≡ order_of K s events → ComesAgain K s events scheduled

@@ -12,19 +12,24 @@ use Rattle.explore.specs.Walks.{AreWalks, IsCompletion}
 -- the entries of a round: one for each access, with as many steps of the general as it takes until he has made it
 abbrev pub entries_from : Kind → World → List ℕ → List Repeat
 entries_from K w [] = []
-entries_from K w (g ∷ names) = record { general = g; times = length (ticks_named g (slice_get w.parts g)) } ∷ entries_from K (past K w g) names
+entries_from K w (g ∷ names) =
+    record { general = g; times = length (ticks_named g (slice_get w.parts g)) } ∷ entries_from K (past K w g) names
 
 -- round by round
 abbrev pub schedule_from : Kind → World → List (List ℕ) → List (List Repeat)
 schedule_from K w [] = []
 schedule_from K w (names ∷ order) = entries_from K w names ∷ schedule_from K (behind K w names) order
 
--- played by that schedule, the campaign is the replay of these names, which make their accesses first, and then the others by number;
+-- played by that schedule, the campaign is the replay of these names, which make their accesses first, and then the
+-- others by number;
 -- so every order has a schedule, and every complete run comes again
 pub record OrdersAreSchedules (K : Kind) : Type 0 where
   pub played : (s : Scenario) (names : List (List ℕ)) → IsScenario s → AreWalks K (opening K s) names →
       listed s (lines_by (schedule_from K (opening K s) names)) ≡ replayed K s names
-  pub completes : (s : Scenario) (names : List (List ℕ)) → IsScenario s → AreWalks K (opening K s) names → IsCompletion names (order_of K s (replayed K s names))
-  pub orders : (s : Scenario) (order : List (List ℕ)) → IsScenario s → IsOrder K s order → AreWalks K (opening K s) order
+  pub completes : (s : Scenario) (names : List (List ℕ)) → IsScenario s → AreWalks K (opening K s) names →
+      IsCompletion names (order_of K s (replayed K s names))
+  pub orders : (s : Scenario) (order : List (List ℕ)) → IsScenario s → IsOrder K s order →
+      AreWalks K (opening K s) order
   pub again : (s : Scenario) (events : List Event) → IsScenario s → IsComplete K s events →
-      run K (opening K s) (listed s (lines_by (schedule_from K (opening K s) (order_of K s events)))) ≡ run K (opening K s) events
+      run K (opening K s) (listed s (lines_by (schedule_from K (opening K s) (order_of K s events))))
+      ≡ run K (opening K s) events

@@ -1,5 +1,5 @@
--- Which order comes next in the list of a campaign's orders (own): at the last place where it can be so, the next greater of those who
--- have accesses left comes first; who comes behind him is left open.
+-- Which order comes next in the list of a campaign's orders (own): at the last place where it can be so, the next
+-- greater of those who have accesses left comes first; who comes behind him is left open.
 use Rattle.std.specs.Prelude.{ℕ, nat_lt, min, cond, List, [], ◌∷◌, Option, None, Some}
 
 -- the least that is above

@@ -48,12 +48,14 @@ yes_no_none (Some b) = yes_no b
 -- in how many orders, whether the loyal decide alike and obey, and what each lieutenant decides, ascending
 abbrev pub outcome_text : ℕ → Bool → Option Bool → List ℕ → List ℕ
 outcome_text count alike obeyed ds =
-    codes "outcome" ++ count_text count ++ codes " alike " ++ yes_no alike ++ codes " obeyed " ++ yes_no_none obeyed ++ codes " decisions" ++ flat_map further ds ++ codes "\n"
+    codes "outcome" ++ count_text count ++ codes " alike " ++ yes_no alike ++ codes " obeyed " ++ yes_no_none obeyed
+    ++ codes " decisions" ++ flat_map further ds ++ codes "\n"
 
 -- and the schedule of its example, round by round
 abbrev pub finding_text : Kind → Scenario → Finding → List ℕ
 finding_text K s f =
-    outcome_text f.count (verdict_of s f.decisions).alike (verdict_of s f.decisions).obeyed f.decisions ++ rounds_text 1 (schedule_from K (opening K s) f.example)
+    outcome_text f.count (verdict_of s f.decisions).alike (verdict_of s f.decisions).obeyed f.decisions
+    ++ rounds_text 1 (schedule_from K (opening K s) f.example)
 
 -- how many orders there are, or that there are more than were counted, or than can be
 abbrev pub head_text : Reach → ℕ → List ℕ

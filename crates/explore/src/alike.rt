@@ -85,7 +85,8 @@ fn same_words(words: &[u64; 64], others: &[u64; 64]) -> bool
     words.as_slice() == others.as_slice()
 }
 
-/// Whether the worlds, of one scenario, have the same words and activations, and their closed rounds have told the same.
+/// Whether the worlds, of one scenario, have the same words and activations, and their closed rounds have told the
+/// same.
 pub(crate) fn are_alike(world: &World, other: &World) -> bool
     ensures { IsTrue result → world.now.scenario ≡ other.now.scenario → AreAlike world.now other.now }
 {

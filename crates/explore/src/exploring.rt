@@ -109,9 +109,13 @@ fn visit(
     findings: &mut Vec<Finding>,
 ) -> Result<Option<Vec<Vec<u8>>>, AllocError>
     requires { counted_in findings.old.items + 1 < 2 ^ 64 }
-    ensures entered { OnOk result (findings.new.items ≡ entered findings.old.items (outcome_in oral_kind oral_outcome scenario.now (replayed oral_kind scenario.now (lists_in names.now)))
+    ensures entered { OnOk result
+        (findings.new.items ≡ entered findings.old.items
+        (outcome_in oral_kind oral_outcome scenario.now (replayed oral_kind scenario.now (lists_in names.now)))
         (order_of oral_kind scenario.now (replayed oral_kind scenario.now (lists_in names.now)))) }
-    ensures next { IfOk result (λ next. option_map (λ order. lists_in order.items) next ≡ next_order (order_of oral_kind scenario.now (replayed oral_kind scenario.now (lists_in names.now)))) }
+    ensures next { IfOk result
+        (λ next. option_map (λ order. lists_in order.items) next
+        ≡ next_order (order_of oral_kind scenario.now (replayed oral_kind scenario.now (lists_in names.now)))) }
 {
     scenario.recall();
     let chronicle = replay(alloc, scenario.copy(alloc)?, names)?;
@@ -144,7 +148,8 @@ fn enter(
 
 /// Where these decisions were found first.
 pub(crate) fn place_of(findings: &[Finding], decisions: &[u32]) -> Option<usize>
-    ensures { MatchOption result (IsNowhere findings.now decisions.now) (λ place. IsPlaceOf findings.now decisions.now place) }
+    ensures { MatchOption result (IsNowhere findings.now decisions.now)
+        (λ place. IsPlaceOf findings.now decisions.now place) }
 {
     for (place, finding) in findings.iter().enumerate() {
         if finding.decisions() == decisions {

@@ -35,7 +35,11 @@ impl Finding {
         decisions: &[u32],
         order: &[Vec<u8>],
     ) -> Result<Finding, AllocError>
-        ensures { IfOk result (λ finding. finding ≡ record { decisions = decisions.now; count = 1; example = lists_in order.now }) }
+        ensures { IfOk result (λ finding. finding ≡ record {
+          decisions = decisions.now;
+          count = 1;
+          example = lists_in order.now;
+        }) }
     {
         Ok(Finding {
             decisions: Vec::from_slice(alloc, decisions)?,
@@ -55,7 +59,11 @@ impl Finding {
         count: u64,
         order: &[Vec<u8>],
     ) -> Result<Finding, AllocError>
-        ensures { IfOk result (λ finding. finding ≡ record { decisions = decisions.now; count = kept count; example = lists_in order.now }) }
+        ensures { IfOk result (λ finding. finding ≡ record {
+          decisions = decisions.now;
+          count = kept count;
+          example = lists_in order.now;
+        }) }
     {
         Ok(Finding {
             decisions: Vec::from_slice(alloc, decisions)?,

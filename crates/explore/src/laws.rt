@@ -26,8 +26,8 @@ pub fn orders_are_schedules()
     ensures { OrdersAreSchedules oral_kind }
 {}
 
-/// Of an oral campaign whose bound holds, in each outcome that is found the loyal lieutenants decide alike, and the order of a
-/// loyal commander (TOPLAS 1982, Theorem 1).
+/// Of an oral campaign whose bound holds, in each outcome that is found the loyal lieutenants decide alike, and the
+/// order of a loyal commander (TOPLAS 1982, Theorem 1).
 pub fn findings_agree()
     ensures { FindingsAgree }
 {}

@@ -11,7 +11,8 @@ use std::marker::Model;
 #[derive(Drop)]
 pub(crate) struct Layer {
     states: Vec<State>,
-    /// By mark where the state stands that was entered last with it: a hint for the search, of which nothing is claimed.
+    /// By mark where the state stands that was entered last with it: a hint for the search, of which nothing is
+    /// claimed.
     newest: HashMap<u64, usize>,
 }
 

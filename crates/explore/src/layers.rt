@@ -42,7 +42,8 @@ fn past(
     general: u8,
 ) -> Result<Option<State>, AllocError>
     requires { IsRunOn (reached (opening oral_kind scenario.now) state.now.rows state.now.names) state.now.world }
-    ensures { IfOk result (λ next. IsPastOf (reached (opening oral_kind scenario.now) state.now.rows state.now.names) state.now general next) }
+    ensures { IfOk result (λ next. IsPastOf
+        (reached (opening oral_kind scenario.now) state.now.rows state.now.names) state.now general next) }
 {
     scenario.recall();
     match instructions(state.world.open_parts(), general) {
@@ -62,7 +63,8 @@ fn played_past(
     general: u8,
 ) -> Result<Option<State>, AllocError>
     requires { IsRunOn (reached (opening oral_kind scenario.now) state.now.rows state.now.names) state.now.world }
-    ensures { IfOk result (λ next. IsPastOf (reached (opening oral_kind scenario.now) state.now.rows state.now.names) state.now general next) }
+    ensures { IfOk result (λ next. IsPastOf
+        (reached (opening oral_kind scenario.now) state.now.rows state.now.names) state.now general next) }
 {
     let mut world = again(
         alloc,
@@ -118,7 +120,9 @@ fn ask(
     next: &mut Layer,
 ) -> Result<bool, AllocError>
     requires { IsRunOn (reached (opening oral_kind scenario.now) state.now.rows state.now.names) state.now.world }
-    ensures { IfOk result (λ asked. IsAsked (reached (opening oral_kind scenario.now) state.now.rows state.now.names) state.now general next.old asked next.new) }
+    ensures { IfOk result (λ asked. IsAsked
+        (reached (opening oral_kind scenario.now) state.now.rows state.now.names) state.now general next.old asked
+        next.new) }
 {
     match past(alloc, scenario, state, general)? {
         Some(more) => {
@@ -139,7 +143,12 @@ fn ask_last(
     general: u8,
     next: &mut Layer,
 ) -> Result<bool, AllocError>
-    ensures { IfOk result (λ asked. IsAsked world (record { world = world; ways = ways; rows = lists_in rows.now; names = names.now }) general next.old asked next.new) }
+    ensures { IfOk result (λ asked. IsAsked world (record {
+      world = world;
+      ways = ways;
+      rows = lists_in rows.now;
+      names = names.now;
+    }) general next.old asked next.new) }
 {
     let mut world = world;
     match steps_to_access(&mut world, general)? {
@@ -176,7 +185,8 @@ fn either(one: bool, other: bool) -> bool
 }
 
 /// Enters what can come next of a state: it as each of those who have accesses left has made one; where nobody has,
-/// it as the next round begins. The campaign is played again for each of them but the last, who goes on in the state's world.
+/// it as the next round begins. The campaign is played again for each of them but the last, who goes on in the state's
+/// world.
 fn expand(
     alloc: Global,
     scenario: &Scenario,

@@ -33,7 +33,8 @@ fn put_further(out: &mut String, number: u64) -> Result<(), AllocError>
 
 /// An entry of a schedule.
 fn put_repeat(out: &mut String, repeat: Repeat) -> Result<(), AllocError>
-    ensures { OnOk result (string_bytes out.new ≡ string_bytes out.old ++ decimal repeat.general ++ codes "*" ++ decimal repeat.times) }
+    ensures { OnOk result (string_bytes out.new ≡ string_bytes out.old ++ decimal repeat.general ++ codes "*"
+        ++ decimal repeat.times) }
 {
     let mut buffer = Buffer::new();
     out.push_str(buffer.format(u64::from(repeat.general)))?;
@@ -149,7 +150,8 @@ fn put_verdict(
     alike: bool,
     obeyed: Option<bool>,
 ) -> Result<(), AllocError>
-    ensures { OnOk result (string_bytes out.new ≡ string_bytes out.old ++ codes "outcome" ++ count_text count ++ codes " alike " ++ yes_no alike ++ codes " obeyed " ++ yes_no_none obeyed) }
+    ensures { OnOk result (string_bytes out.new ≡ string_bytes out.old ++ codes "outcome" ++ count_text count
+        ++ codes " alike " ++ yes_no alike ++ codes " obeyed " ++ yes_no_none obeyed) }
 {
     out.push_str("outcome")?;
     put_ways(out, count)?;
@@ -162,7 +164,8 @@ fn put_verdict(
 /// The line of an outcome.
 fn put_outcome(out: &mut String, scenario: &Scenario, finding: &Finding) -> Result<(), AllocError>
     ensures { OnOk result (string_bytes out.new ≡ string_bytes out.old
-        ++ outcome_text finding.now.count (verdict_of scenario.now finding.now.decisions).alike (verdict_of scenario.now finding.now.decisions).obeyed finding.now.decisions) }
+        ++ outcome_text finding.now.count (verdict_of scenario.now finding.now.decisions).alike
+        (verdict_of scenario.now finding.now.decisions).obeyed finding.now.decisions) }
 {
     let loyal = loyal_decisions(scenario, finding.decisions());
     let alike = alike(loyal.as_slice());
@@ -182,7 +185,8 @@ fn put_finding(
     finding: &Finding,
 ) -> Result<(), AllocError>
     requires { AreWalks oral_kind (opening oral_kind scenario.now) finding.now.example }
-    ensures { OnOk result (string_bytes out.new ≡ string_bytes out.old ++ finding_text oral_kind scenario.now finding.now) }
+    ensures { OnOk result (string_bytes out.new ≡ string_bytes out.old
+        ++ finding_text oral_kind scenario.now finding.now) }
 {
     put_outcome(out, scenario, finding)?;
     match schedule_names(alloc, scenario.copy(alloc)?, finding.example())? {
@@ -202,7 +206,8 @@ fn counted(findings: &[Finding]) -> u64
 /// How many orders there are, to the end of the line.
 fn put_count(out: &mut String, findings: &[Finding]) -> Result<(), AllocError>
     requires { counted_in findings.now < 2 ^ 64 }
-    ensures { OnOk result (string_bytes out.new ≡ string_bytes out.old ++ further (counted_in findings.now) ++ codes "\n") }
+    ensures { OnOk result (string_bytes out.new ≡ string_bytes out.old ++ further (counted_in findings.now)
+        ++ codes "\n") }
 {
     put_further(out, counted(findings))?;
     out.push_str("\n")?;
@@ -238,7 +243,8 @@ fn put_findings(
     findings: &[Finding],
 ) -> Result<(), AllocError>
     requires { All (λ f. AreWalks oral_kind (opening oral_kind scenario.now) f.example) findings.now }
-    ensures { OnOk result (string_bytes out.new ≡ string_bytes out.old ++ flat_map (finding_text oral_kind scenario.now) findings.now) }
+    ensures { OnOk result (string_bytes out.new ≡ string_bytes out.old
+        ++ flat_map (finding_text oral_kind scenario.now) findings.now) }
 {
     for finding in findings {
         put_finding(alloc, out, scenario, finding)?;
@@ -280,7 +286,8 @@ fn example_texts(
     findings: &[Finding],
 ) -> Result<Vec<String>, AllocError>
     requires { All (λ f. AreWalks oral_kind (opening oral_kind scenario.now) f.example) findings.now }
-    ensures { IfOk result (λ texts. map string_bytes texts.items ≡ map (example_text oral_kind scenario.now) findings.now) }
+    ensures { IfOk result (λ texts. map string_bytes texts.items
+        ≡ map (example_text oral_kind scenario.now) findings.now) }
 {
     let mut texts = Vec::new(alloc);
     for finding in findings {
@@ -290,8 +297,8 @@ fn example_texts(
     Ok(texts)
 }
 
-/// What is printed of all orders, as by [`explored`], and for each outcome, in the same order, the text of a schedule by which
-/// the campaign comes to it.
+/// What is printed of all orders, as by [`explored`], and for each outcome, in the same order, the text of a schedule
+/// by which the campaign comes to it.
 ///
 /// # Errors
 ///
@@ -310,13 +317,15 @@ pub fn explored_with_schedules(
     Ok((text, schedules))
 }
 
-/// What is printed of all orders of an oral campaign, or of the `most` least ones where there are more: `u64::MAX` is no limit.
+/// What is printed of all orders of an oral campaign, or of the `most` least ones where there are more: `u64::MAX` is
+/// no limit.
 ///
 /// # Errors
 ///
 /// `AllocError` where memory is refused.
 pub fn explored(alloc: Global, scenario: &Scenario, most: u64) -> Result<String, AllocError>
-    ensures { IfOk result (λ text. (e : Explored) × IsExploration oral_kind oral_outcome scenario.now most e × (string_bytes text ≡ exploration_text oral_kind scenario.now e)) }
+    ensures { IfOk result (λ text. (e : Explored) × IsExploration oral_kind oral_outcome scenario.now most e
+        × (string_bytes text ≡ exploration_text oral_kind scenario.now e)) }
 {
     scenario.recall();
     let exploration = explore(alloc, scenario, most)?;

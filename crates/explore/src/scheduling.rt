@@ -97,7 +97,8 @@ pub fn schedule_names(
     scenario: Scenario,
     names: &[Vec<u8>],
 ) -> Result<Scheduled, AllocError>
-    ensures made { IfOk result (λ scheduled. IsScheduleOf oral_kind (opening oral_kind scenario) (lists_in names.now) scheduled) }
+    ensures made { IfOk result
+        (λ scheduled. IsScheduleOf oral_kind (opening oral_kind scenario) (lists_in names.now) scheduled) }
     ensures plan { IfOk result (λ scheduled. IsPlan oral_kind scenario (lists_in names.now) scheduled) }
     ensures again { IfOk result (λ scheduled. BringsBack oral_kind scenario (lists_in names.now) scheduled) }
 {

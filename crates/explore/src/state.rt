@@ -39,7 +39,12 @@ impl Model for State {
 
     ghost Value = { StateSeen };
 
-    ghost view = { λ t. record { world = t.world; ways = t.ways; rows = lists_in t.rows.items; names = t.names.items } };
+    ghost view = { λ t. record {
+      world = t.world;
+      ways = t.ways;
+      rows = lists_in t.rows.items;
+      names = t.names.items;
+    } };
 }
 
 impl State {
@@ -73,7 +78,12 @@ impl State {
     ///
     /// `AllocError` where memory is refused.
     pub(crate) fn opening(alloc: Global, scenario: &Scenario) -> Result<State, AllocError>
-        ensures { IfOk result (λ state. state ≡ record { world = opening oral_kind scenario.now; ways = 1; rows = []; names = [] }) }
+        ensures { IfOk result (λ state. state ≡ record {
+          world = opening oral_kind scenario.now;
+          ways = 1;
+          rows = [];
+          names = [];
+        }) }
     {
         let world = World::open(alloc, scenario.copy(alloc)?)?;
         Ok(State::new(world, 1, Vec::new(alloc), Vec::new(alloc)))
@@ -87,8 +97,8 @@ impl State {
     }
 }
 
-/// The state of this world, to which the general has made an access behind these rounds and accesses: each activation is
-/// run on from there.
+/// The state of this world, to which the general has made an access behind these rounds and accesses: each activation
+/// is run on from there.
 ///
 /// # Errors
 ///
@@ -155,7 +165,8 @@ fn word_of(value: Value) -> u64 {
 
 /// Whether their worlds are found to be alike.
 pub(crate) fn is_like(state: &State, other: &State) -> bool
-    ensures { IsTrue result → state.now.world.scenario ≡ other.now.world.scenario → AreAlike state.now.world other.now.world }
+    ensures { IsTrue result → state.now.world.scenario ≡ other.now.world.scenario →
+        AreAlike state.now.world other.now.world }
 {
     state.mark == other.mark && are_alike(&state.world, &other.world)
 }

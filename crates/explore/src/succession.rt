@@ -54,7 +54,8 @@ fn next_names(mut names: Vec<u8>) -> Option<Vec<u8>>
 ///
 /// `AllocError` where memory is refused.
 pub(crate) fn next_order(mut order: Vec<Vec<u8>>) -> Result<Option<Vec<Vec<u8>>>, AllocError>
-    ensures { IfOk result (λ next. option_map (λ names. lists_in names.items) next ≡ next_order (lists_in order.items)) }
+    ensures { IfOk result (λ next. option_map (λ names. lists_in names.items) next
+        ≡ next_order (lists_in order.items)) }
 {
     while let Some(names) = order.pop() {
         if let Some(next) = next_names(names) {

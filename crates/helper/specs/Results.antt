@@ -30,6 +30,8 @@ HoldsResult lo hi s = (n : ℕ) × (value_at s.registers 0 ≡ Number n) × IsIn
 
 -- a call, and a call that the board has answered, leave a number of the interval in r0
 pub record Returns (helper : Helper) (lo hi : ℕ) : Type 0 where
-  pub at_once : (context : List ℕ) (relay : Relay) (s after : State) → IsRelay relay → called context relay s (Some helper) ≡ Next after → HoldsResult lo hi after
+  pub at_once : (context : List ℕ) (relay : Relay) (s after : State) → IsRelay relay →
+      called context relay s (Some helper) ≡ Next after → HoldsResult lo hi after
   pub answered : (context : List ℕ) (relay : Relay) (s waiting : State) (request : Request) (words : List ℕ) →
-      called context relay s (Some helper) ≡ Ask request waiting → fits request words ≡ true → HoldsResult lo hi (resumed request words waiting)
+      called context relay s (Some helper) ≡ Ask request waiting → fits request words ≡ true →
+      HoldsResult lo hi (resumed request words waiting)

@@ -54,7 +54,8 @@ or_else None other = other
 abbrev pub refused : List (Option Argument) → ℕ → List Value → Option Cause
 refused [] r registers = None
 refused (None ∷ arguments) r registers = refused arguments (r + 1) registers
-refused (Some argument ∷ arguments) r registers = or_else (test_of (bound_of argument) (value_at registers r)) (refused arguments (r + 1) registers)
+refused (Some argument ∷ arguments) r registers =
+    or_else (test_of (bound_of argument) (value_at registers r)) (refused arguments (r + 1) registers)
 
 -- a call of the helper traps for the first of these arguments that is refused
 abbrev pub TestsThese : Helper → List (Option Argument) → Type 0

@@ -42,7 +42,8 @@ refused_window StackPointer context s v size = refusal (stack_place v (pos 0) si
 refused_window ReadablePointer context s v size = refusal (given (cells_at context s.cells v (pos 0) size) bytes_in)
 refused_window _ context s v size = None
 
--- what is refused of three arguments together, in r1 to r3: the words from a slot on, then the window of the second, as long as the third says
+-- what is refused of three arguments together, in r1 to r3: the words from a slot on, then the window of the second, as
+-- long as the third says
 abbrev pub refused_together : List (Option Argument) → List ℕ → State → Option Cause
 refused_together (Some first ∷ Some second ∷ Some third ∷ []) context s =
     or_else (refused_span first third (number_in (value_at s.registers 1)) (number_in (value_at s.registers 3)))
@@ -59,4 +60,5 @@ trap_of (Trap cause) = Some cause
 -- a call traps exactly for the first argument that is refused, and behind them for what is refused of them together
 abbrev pub CallsTrapByTable : Type 0
 CallsTrapByTable = (helper : Helper) (context : List ℕ) (relay : Relay) (s : State) →
-    trap_of (called context relay s (Some helper)) ≡ or_else (refused (arguments_of helper) 1 s.registers) (refused_together (arguments_of helper) context s)
+    trap_of (called context relay s (Some helper))
+    ≡ or_else (refused (arguments_of helper) 1 s.registers) (refused_together (arguments_of helper) context s)

@@ -36,7 +36,8 @@ shape_of h = record { generals = h.generals; commander = h.commander; general = 
 
 -- whether there is such a relay
 abbrev pub is_possible : Held → Bool
-is_possible h = nat_le h.generals 13 && (nat_lt h.commander h.generals && (nat_lt h.general h.generals && (nat_le 1 h.round && nat_le h.round 5)))
+is_possible h = nat_le h.generals 13
+    && (nat_lt h.commander h.generals && (nat_lt h.general h.generals && (nat_le 1 h.round && nat_le h.round 5)))
 
 -- the label of this rank, among those that he relays
 unfoldable pub label_of : Held → ℕ → Option (List ℕ)

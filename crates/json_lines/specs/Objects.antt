@@ -45,7 +45,8 @@ first_by (Some ms) later = Some ms
 -- those of the first shape that fits, with where the line stands
 abbrev pub first_shaped : Held → List Row → List Word → Option Members
 first_shaped h [] words = None
-first_shaped h (r ∷ rs) words = first_by (option_map (λ ms. placed r.within h ms) (shaped r words)) (first_shaped h rs words)
+first_shaped h (r ∷ rs) words =
+    first_by (option_map (λ ms. placed r.within h ms) (shaped r words)) (first_shaped h rs words)
 
 -- a line of no shape is told as it is
 abbrev pub unshaped : List ℕ → Members

@@ -35,7 +35,8 @@ why lines = find is_why (reverse lines)
 
 -- what is said without a report: of the verifier's codes by their explanation, of an object's by the next line
 abbrev pub said : List ℕ → List (List ℕ) → Option (List ℕ)
-said code lines = if slice_index code 0 == 86 then why lines else if slice_index code 0 == 79 then slice_get lines 0 else None
+said code lines =
+    if slice_index code 0 == 86 then why lines else if slice_index code 0 == 79 then slice_get lines 0 else None
 
 -- why a file is refused by this code, as the lines behind its own say
 abbrev pub sentence_of : List ℕ → List (List ℕ) → Option (List ℕ)
@@ -82,7 +83,8 @@ fault_object told lines =
     with_sentence (reported lines)
     (with_namer (option_and_then namer (slice_get lines 0))
     (put (codes "class") (string (codes "unreadable"))
-    (with_text (codes "place") (behind_stop space told) (with_text (codes "fault") (before space told) (called (codes "fault"))))))
+    (with_text (codes "place") (behind_stop space told)
+    (with_text (codes "fault") (before space told) (called (codes "fault"))))))
 
 -- by the first word of the first line
 unfoldable pub refusal_object : List ℕ → Members

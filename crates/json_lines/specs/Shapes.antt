@@ -15,7 +15,13 @@ pub record Row : Type 0 where
   pub within : Within
 
 abbrev pub row_of : Shape → Row
-row_of s = record { line = s.line.now; parts = map (λ p. (p.0.now, p.1.now)) s.parts.now; mark = s.mark.now; holds = s.holds; within = s.within }
+row_of s = record {
+  line = s.line.now;
+  parts = map (λ p. (p.0.now, p.1.now)) s.parts.now;
+  mark = s.mark.now;
+  holds = s.holds;
+  within = s.within;
+}
 
 -- each word with its name
 abbrev pub paired : List (List ℕ) → List (List ℕ) → List (List ℕ × List ℕ)
@@ -23,7 +29,13 @@ paired (w ∷ ws) (n ∷ ns) = (w, n) ∷ paired ws ns
 paired _ _ = []
 
 abbrev pub marked : List ℕ → List ℕ → List ℕ → List ℕ → Bool → Within → Row
-marked line words names mark holds within = record { line = line; parts = paired (pieces space words) (pieces space names); mark = mark; holds = holds; within = within }
+marked line words names mark holds within = record {
+  line = line;
+  parts = paired (pieces space words) (pieces space names);
+  mark = mark;
+  holds = holds;
+  within = within;
+}
 
 -- a line of which no more is told
 abbrev pub plain : List ℕ → List ℕ → List ℕ → Within → Row
@@ -33,22 +45,28 @@ plain line words names within = marked line words names [] false within
 unfoldable pub shapes : List Row
 shapes =
     plain (codes "version") (codes "chronicle N") (codes "- version") Nothing
-    ∷ plain (codes "campaign") (codes "generals N bound N commander N order N") (codes "- generals - bound - commander - order") Nothing
-    ∷ plain (codes "campaign") (codes "generals N bound N commander N order N patience P rule majority") (codes "- generals - bound - commander - order - patience - rule") Nothing
-    ∷ plain (codes "campaign") (codes "generals N bound N commander N order N patience P rule median") (codes "- generals - bound - commander - order - patience - rule") Nothing
-    ∷ plain (codes "campaign") (codes "signed generals N bound N commander N order N patience P") (codes "messages - generals - bound - commander - order - patience") Nothing
+    ∷ plain (codes "campaign") (codes "generals N bound N commander N order N")
+    (codes "- generals - bound - commander - order") Nothing
+    ∷ plain (codes "campaign") (codes "generals N bound N commander N order N patience P rule majority")
+    (codes "- generals - bound - commander - order - patience - rule") Nothing
+    ∷ plain (codes "campaign") (codes "generals N bound N commander N order N patience P rule median")
+    (codes "- generals - bound - commander - order - patience - rule") Nothing
+    ∷ plain (codes "campaign") (codes "signed generals N bound N commander N order N patience P")
+    (codes "messages - generals - bound - commander - order - patience") Nothing
     ∷ plain (codes "round") (codes "round N") (codes "- round") Nothing
     ∷ plain (codes "access") (codes "access N get N = *") (codes "- general request slot - answer") Round
     ∷ plain (codes "access") (codes "access N swap N N = *") (codes "- general request slot value - answer") Round
     ∷ plain (codes "access") (codes "access N add N N = *") (codes "- general request slot value - answer") Round
-    ∷ plain (codes "access") (codes "access N cas N N N = *") (codes "- general request slot expected new - answer") Round
+    ∷ plain (codes "access") (codes "access N cas N N N = *")
+    (codes "- general request slot expected new - answer") Round
     ∷ plain (codes "access") (codes "access N copy N N = *") (codes "- general request slot count - answer") Round
     ∷ marked (codes "letter") (codes "letter N loyal") (codes "- general -") (codes "loyal") true Round
     ∷ marked (codes "letter") (codes "letter N steps N") (codes "- general - steps") (codes "loyal") false Round
     ∷ plain (codes "row") (codes "row N *") (codes "- rank orders") Letter
     ∷ plain (codes "chain") (codes "chain N S to S") (codes "- order signers - receivers") Letter
     ∷ marked (codes "decision") (codes "decision N N") (codes "- general decision") (codes "traitor") false Nothing
-    ∷ marked (codes "decision") (codes "decision N traitor N") (codes "- general - decision") (codes "traitor") true Nothing
+    ∷ marked (codes "decision") (codes "decision N traitor N") (codes "- general - decision")
+    (codes "traitor") true Nothing
     ∷ plain (codes "verdict") (codes "verdict alike A obeyed A bound A") (codes "- - alike - obeyed - bound") Nothing
     ∷ plain (codes "sound") (codes "sound") (codes "-") Nothing
     ∷ plain (codes "accepted") (codes "accepted N instructions N units") (codes "- instructions - units -") Nothing
@@ -56,7 +74,9 @@ shapes =
     ∷ plain (codes "put") (codes "put N N N") (codes "- rank receiver order") Outbox
     ∷ plain (codes "word") (codes "word N N") (codes "- slot value") Nothing
     ∷ plain (codes "table") (codes "generals N bound N commander N") (codes "- generals - bound - commander") Nothing
-    ∷ plain (codes "table") (codes "generals N bound N commander N rule majority") (codes "- generals - bound - commander - rule") Nothing
-    ∷ plain (codes "table") (codes "generals N bound N commander N rule median") (codes "- generals - bound - commander - rule") Nothing
+    ∷ plain (codes "table") (codes "generals N bound N commander N rule majority")
+    (codes "- generals - bound - commander - rule") Nothing
+    ∷ plain (codes "table") (codes "generals N bound N commander N rule median")
+    (codes "- generals - bound - commander - rule") Nothing
     ∷ plain (codes "message") (codes "tell S N N") (codes "- label receiver order") Nothing
     ∷ []

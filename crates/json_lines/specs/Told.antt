@@ -48,7 +48,8 @@ joined word = if bytes_eq word (codes "-") then Some (array no_items) else numbe
 abbrev pub places : List Word → Option Data
 places words = option_map array (all place_of words)
 
--- what a word tells that stands for this one of a shape: a number for N, a number or a dash for P, yes, no or a dash for A, numbers joined by dots or a dash for S, and for another word that word itself
+-- what a word tells that stands for this one of a shape: a number for N, a number or a dash for P, yes, no or a dash
+-- for A, numbers joined by dots or a dash for S, and for another word that word itself
 unfoldable pub told : Word → Word → Option Data
 told kind word =
     if bytes_eq kind (codes "N") then number_of word

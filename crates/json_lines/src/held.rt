@@ -6,7 +6,8 @@ ghost use Rattle.json_lines.specs.Labels.{at_first, heard, held_by, number_at};
 use label::Shape;
 use serde_json::{Map, Value};
 
-/// What is known of the campaign and of the letter in which a line stands, by the lines before: each 0 until one has told it.
+/// What is known of the campaign and of the letter in which a line stands, by the lines before: each 0 until one has
+/// told it.
 #[derive(Clone, Copy, Debug, PartialEq, Eq)]
 pub(crate) struct Held {
     pub generals: u64,

@@ -75,7 +75,8 @@ fn put_own(
     round: u64,
     rank: u64,
 ) -> Result<(), AllocError>
-    ensures { OnOk result (members_view object.new.entries ≡ with_label (own_label round rank) (members_view object.old.entries)) }
+    ensures { OnOk result (members_view object.new.entries
+        ≡ with_label (own_label round rank) (members_view object.old.entries)) }
 {
     if round == 1 && rank == 0 {
         return put(object, alloc, "label", Value::Array(Vec::new(alloc)));
@@ -91,7 +92,8 @@ fn put_label(
     held: Held,
     rank: u64,
 ) -> Result<(), AllocError>
-    ensures { OnOk result (members_view object.new.entries ≡ with_label (label_of held rank) (members_view object.old.entries)) }
+    ensures { OnOk result (members_view object.new.entries
+        ≡ with_label (label_of held rank) (members_view object.old.entries)) }
 {
     if !is_possible(held) {
         return Ok(());
@@ -109,7 +111,8 @@ fn put_label_of(
     held: Held,
     rank: Option<u64>,
 ) -> Result<(), AllocError>
-    ensures { OnOk result (members_view object.new.entries ≡ with_label (option_and_then (label_of held) rank) (members_view object.old.entries)) }
+    ensures { OnOk result (members_view object.new.entries
+        ≡ with_label (option_and_then (label_of held) rank) (members_view object.old.entries)) }
 {
     match rank {
         Some(rank) => put_label(alloc, object, held, rank),

@@ -27,9 +27,9 @@ pub(crate) fn push_object(
     Ok(())
 }
 
-/// A text as JSON Lines: an object for each of its lines, whose members are the line's words by their names. What a line
-/// tells of the campaign and of the letter in which it stands is told with the lines behind it; of a text that tells of a trial
-/// the place is given in which the program was tried.
+/// A text as JSON Lines: an object for each of its lines, whose members are the line's words by their names. What a
+/// line tells of the campaign and of the letter in which it stands is told with the lines behind it; of a text that
+/// tells of a trial the place is given in which the program was tried.
 ///
 /// # Errors
 ///

@@ -22,7 +22,8 @@ fn put_named(
     name: &str,
     value: Value,
 ) -> Result<(), AllocError>
-    ensures { OnOk result (members_view object.new.entries ≡ with_name name.now (view value) (members_view object.old.entries)) }
+    ensures { OnOk result (members_view object.new.entries
+        ≡ with_name name.now (view value) (members_view object.old.entries)) }
 {
     if name == "-" {
         return Ok(());
@@ -78,7 +79,8 @@ pub(crate) fn called(alloc: Global, line: &str) -> Result<Map<String, Value>, Al
 
 /// Puts what holds of each line of a shape.
 fn put_mark(alloc: Global, object: &mut Map<String, Value>, shape: &Shape) -> Result<(), AllocError>
-    ensures { OnOk result (members_view object.new.entries ≡ with_mark (row_of shape.now) (members_view object.old.entries)) }
+    ensures { OnOk result (members_view object.new.entries
+        ≡ with_mark (row_of shape.now) (members_view object.old.entries)) }
 {
     if shape.mark.is_empty() {
         return Ok(());
@@ -93,7 +95,8 @@ fn shaped(
     shape: &Shape,
     line: &[u8],
 ) -> Result<Option<Map<String, Value>>, AllocError>
-    ensures { IfOk result (λ o. option_map (λ object. members_view object.entries) o ≡ shaped (row_of shape.now) (pieces space line.now)) }
+    ensures { IfOk result (λ o. option_map (λ object. members_view object.entries) o
+        ≡ shaped (row_of shape.now) (pieces space line.now)) }
 {
     let mut object = called(alloc, shape.line)?;
     put_mark(alloc, &mut object, shape)?;
@@ -111,7 +114,8 @@ fn first_shaped(
     shapes: &[Shape],
     line: &[u8],
 ) -> Result<Option<Map<String, Value>>, AllocError>
-    ensures { IfOk result (λ o. option_map (λ object. members_view object.entries) o ≡ first_shaped held (map row_of shapes.now) (pieces space line.now)) }
+    ensures { IfOk result (λ o. option_map (λ object. members_view object.entries) o
+        ≡ first_shaped held (map row_of shapes.now) (pieces space line.now)) }
 {
     for shape in shapes {
         if let Some(object) = shaped(alloc, shape, line)? {

@@ -172,7 +172,8 @@ fn put_namer(
     object: &mut Map<String, Value>,
     key: Option<&[u8]>,
 ) -> Result<(), AllocError>
-    ensures { OnOk result (members_view object.new.entries ≡ with_namer (option_map (λ k. k.now) key.entry) (members_view object.old.entries)) }
+    ensures { OnOk result (members_view object.new.entries
+        ≡ with_namer (option_map (λ k. k.now) key.entry) (members_view object.old.entries)) }
 {
     match key {
         Some(key) => put_text(alloc, object, "named_by", key),
@@ -186,7 +187,8 @@ fn put_sentence(
     object: &mut Map<String, Value>,
     sentence: Option<&[u8]>,
 ) -> Result<(), AllocError>
-    ensures { OnOk result (members_view object.new.entries ≡ with_sentence (option_map (λ s. s.now) sentence.entry) (members_view object.old.entries)) }
+    ensures { OnOk result (members_view object.new.entries
+        ≡ with_sentence (option_map (λ s. s.now) sentence.entry) (members_view object.old.entries)) }
 {
     match sentence {
         Some(sentence) => put_text(alloc, object, "sentence", sentence),
@@ -201,7 +203,8 @@ fn put_text(
     name: &str,
     text: &[u8],
 ) -> Result<(), AllocError>
-    ensures { OnOk result (members_view object.new.entries ≡ with_text name.now text.now (members_view object.old.entries)) }
+    ensures { OnOk result (members_view object.new.entries
+        ≡ with_text name.now text.now (members_view object.old.entries)) }
 {
     put(object, alloc, name, spelled(alloc, text)?)
 }
@@ -260,9 +263,9 @@ pub(crate) fn refusal_object(alloc: Global, text: &[u8]) -> Result<Map<String, V
     }
 }
 
-/// What is said where a task is not done, as a line of JSON: of a refusal its code, its place, whether the file is malformed or
-/// its program unsafe, and why; of a fault of a file what it is, as its place the file, and why. The sentence that says why is
-/// there where the lines behind the first have it, and so is where a scenario names the file.
+/// What is said where a task is not done, as a line of JSON: of a refusal its code, its place, whether the file is
+/// malformed or its program unsafe, and why; of a fault of a file what it is, as its place the file, and why. The
+/// sentence that says why is there where the lines behind the first have it, and so is where a scenario names the file.
 ///
 /// # Errors
 ///

@@ -20,9 +20,9 @@ pub(crate) enum Within {
 pub(crate) struct Shape {
     /// What such a line is called.
     pub line: &'static str,
-    /// Its words, and what each is called, or a dash where it is not told. Of the words `N` stands for a number, `P` for a
-    /// number or a dash, `A` for yes, no or a dash, `S` for numbers joined by dots or a dash, `*` for all words that are left,
-    /// each a number or a dash, and any other for itself.
+    /// Its words, and what each is called, or a dash where it is not told. Of the words `N` stands for a number, `P`
+    /// for a number or a dash, `A` for yes, no or a dash, `S` for numbers joined by dots or a dash, `*` for all words
+    /// that are left, each a number or a dash, and any other for itself.
     pub parts: &'static [(&'static str, &'static str)],
     /// What holds of each such line, or does not; no name where nothing is told.
     pub mark: &'static str,

@@ -97,8 +97,8 @@ pub(crate) fn places(alloc: Global, words: Option<&[u8]>) -> Result<Option<Value
     Ok(Some(Value::Array(items)))
 }
 
-/// What a word tells that stands for this word of a shape: a number for `N`, a number or a dash for `P`, yes, no or a dash
-/// for `A`, numbers joined by dots or a dash for `S`, and for another word that word itself.
+/// What a word tells that stands for this word of a shape: a number for `N`, a number or a dash for `P`, yes, no or a
+/// dash for `A`, numbers joined by dots or a dash for `S`, and for another word that word itself.
 #[tactic(auto, unfolding(crate::specs::Told::told))]
 pub(crate) fn told(alloc: Global, kind: &[u8], word: &[u8]) -> Result<Option<Value>, AllocError>
     ensures { IfOk result (λ o. option_map view o ≡ told kind.now word.now) }

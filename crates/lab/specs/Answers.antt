@@ -37,7 +37,8 @@ use Rattle.lab.specs.declared.checking.Checked.{Checked}
 use Rattle.lab.specs.declared.first_answer.FirstAnswer.{FirstAnswer}
 use Rattle.lab.specs.declared.first_answer.FirstAnswer.TheVariants as answer
 
--- the verifier accepts the program, which is sound, and its trial on the bench, with a board that begins with zeros, ended so
+-- the verifier accepts the program, which is sound, and its trial on the bench, with a board that begins with zeros,
+-- ended so
 pub record IsRun (program : List Insn) (checked : Checked) : Type 0 where
   pub accepted : judged program ≡ None
   pub sound : IsSound program
@@ -53,28 +54,31 @@ abbrev pub steps_behind : Bool → List Insn → Setting → List ℕ
 steps_behind false program s = []
 steps_behind true program s = codes "\n" ++ trace_on s.board program (context_in s) (oral s.shape)
 
--- the file has a program in its notation, and these are the lines of its run, and behind them its steps and its explanation, where they
--- are asked for
+-- the file has a program in its notation, and these are the lines of its run, and behind them its steps and its
+-- explanation, where they are asked for
 abbrev pub IsChecked : Notation → Bool → Bool → List ℕ → List ℕ → Type 0
 IsChecked notation explained traced bytes text =
     (program : List Insn) × HasProgram notation bytes program
     × ((checked : Checked) × IsRun program checked
-    × IsBehind (if_asked explained notation) bytes program (checked_lines checked ++ steps_behind traced program bench) text)
+    × IsBehind (if_asked explained notation) bytes program
+    (checked_lines checked ++ steps_behind traced program bench) text)
 
--- behind what is told of the program that a file has and which is run in this setting, where an explanation is asked for: a note for each of
--- its calls that puts nothing, with the place of its unit
+-- behind what is told of the program that a file has and which is run in this setting, where an explanation is asked
+-- for: a note for each of its calls that puts nothing, with the place of its unit
 abbrev pub AreSlipsBehind : Option Notation → List ℕ → List Insn → Setting → List ℕ → List ℕ → Type 0
 AreSlipsBehind None bytes program s told text = text ≡ told
 AreSlipsBehind (Some notation) bytes program s told text =
     (places : List (String Global)) × ArePlaces notation bytes (map string_bytes places)
     × (text ≡ told ++ slips_on places s.board program (context_in s) (oral s.shape))
 
--- the text has the lines of the program's trial in this setting; behind them its steps, where they are asked for; and where it is, the
--- explanation of the program that a file of these bytes has, and a note for each call that puts nothing
+-- the text has the lines of the program's trial in this setting; behind them its steps, where they are asked for; and
+-- where it is, the explanation of the program that a file of these bytes has, and a note for each call that puts
+-- nothing
 abbrev pub IsTriedIn : Setting → Bool → Option Notation → List ℕ → List Insn → List ℕ → Type 0
 IsTriedIn s traced asked bytes program text =
     (lines : List ℕ) × IsTried program s lines
-    × ((told : List ℕ) × IsBehind asked bytes program (lines ++ steps_behind traced program s) told × AreSlipsBehind asked bytes program s told text)
+    × ((told : List ℕ) × IsBehind asked bytes program (lines ++ steps_behind traced program s) told
+    × AreSlipsBehind asked bytes program s told text)
 
 -- it is of the setting that a second file tells, in which this is whose relay it was
 abbrev pub IsTriedAt : Shape → Bool → Option Notation → List ℕ → List ℕ → List Insn → List ℕ → Type 0
@@ -83,10 +87,11 @@ IsTriedAt shape traced asked first second program text =
 
 -- it is of the setting that a second file tells
 abbrev pub IsTriedBy : Bool → Option Notation → List ℕ → List ℕ → List Insn → List ℕ → Type 0
-IsTriedBy traced asked first second program text = (s : Setting) × TellsSetting second s × IsTriedIn s traced asked first program text
+IsTriedBy traced asked first second program text =
+    (s : Setting) × TellsSetting second s × IsTriedIn s traced asked first program text
 
--- the first file has a program that the verifier accepts, and which is sound, and this is what is told of its trial in the setting that
--- the second file tells; a second file that is missing counts as an empty one
+-- the first file has a program that the verifier accepts, and which is sound, and this is what is told of its trial in
+-- the setting that the second file tells; a second file that is missing counts as an empty one
 abbrev pub Tries : Notation → Bool → Bool → List ℕ → Option (List ℕ) → List ℕ → Type 0
 Tries notation explained traced first second text =
     (program : List Insn) × HasProgram notation first program × (judged program ≡ None) × IsSound program
@@ -115,7 +120,8 @@ Disassembles notation units bytes text =
 -- the task prints this text on files of these bytes
 abbrev pub Prints : Task → List ℕ → Option (List ℕ) → List ℕ → Type 0
 Prints (Check file notation None explained traced) first second text = IsChecked notation explained traced first text
-Prints (Check file notation (Some context) explained traced) first second text = Tries notation explained traced first second text
+Prints (Check file notation (Some context) explained traced) first second text =
+    Tries notation explained traced first second text
 Prints (Assemble file Hex target explained) first second text = Assembles first text
 Prints (Assemble file Raw target explained) first second text = AssemblesRaw first text
 Prints (AssemblePartly file Hex target explained) first second text = AssemblesPartly first text
@@ -152,8 +158,10 @@ GoesOn (Audit scenario chronicle explained) first (answer.Audit c why) =
     TellsAny first c × (why ≡ explained)
 GoesOn (Draw scenario (Scheduled file)) first (answer.Draw c) = TellsAny first c
 GoesOn (Draw scenario (Recorded file)) first (answer.DrawRecorded c) = TellsAny first c
-GoesOn (Page scenario (Scheduled file) target) first (answer.Page c text) = TellsAny first c × (string_bytes text ≡ first)
-GoesOn (Page scenario (Recorded file) target) first (answer.PageRecorded c text) = TellsAny first c × (string_bytes text ≡ first)
+GoesOn (Page scenario (Scheduled file) target) first (answer.Page c text) =
+    TellsAny first c × (string_bytes text ≡ first)
+GoesOn (Page scenario (Recorded file) target) first (answer.PageRecorded c text) =
+    TellsAny first c × (string_bytes text ≡ first)
 GoesOn (Retrace scenario (OfChronicle file)) first (answer.Retrace s) = Tells first s
 GoesOn _ first _ = ⊥
 

@@ -40,7 +40,8 @@ played s schedule = chronicle_of (run (opening s) (listed s (lines_by schedule))
 abbrev pub signed_played : Scenario → List (List Repeat) → Chronicle
 signed_played s schedule = signed_chronicle_of (signed.played s (listed s (lines_by schedule)))
 
--- the text gives this account of an oral campaign: its chronicle, or the message table that its letters tell, which decides what the chronicle says
+-- the text gives this account of an oral campaign: its chronicle, or the message table that its letters tell, which
+-- decides what the chronicle says
 abbrev pub IsAccount : Account → Chronicle → List ℕ → Type 0
 IsAccount accounts.Chronicle c text = text ≡ chronicle_text c
 IsAccount accounts.Table c text = IsRetold c text
@@ -59,8 +60,10 @@ IsBehind (Some who) c behind = (lines : List ℕ) × (behind ≡ 10 ∷ lines) �
 abbrev pub IsFollowed : Option Lieutenants → Chronicle → List ℕ → List ℕ → Type 0
 IsFollowed explained c front text = (behind : List ℕ) × (text ≡ front ++ behind) × IsBehind explained c behind
 
--- the text gives this account of the oral campaign, and behind it the explanation; its decisions agree under the bound, and its verdict means what it says
-pub record IsOralPlayed (s : Scenario) (schedule : List (List Repeat)) (account : Account) (explained : Option Lieutenants) (text : List ℕ) : Type 0 where
+-- the text gives this account of the oral campaign, and behind it the explanation; its decisions agree under the bound,
+-- and its verdict means what it says
+pub record IsOralPlayed (s : Scenario) (schedule : List (List Repeat)) (account : Account)
+    (explained : Option Lieutenants) (text : List ℕ) : Type 0 where
   pub front : List ℕ
   pub told : IsAccount account (played s schedule) front
   pub behind : IsFollowed explained (played s schedule) front text
@@ -73,10 +76,11 @@ abbrev pub signed_behind : Option Lieutenants → Chronicle → List ℕ
 signed_behind None c = []
 signed_behind (Some who) c = 10 ∷ signed_explained c (asked who)
 
--- the text is that of the signed campaign's chronicle, and behind it the explanation, and so of a complete run, in which no activation traps or takes more
--- steps than its program has instructions, and whose letters are whole; its decisions agree for at most m traitors among n at
--- least m + 2 generals, and its verdict means what it says
-pub record IsSignedPlayed (s : Scenario) (schedule : List (List Repeat)) (explained : Option Lieutenants) (text : List ℕ) : Type 0 where
+-- the text is that of the signed campaign's chronicle, and behind it the explanation, and so of a complete run, in
+-- which no activation traps or takes more steps than its program has instructions, and whose letters are whole; its
+-- decisions agree for at most m traitors among n at least m + 2 generals, and its verdict means what it says
+pub record IsSignedPlayed (s : Scenario) (schedule : List (List Repeat)) (explained : Option Lieutenants)
+    (text : List ℕ) : Type 0 where
   pub told : text ≡ signed_text (signed_played s schedule) ++ signed_behind explained (signed_played s schedule)
   pub complete : generic.IsComplete signed_kind s (listed s (lines_by schedule))
   pub safe : AreSafeThroughout s (listed s (lines_by schedule))
@@ -112,8 +116,8 @@ Plays account explained first second text =
     (c : Campaign) × TellsCampaign (is_chronicle account) first c
     × ((schedule : List (List Repeat)) × IsSchedule second schedule × IsPlayed c schedule account explained text)
 
--- the text is that of the chronicle of a complete run, which is the replay of its own accesses, a legal history of the board, and behind it the
--- explanation; its decisions agree under the bound, and its verdict says of them what is so
+-- the text is that of the chronicle of a complete run, which is the replay of its own accesses, a legal history of the
+-- board, and behind it the explanation; its decisions agree under the bound, and its verdict says of them what is so
 pub record IsMustered (s : Scenario) (explained : Option Lieutenants) (text : List ℕ) : Type 0 where
   pub chronicle : Chronicle
   pub told : IsFollowed explained chronicle (chronicle_text chronicle) text
@@ -128,7 +132,8 @@ pub record IsMustered (s : Scenario) (explained : Option Lieutenants) (text : Li
 abbrev pub Musters : Option Lieutenants → List ℕ → List ℕ → Type 0
 Musters explained first text = (s : Scenario) × oral.Tells first s × IsMustered s explained text
 
--- the bytes are the text of a chronicle of the oral campaign, and the lines say so and give the verdict of its replay, and behind them the explanation
+-- the bytes are the text of a chronicle of the oral campaign, and the lines say so and give the verdict of its replay,
+-- and behind them the explanation
 pub record IsOralAudited (s : Scenario) (explained : Option Lieutenants) (bytes text : List ℕ) : Type 0 where
   pub sound : IsSoundText s bytes
   pub told : IsFollowed explained (chronicle_told s bytes) (sound_lines (chronicle_told s bytes).verdict) text
@@ -136,14 +141,17 @@ pub record IsOralAudited (s : Scenario) (explained : Option Lieutenants) (bytes 
 -- those of the signed one
 pub record IsSignedAudited (s : Scenario) (explained : Option Lieutenants) (bytes text : List ℕ) : Type 0 where
   pub sound : IsSoundSignedText s bytes
-  pub told : text ≡ sound_lines (signed_chronicle_told s bytes).verdict ++ signed_behind explained (signed_chronicle_told s bytes)
+  pub told : text ≡ sound_lines (signed_chronicle_told s bytes).verdict
+      ++ signed_behind explained (signed_chronicle_told s bytes)
 
--- the bytes are the text of a chronicle of the campaign, and the lines say so and give the verdict of its replay, and behind them the explanation
+-- the bytes are the text of a chronicle of the campaign, and the lines say so and give the verdict of its replay, and
+-- behind them the explanation
 abbrev pub IsAudited : Campaign → Option Lieutenants → List ℕ → List ℕ → Type 0
 IsAudited (Oral s) explained bytes text = IsOralAudited s explained bytes text
 IsAudited (Signed s) explained bytes text = IsSignedAudited s explained bytes text
 
--- the first file's bytes tell a campaign, and these are the lines of the audit of the second's; where there is no second file its bytes are none
+-- the first file's bytes tell a campaign, and these are the lines of the audit of the second's; where there is no
+-- second file its bytes are none
 abbrev pub Audits : Option Lieutenants → List ℕ → Option (List ℕ) → List ℕ → Type 0
 Audits explained first second text =
     (c : Campaign) × TellsAny first c × IsAudited c explained (unwrap_or second []) text

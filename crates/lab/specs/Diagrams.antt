@@ -36,9 +36,12 @@ IsRecordDrawn (Signed s) bytes picture =
     IsSoundSignedText s bytes × (picture ≡ signed_svg (signed_chronicle_told s bytes))
     × KeepsSignedPromises s (signed_chronicle_told s bytes)
 
--- the first file's bytes tell a campaign, and the picture is that of its chronicle by the schedule that the second's tell, or of the
--- chronicle whose text they are; there is no schedule but the empty one, and no byte of a chronicle, where there is no second file
+-- the first file's bytes tell a campaign, and the picture is that of its chronicle by the schedule that the second's
+-- tell, or of the chronicle whose text they are; there is no schedule but the empty one, and no byte of a chronicle,
+-- where there is no second file
 abbrev pub Draws : Course → List ℕ → Option (List ℕ) → List ℕ → Type 0
 Draws (Scheduled file) first second picture =
-    (c : Campaign) × TellsAny first c × ((schedule : List (List Repeat)) × IsSchedule second schedule × IsCampaignDrawn c schedule picture)
-Draws (Recorded file) first second picture = (c : Campaign) × TellsAny first c × IsRecordDrawn c (unwrap_or second []) picture
+    (c : Campaign) × TellsAny first c
+    × ((schedule : List (List Repeat)) × IsSchedule second schedule × IsCampaignDrawn c schedule picture)
+Draws (Recorded file) first second picture =
+    (c : Campaign) × TellsAny first c × IsRecordDrawn c (unwrap_or second []) picture

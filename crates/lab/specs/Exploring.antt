@@ -13,7 +13,8 @@ use Rattle.world.specs.World.{oral_kind}
 abbrev pub limit : Option ℕ → ℕ
 limit most = unwrap_or most (2 ^ 64 - 1)
 
--- the text tells the outcomes of all orders of the oral campaign or, where there are more, of so many; the decisions of each agree under the bound
+-- the text tells the outcomes of all orders of the oral campaign or, where there are more, of so many; the decisions of
+-- each agree under the bound
 pub record IsExplored (s : Scenario) (most : ℕ) (text : List ℕ) : Type 0 where
   pub exploration : Exploration
   pub explores : IsExploration oral_kind oral_outcome s most exploration

@@ -43,7 +43,8 @@ text_fault other file text = Refused other (Some (Explained text))
 abbrev pub IsTold : Refusal → Bor (List ℕ) → (List ℕ → Type 0) → Failure → Type 0
 IsTold cause file tells Memory = Unit {0}
 IsTold cause file tells (Text own) = (cause ≡ refusal.NotText) × (own ≡ file)
-IsTold cause file tells (Refused own hint) = (own ≡ cause) × (cause ≢ refusal.NotText) × (cause ≢ refusal.Memory) × tells (hint_behind hint)
+IsTold cause file tells (Refused own hint) =
+    (own ≡ cause) × (cause ≢ refusal.NotText) × (cause ≢ refusal.Memory) × tells (hint_behind hint)
 IsTold cause file tells fault = ⊥
 
 -- with such a text, where an explanation is asked for
@@ -51,8 +52,8 @@ abbrev pub IsToldIf : Bool → Refusal → Bor (List ℕ) → (List ℕ → Type
 IsToldIf false cause file tells fault = fault ≡ fault_of cause file
 IsToldIf true cause file tells fault = IsTold cause file tells fault
 
--- the fault of a first file with this name that is refused so, as it is told where it is not the verifier that refuses it: with the report
--- of these bytes, where there is to be one
+-- the fault of a first file with this name that is refused so, as it is told where it is not the verifier that refuses
+-- it: with the report of these bytes, where there is to be one
 abbrev pub IsUnjudged : Bool → Refusal → Bor (List ℕ) → List ℕ → Failure → Type 0
 IsUnjudged false cause file own fault = fault ≡ fault_of_bytes cause file own
 IsUnjudged true cause file own fault = IsTold cause file (TellsWhyOf cause role.Nothing file.now own) fault
@@ -75,7 +76,8 @@ fault_text (Refused refusal hint) = Some (codes "refused " ++ refusal_text refus
 fault_text Write = Some (codes "fault write")
 fault_text Memory = Some (codes "out of memory")
 
--- why the file with this name stops a task: its reader failed, it is refused, with more that is said of it, or want of memory
+-- why the file with this name stops a task: its reader failed, it is refused, with more that is said of it, or want of
+-- memory
 abbrev pub Stops : Type 0 → (Refusal → Option Hint → Type 0) → List ℕ → Failure → Type 0
 Stops unread refused name (Read file) = unread × (file.now ≡ name)
 Stops unread refused name (Text file) = refused refusal.NotText None × (file.now ≡ name)
@@ -85,15 +87,19 @@ Stops unread refused name Memory = Unit {0}
 
 -- why a first file with these bytes stops a task: not since its reader failed
 abbrev pub StopsFirst : Task → List ℕ → Failure → Type 0
-StopsFirst task bytes fault = (known : Option (List ℕ)) → AreBytes known bytes → Stops ⊥ (IsRefused task known) (first_name task) fault
+StopsFirst task bytes fault =
+    (known : Option (List ℕ)) → AreBytes known bytes → Stops ⊥ (IsRefused task known) (first_name task) fault
 
 -- why a task has no answer: its first file stops it, or what comes behind one that is taken
 abbrev pub Prevents : Type 0 → Type 0 → Task → Files → Failure → Type 0
 Prevents unread second_unread task files fault =
     Stops unread (IsRefused task files.first) (first_name task) fault
-    ⊎ ((more : FirstAnswer) × IsTaken task files.first more × Stops second_unread (IsToldLater (is_explained task) (second_name task) files.second more) (second_name task) fault)
+    ⊎ ((more : FirstAnswer) × IsTaken task files.first more
+    × Stops second_unread (IsToldLater (is_explained task) (second_name task) files.second more)
+    (second_name task) fault)
 
--- why a task is not done: it has no answer, or the output failed on its answer, of which at most a beginning was written
+-- why a task is not done: it has no answer, or the output failed on its answer, of which at most a beginning was
+-- written
 abbrev pub Undoes : Type 0 → Type 0 → Type 0 → (List ℕ → Type 0) → Task → Files → Failure → Type 0
 Undoes unread second_unread unwritten begun task files Write = unwritten × HasAnswer begun task files
 Undoes unread second_unread unwritten begun task files fault = Prevents unread second_unread task files fault

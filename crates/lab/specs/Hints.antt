@@ -1,5 +1,6 @@
--- What is said behind what a task says of a file: of a program its explanation, and of a refusal its report, where they are asked for; of
--- bytes that spell no program what they seem to be; of an object without one the sentence of its fault.
+-- What is said behind what a task says of a file: of a program its explanation, and of a refusal its report, where they
+-- are asked for; of bytes that spell no program what they seem to be; of an object without one the sentence of its
+-- fault.
 use Rattle.std.specs.Prelude.{ℕ, ◌≡◌, Bool, true, false, List, [], ◌++◌, Option, None, Some, Ok, String, codes, map, option_map, string_bytes, unwrap_or}
 use Rattle.std.specs.Str.{IsUtf8}
 use Rattle.std.specs.declared.alloc.Global.{Global}
@@ -40,11 +41,13 @@ abbrev pub explained_in : Task → Option Notation
 explained_in (Check file notation context true traced) = Some notation
 explained_in _ = None
 
--- where each unit of the program that a file has is written: of assembly on which line, of an object in which line of which file
+-- where each unit of the program that a file has is written: of assembly on which line, of an object in which line of
+-- which file
 abbrev pub ArePlaces : Notation → List ℕ → List (List ℕ) → Type 0
 ArePlaces Bytecode bytes places = places ≡ []
 ArePlaces Assembly text places = IsUtf8 text → AreWritten (read_on nothing 1 (lines_of text)) places
-ArePlaces (Object entry) object places = AreEntryPlaces object (function_of object (option_map string_bytes entry)) places
+ArePlaces (Object entry) object places =
+    AreEntryPlaces object (function_of object (option_map string_bytes entry)) places
 
 -- how each is written: of assembly in the words of its line
 abbrev pub AreStatements : Notation → List ℕ → List (List ℕ) → Type 0
@@ -54,7 +57,8 @@ AreStatements notation bytes statements = statements ≡ []
 -- the text explains a program, with the places of its units and how they are written
 abbrev pub Explains : Notation → List ℕ → List Insn → List ℕ → Type 0
 Explains notation bytes program text =
-    (places statements : List (String Global)) × ArePlaces notation bytes (map string_bytes places) × AreStatements notation bytes (map string_bytes statements)
+    (places statements : List (String Global)) × ArePlaces notation bytes (map string_bytes places)
+    × AreStatements notation bytes (map string_bytes statements)
     × (text ≡ explained_at (in_lists places statements) program)
 
 abbrev pub if_asked : Bool → Notation → Option Notation
@@ -79,7 +83,8 @@ hint_behind (Some hint) = hint_text hint
 
 -- the text explains the program that the file has
 abbrev pub IsWhy : Notation → List ℕ → List ℕ → Type 0
-IsWhy notation bytes text = (program : List Insn) × HasProgram notation bytes program × Explains notation bytes program text
+IsWhy notation bytes text =
+    (program : List Insn) × HasProgram notation bytes program × Explains notation bytes program text
 
 -- the bytes of the task's first file that are to be bytecode themselves: none of those of an object
 abbrev pub bytecode_in : Task → List ℕ → List ℕ
@@ -93,7 +98,8 @@ abbrev pub seems_behind : Refusal → List ℕ → Option Hint
 seems_behind (NoEntry fault) bytes = Some (Fault fault)
 seems_behind refusal bytes = option_map Seems (likeness_of refusal bytes)
 
--- the notation in which a refused program is read once more: that of the task, where the verifier refused it and an explanation is asked for
+-- the notation in which a refused program is read once more: that of the task, where the verifier refused it and an
+-- explanation is asked for
 abbrev pub asked_of : Refusal → Task → Option Notation
 asked_of (Verifier fault) task = explained_in task
 asked_of _ task = None
@@ -109,12 +115,14 @@ abbrev pub is_reported : Task → Refusal → Bool
 is_reported task (NoEntry fault) = false
 is_reported task _ = is_explained task
 
--- what is said behind this refusal of the task's first file, of which these bytes are to be bytecode: where more is asked for, the
--- explanation of a program that the verifier refuses, or the report; else the sentence of an object's fault, or what the bytes seem to be
+-- what is said behind this refusal of the task's first file, of which these bytes are to be bytecode: where more is
+-- asked for, the explanation of a program that the verifier refuses, or the report; else the sentence of an object's
+-- fault, or what the bytes seem to be
 abbrev pub IsHintBy : Bool → Refusal → Task → List ℕ → List ℕ → Option Hint → Type 0
 IsHintBy false refusal task bytes own hint = hint ≡ seems_behind refusal own
 IsHintBy true (Verifier fault) task bytes own hint = IsSaid (explained_in task) bytes None hint
-IsHintBy true refusal task bytes own hint = TellsWhyOf refusal role.Nothing (unwrap_or (file_of task) []) own (hint_behind hint)
+IsHintBy true refusal task bytes own hint =
+    TellsWhyOf refusal role.Nothing (unwrap_or (file_of task) []) own (hint_behind hint)
 
 abbrev pub IsHintOf : Refusal → Task → List ℕ → List ℕ → Option Hint → Type 0
 IsHintOf refusal task bytes own hint = IsHintBy (is_reported task refusal) refusal task bytes own hint

@@ -18,9 +18,11 @@ use Rattle.world.specs.Chronicle.{Chronicle}
 use Rattle.lab.specs.Campaigns.{IsSchedule, played, signed_played}
 use Rattle.lab.specs.Promises.{KeepsPromises, KeepsSignedPromises}
 
--- the page is that of the chronicle, of the message table that its own letters tell, of the scenario's text, and of the schedule, if it was played by one
+-- the page is that of the chronicle, of the message table that its own letters tell, of the scenario's text, and of the
+-- schedule, if it was played by one
 abbrev pub IsPage : List ℕ → Option (List (List Repeat)) → Chronicle → List ℕ → Type 0
-IsPage text schedule c page = (table : MessageTable) × (table_told (table_of c) ≡ Ok table) × (page ≡ page_text text schedule table c)
+IsPage text schedule c page =
+    (table : MessageTable) × (table_told (table_of c) ≡ Ok table) × (page ≡ page_text text schedule table c)
 
 -- the page is that of the campaign's chronicle by a schedule, which keeps what is promised, and of the scenario's text
 abbrev pub IsCampaignPaged : Campaign → List ℕ → List (List Repeat) → List ℕ → Type 0
@@ -38,9 +40,12 @@ IsRecordTold (Signed s) text bytes page =
     IsSoundSignedText s bytes × (page ≡ signed_page_text text None (signed_chronicle_told s bytes))
     × KeepsSignedPromises s (signed_chronicle_told s bytes)
 
--- the first file's bytes tell a campaign, and the page has them, and is that of its chronicle by the schedule that the second's tell, or
--- of the chronicle whose text they are; there is no schedule but the empty one, and no byte of a chronicle, where there is no second file
+-- the first file's bytes tell a campaign, and the page has them, and is that of its chronicle by the schedule that the
+-- second's tell, or of the chronicle whose text they are; there is no schedule but the empty one, and no byte of a
+-- chronicle, where there is no second file
 abbrev pub TellsPage : Course → List ℕ → Option (List ℕ) → List ℕ → Type 0
 TellsPage (Scheduled file) first second page =
-    (c : Campaign) × TellsAny first c × ((schedule : List (List Repeat)) × IsSchedule second schedule × IsCampaignPaged c first schedule page)
-TellsPage (Recorded file) first second page = (c : Campaign) × TellsAny first c × IsRecordTold c first (unwrap_or second []) page
+    (c : Campaign) × TellsAny first c
+    × ((schedule : List (List Repeat)) × IsSchedule second schedule × IsCampaignPaged c first schedule page)
+TellsPage (Recorded file) first second page =
+    (c : Campaign) × TellsAny first c × IsRecordTold c first (unwrap_or second []) page

@@ -23,4 +23,5 @@ HasCode (Objects entry) object code = entry_of object (option_map string_bytes e
 
 -- this is their text, which says them and no others
 abbrev pub DisassemblesPartly : Notation → List ℕ → List ℕ → Type 0
-DisassemblesPartly notation bytes text = (code : List ℕ) × HasCode notation bytes code × IsTextOf code text × (bytes_said text ≡ Ok code)
+DisassemblesPartly notation bytes text =
+    (code : List ℕ) × HasCode notation bytes code × IsTextOf code text × (bytes_said text ≡ Ok code)

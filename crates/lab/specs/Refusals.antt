@@ -98,7 +98,8 @@ RefusesProgram program _ = ⊥
 -- the bytes spell no program, or the verifier refuses the program that they spell
 abbrev pub RefusesCheck : List ℕ → Refusal → Type 0
 RefusesCheck bytes (Codec error) = RefusesBytes bytes error
-RefusesCheck bytes (Verifier fault) = (program : List Insn) × SpellsProgram bytes program × (judged program ≡ Some fault)
+RefusesCheck bytes (Verifier fault) =
+    (program : List Insn) × SpellsProgram bytes program × (judged program ≡ Some fault)
 RefusesCheck bytes Memory = Unit {0}
 RefusesCheck bytes _ = ⊥
 
@@ -116,7 +117,8 @@ RefusesAssembly text _ = ⊥
 -- the text says no program, or the verifier refuses the program that it says
 abbrev pub RefusesCheckAssembly : List ℕ → Refusal → Type 0
 RefusesCheckAssembly text (Assembly error) = said text ≡ Err error
-RefusesCheckAssembly text (Verifier fault) = (program : List Insn) × (program_of text ≡ Some program) × (judged program ≡ Some fault)
+RefusesCheckAssembly text (Verifier fault) =
+    (program : List Insn) × (program_of text ≡ Some program) × (judged program ≡ Some fault)
 RefusesCheckAssembly text Memory = Unit {0}
 RefusesCheckAssembly text _ = ⊥
 
@@ -128,7 +130,8 @@ RefusesForm n m c _ = ⊥
 
 -- the same of a table that is filled in, or its liar is none of so many generals
 abbrev pub RefusesFilled : List ℕ → List ℕ → List ℕ → Option ℕ → Refusal → Type 0
-RefusesFilled n m c liar (Stranger general generals) = AreNumbersOf n m c generals × (stranger_among generals (liars liar) ≡ Some general)
+RefusesFilled n m c liar (Stranger general generals) =
+    AreNumbersOf n m c generals × (stranger_among generals (liars liar) ≡ Some general)
 RefusesFilled n m c liar refusal = RefusesForm n m c refusal
 
 -- the text tells no table, by this first fault
@@ -223,13 +226,15 @@ RefusesObject refuses name object refusal =
 abbrev pub RefusesCheckIn : Notation → List ℕ → Refusal → Type 0
 RefusesCheckIn notation.Bytecode bytes refusal = RefusesCheck bytes refusal
 RefusesCheckIn notation.Assembly bytes refusal = RefusesText RefusesCheckAssembly bytes refusal
-RefusesCheckIn (notation.Object entry) bytes refusal = RefusesObject RefusesCheck (option_map string_bytes entry) bytes refusal
+RefusesCheckIn (notation.Object entry) bytes refusal =
+    RefusesObject RefusesCheck (option_map string_bytes entry) bytes refusal
 
 -- the file has no program in its notation
 abbrev pub RefusesNotation : Notation → List ℕ → Refusal → Type 0
 RefusesNotation notation.Bytecode bytes refusal = RefusesDisassembly bytes refusal
 RefusesNotation notation.Assembly bytes refusal = RefusesText RefusesAssembly bytes refusal
-RefusesNotation (notation.Object entry) bytes refusal = RefusesObject RefusesDisassembly (option_map string_bytes entry) bytes refusal
+RefusesNotation (notation.Object entry) bytes refusal =
+    RefusesObject RefusesDisassembly (option_map string_bytes entry) bytes refusal
 
 -- the text says no bytes, by this first fault
 abbrev pub RefusesLines : List ℕ → Refusal → Type 0
@@ -257,7 +262,8 @@ RefusesSaid text _ = ⊥
 abbrev pub RefusesParts : Notation → List ℕ → Refusal → Type 0
 RefusesParts notation.Bytecode bytes refusal = RefusesUnits bytes refusal
 RefusesParts notation.Assembly bytes refusal = RefusesText RefusesSaid bytes refusal
-RefusesParts (notation.Object entry) bytes refusal = RefusesObject RefusesUnits (option_map string_bytes entry) bytes refusal
+RefusesParts (notation.Object entry) bytes refusal =
+    RefusesObject RefusesUnits (option_map string_bytes entry) bytes refusal
 
 -- the task does not take an only or first file of these bytes
 abbrev pub Refuses : Task → List ℕ → Refusal → Type 0
@@ -269,8 +275,10 @@ Refuses (DisassemblePartly file notation explained) bytes refusal = RefusesParts
 Refuses (Book file) bytes refusal = RefusesText RefusesTable bytes refusal
 Refuses (ExplainDecisions file traitors) bytes refusal = RefusesText (RefusesNaming traitors.items) bytes refusal
 Refuses (Form n m c None) bytes refusal = RefusesForm (string_bytes n) (string_bytes m) (string_bytes c) refusal
-Refuses (Form n m c (Some filling)) bytes refusal = RefusesFilled (string_bytes n) (string_bytes m) (string_bytes c) filling.liar refusal
-Refuses (Play scenario schedule account explained) bytes refusal = RefusesText (RefusesAsked (is_chronicle account)) bytes refusal
+Refuses (Form n m c (Some filling)) bytes refusal =
+    RefusesFilled (string_bytes n) (string_bytes m) (string_bytes c) filling.liar refusal
+Refuses (Play scenario schedule account explained) bytes refusal =
+    RefusesText (RefusesAsked (is_chronicle account)) bytes refusal
 Refuses (Muster scenario explained) bytes refusal = RefusesText RefusesScenario bytes refusal
 Refuses (Audit scenario chronicle explained) bytes refusal = RefusesText RefusesCampaign bytes refusal
 Refuses (Explore scenario most folder) bytes refusal = RefusesText RefusesScenario bytes refusal

@@ -67,7 +67,8 @@ IsScheduleOf known schedule = (second : Option (List ℕ)) × AreSecond known se
 
 -- the text is that of the campaign by the second file's schedule
 abbrev pub IsPlayedBy : Option (Option (List ℕ)) → Campaign → Account → Option Lieutenants → List ℕ → Type 0
-IsPlayedBy known c account explained text = (schedule : List (List Repeat)) × IsScheduleOf known schedule × IsPlayed c schedule account explained text
+IsPlayedBy known c account explained text =
+    (schedule : List (List Repeat)) × IsScheduleOf known schedule × IsPlayed c schedule account explained text
 
 -- the lines are those of the audit of the second file
 abbrev pub IsAuditOf : Option (Option (List ℕ)) → Campaign → Option Lieutenants → List ℕ → Type 0
@@ -75,7 +76,8 @@ IsAuditOf known c explained text = (bytes : List ℕ) × AreSecondBytes known by
 
 -- the picture is that of the campaign by the second file's schedule
 abbrev pub IsDrawnBy : Option (Option (List ℕ)) → Campaign → List ℕ → Type 0
-IsDrawnBy known c picture = (schedule : List (List Repeat)) × IsScheduleOf known schedule × IsCampaignDrawn c schedule picture
+IsDrawnBy known c picture =
+    (schedule : List (List Repeat)) × IsScheduleOf known schedule × IsCampaignDrawn c schedule picture
 
 -- that of the campaign as the second file tells it
 abbrev pub IsDrawnAs : Option (Option (List ℕ)) → Campaign → List ℕ → Type 0
@@ -83,7 +85,8 @@ IsDrawnAs known c picture = (bytes : List ℕ) × AreSecondBytes known bytes × 
 
 -- the page is that of the campaign, whose scenario this text tells, by the second file's schedule
 abbrev pub IsPagedBy : Option (Option (List ℕ)) → Campaign → List ℕ → List ℕ → Type 0
-IsPagedBy known c text page = (schedule : List (List Repeat)) × IsScheduleOf known schedule × IsCampaignPaged c text schedule page
+IsPagedBy known c text page =
+    (schedule : List (List Repeat)) × IsScheduleOf known schedule × IsCampaignPaged c text schedule page
 
 -- that of the campaign as the second file tells it
 abbrev pub IsPagedAs : Option (Option (List ℕ)) → Campaign → List ℕ → List ℕ → Type 0
@@ -95,18 +98,22 @@ IsRetracedBy known s lines = (bytes : List ℕ) × AreSecondBytes known bytes ×
 
 -- the text is what is told of the program's trial in the second file's setting
 abbrev pub IsTrialOf : Option (Option (List ℕ)) → Bool → Option Notation → List ℕ → List Insn → List ℕ → Type 0
-IsTrialOf known traced asked first program text = (bytes : List ℕ) × AreSecondBytes known bytes × IsTriedBy traced asked first bytes program text
+IsTrialOf known traced asked first program text =
+    (bytes : List ℕ) × AreSecondBytes known bytes × IsTriedBy traced asked first bytes program text
 
 -- the task prints this text on the files, and tries a program in this place, if it tries one
 abbrev pub IsPlacedAnswer : Task → Files → List ℕ → Option Shape → Type 0
 IsPlacedAnswer task files text place =
     (first : List ℕ) × AreBytes files.first first
-    × ((second : Option (List ℕ)) × AreSecond files.second second × Prints task first second text × IsPlace task second place)
+    × ((second : Option (List ℕ)) × AreSecond files.second second × Prints task first second text
+    × IsPlace task second place)
 
 -- the text is what is told of the program's trial in the second file's setting, and the place is whose relay it was
-abbrev pub IsTrialAt : Option (Option (List ℕ)) → Bool → Option Notation → List ℕ → List Insn → List ℕ → Option Shape → Type 0
+abbrev pub IsTrialAt : Option (Option (List ℕ)) → Bool → Option Notation → List ℕ → List Insn → List ℕ → Option Shape →
+    Type 0
 IsTrialAt known traced asked first program text place =
-    (bytes : List ℕ) × AreSecondBytes known bytes × ((shape : Shape) × IsTriedAt shape traced asked first bytes program text × (place ≡ Some shape))
+    (bytes : List ℕ) × AreSecondBytes known bytes
+    × ((shape : Shape) × IsTriedAt shape traced asked first bytes program text × (place ≡ Some shape))
 
 -- the task has an answer on the files, with which it stands so
 abbrev pub HasAnswer : (List ℕ → Type 0) → Task → Files → Type 0
@@ -139,7 +146,8 @@ IsScheduleRefused known refusal =
 -- the second file is refused so as a chronicle of the campaign, and not for want of memory
 abbrev pub IsChronicleRefused : Campaign → Option (Option (List ℕ)) → Refusal → Type 0
 IsChronicleRefused c known refusal =
-    (refusal ≢ Memory) × ((bytes : List ℕ) × AreSecondBytes known bytes × RefusesText (RefusesChronicle c) bytes refusal)
+    (refusal ≢ Memory) × ((bytes : List ℕ) × AreSecondBytes known bytes
+    × RefusesText (RefusesChronicle c) bytes refusal)
 
 -- the threads gave no chronicle so, and not for want of memory
 abbrev pub IsUnmustered : Refusal → Type 0
@@ -163,28 +171,33 @@ abbrev pub IfKnown : Option (Option (List ℕ)) → (List ℕ → Type 0) → Ty
 IfKnown None P = P []
 IfKnown (Some known) P = IfSome known P
 
--- what is said behind this refusal of a second file with this name: nothing or, where an explanation is asked for, the report
+-- what is said behind this refusal of a second file with this name: nothing or, where an explanation is asked for, the
+-- report
 abbrev pub IsHintLater : Bool → List ℕ → Option (Option (List ℕ)) → Role → Refusal → Option Hint → Type 0
 IsHintLater false name known of refusal hint = hint ≡ None
 IsHintLater true name known of refusal hint = IfKnown known (λ all. TellsWhyOf refusal of name all (hint_behind hint))
 
 -- behind such a first file it refuses so, and this is said behind it
 abbrev pub IsToldLater : Bool → List ℕ → Option (Option (List ℕ)) → FirstAnswer → Refusal → Option Hint → Type 0
-IsToldLater explained name known more refusal hint = IsRefusedLater more known refusal × IsHintLater explained name known (role_behind more) refusal hint
+IsToldLater explained name known more refusal hint =
+    IsRefusedLater more known refusal × IsHintLater explained name known (role_behind more) refusal hint
 
 -- the second file is refused so as a schedule, and this is said behind it
 abbrev pub IsScheduleTold : Bool → List ℕ → Option (Option (List ℕ)) → Refusal → Option Hint → Type 0
-IsScheduleTold explained name known refusal hint = IsScheduleRefused known refusal × IsHintLater explained name known role.Schedule refusal hint
+IsScheduleTold explained name known refusal hint =
+    IsScheduleRefused known refusal × IsHintLater explained name known role.Schedule refusal hint
 
 -- the stream has grown by this line, or it failed
 abbrev pub Tells : Type 0 → Option (List ℕ) → Option (List ℕ) → List ℕ → Type 0
 Tells fails old new line = fails ⊎ Appends old new (line ++ 10 ∷ [])
 
--- the line of these words and the file's name, which stands on it as it is or, with a control character, as a text of Rust; of such a name past ASCII nothing is said
+-- the line of these words and the file's name, which stands on it as it is or, with a control character, as a text of
+-- Rust; of such a name past ASCII nothing is said
 abbrev pub TellsName : (List ℕ → Type 0) → List ℕ → List ℕ → Type 0
 TellsName tells words name = IfSome (shown name) (λ told. tells (words ++ told))
 
--- the lines that tell of a refusal of the file with this name: its code and its place, and behind them what the file seems to be, or why it is refused
+-- the lines that tell of a refusal of the file with this name: its code and its place, and behind them what the file
+-- seems to be, or why it is refused
 abbrev pub TellsRefusal : List ℕ → (List ℕ → Type 0) → Refusal → Option Hint → Type 0
 TellsRefusal name tells NotText hint = TellsName tells (codes "fault text ") name
 TellsRefusal name tells refusal hint = tells (codes "refused " ++ refusal_text refusal ++ hint_behind hint)
@@ -199,9 +212,12 @@ IsTurnedDown unread refused name tells =
 abbrev pub IsUnwritten : Type 0 → (List ℕ → Type 0) → Task → Files → (List ℕ → Type 0) → Type 0
 IsUnwritten unwritten begun task files tells = unwritten × HasAnswer begun task files × tells (codes "fault write")
 
--- nothing is printed, since the first file is turned down, or what comes behind a first one that is taken; or the output failed on the answer, of which so much was written
+-- nothing is printed, since the first file is turned down, or what comes behind a first one that is taken; or the
+-- output failed on the answer, of which so much was written
 abbrev pub IsFault : Type 0 → Type 0 → Type 0 → (List ℕ → Type 0) → Task → Files → Type 0 → (List ℕ → Type 0) → Type 0
 IsFault unread second_unread unwritten begun task files kept tells =
     (kept × (IsTurnedDown unread (IsRefused task files.first) (first_name task) tells
-    ⊎ ((more : FirstAnswer) × IsTaken task files.first more × IsTurnedDown second_unread (IsToldLater (is_explained task) (second_name task) files.second more) (second_name task) tells)))
+    ⊎ ((more : FirstAnswer) × IsTaken task files.first more
+    × IsTurnedDown second_unread (IsToldLater (is_explained task) (second_name task) files.second more)
+    (second_name task) tells)))
     ⊎ IsUnwritten unwritten begun task files tells

@@ -1,4 +1,5 @@
--- What is said behind the line of a refusal where an explanation is asked for: the report of crate `why`, by the file's name and bytes.
+-- What is said behind the line of a refusal where an explanation is asked for: the report of crate `why`, by the file's
+-- name and bytes.
 use Rattle.std.specs.Prelude.{ℕ, ◌≡◌, Bool, true, false, List, [], ◌++◌, Option, None, Some, IfSome, codes, is_some}
 use Rattle.command_line.specs.declared.tasks.Task.{Task}
 use Rattle.command_line.specs.declared.tasks.Task.TheVariants.{Assemble, AssemblePartly, Audit, Check, Disassemble, DisassemblePartly, ExplainDecisions, Muster, Play}
@@ -63,8 +64,10 @@ campaign_again (campaigns.Signed s) text = signed_told_again s text
 -- this text stands behind the line of a refusal of a file with this name, which is to be shown so, and these bytes
 abbrev pub TellsWhy : Refusal → Role → List ℕ → List ℕ → List ℕ → Type 0
 TellsWhy (Trace (trace.At fault line)) Schedule name bytes told = told ≡ schedule_told name bytes line
-TellsWhy (Trace (trace.At fault line)) (Chronicle c) name bytes told = told ≡ replayed_told name bytes fault line (campaign_again c bytes)
-TellsWhy (Codec (codec.At fault unit)) of name bytes told = told ≡ seems_line (seems_at_first bytes) ++ bytecode_told name bytes fault unit
+TellsWhy (Trace (trace.At fault line)) (Chronicle c) name bytes told =
+    told ≡ replayed_told name bytes fault line (campaign_again c bytes)
+TellsWhy (Codec (codec.At fault unit)) of name bytes told =
+    told ≡ seems_line (seems_at_first bytes) ++ bytecode_told name bytes fault unit
 TellsWhy (Assembly (asm.At fault line)) of name bytes told = told ≡ assembly_told name bytes fault line
 TellsWhy (Table (book.At fault line)) of name bytes told = told ≡ table_told name bytes fault line
 TellsWhy (Scenario error) of name bytes told = TellsScenario name bytes error told

@@ -14,8 +14,8 @@ use std::alloc::{AllocError, Global};
 use trace::{Latch, sound_chronicle, sound_signed_chronicle, write_verdict};
 use world::Verdict;
 
-/// The audit of the bytes: that they are the text of a chronicle of the campaign, and the verdict on it; behind them how
-/// these decisions come about.
+/// The audit of the bytes: that they are the text of a chronicle of the campaign, and the verdict on it; behind them
+/// how these decisions come about.
 ///
 /// # Errors
 ///

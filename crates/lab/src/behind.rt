@@ -1,4 +1,5 @@
-//! What comes behind a first file with which `draw`, `page` and `schedule` go on: the campaign's course is in the second one.
+//! What comes behind a first file with which `draw`, `page` and `schedule` go on: the campaign's course is in the
+//! second one.
 ghost use Rattle.std.specs.Prelude.{IfErr, IfOk, IsSomeAnd, option_map, string_bytes};
 ghost use Rattle.lab.specs.Faults.{Stops};
 ghost use Rattle.lab.specs.Serving.{IsDrawnAs, IsDrawnBy, IsPagedAs, IsPagedBy, IsRetracedBy, IsToldLater};
@@ -26,7 +27,8 @@ pub(crate) fn draw_by<'a, R: Source>(
 ) -> Result<Vec<u8>, Failure<'a>>
     ensures drawn { IfOk result (λ text. IsDrawnBy (option_map R.bytes second) campaign text.items) }
     ensures fault { IfErr result
-        (Stops (IsSomeAnd second R.fails) (IsToldLater reported file.entry.now (option_map R.bytes second) (Draw campaign)) file.entry.now) }
+        (Stops (IsSomeAnd second R.fails)
+        (IsToldLater reported file.entry.now (option_map R.bytes second) (Draw campaign)) file.entry.now) }
 {
     let schedule = scheduled(alloc, reported, file, second)?;
     match diagrammed(alloc, campaign, &schedule) {
@@ -45,7 +47,9 @@ pub(crate) fn draw_record<'a, R: Source>(
 ) -> Result<Vec<u8>, Failure<'a>>
     ensures drawn { IfOk result (λ text. IsDrawnAs (option_map R.bytes second) campaign.now text.items) }
     ensures fault { IfErr result
-        (Stops (IsSomeAnd second R.fails) (IsToldLater reported file.entry.now (option_map R.bytes second) (DrawRecorded campaign.now)) file.entry.now) }
+        (Stops (IsSomeAnd second R.fails)
+        (IsToldLater reported file.entry.now (option_map R.bytes second)
+        (DrawRecorded campaign.now)) file.entry.now) }
 {
     let bytes = read_second(alloc, file, second)?;
     match record_diagrammed(alloc, campaign, bytes.as_slice()) {
@@ -74,7 +78,8 @@ pub(crate) fn page_by<'a, R: Source>(
 ) -> Result<Vec<u8>, Failure<'a>>
     ensures told { IfOk result (λ page. IsPagedBy (option_map R.bytes second) campaign (string_bytes text) page.items) }
     ensures fault { IfErr result
-        (Stops (IsSomeAnd second R.fails) (IsToldLater reported file.entry.now (option_map R.bytes second) (Page campaign text)) file.entry.now) }
+        (Stops (IsSomeAnd second R.fails)
+        (IsToldLater reported file.entry.now (option_map R.bytes second) (Page campaign text)) file.entry.now) }
 {
     let schedule = scheduled(alloc, reported, file, second)?;
     match paged(alloc, text.as_str(), campaign, &schedule) {
@@ -94,7 +99,9 @@ pub(crate) fn page_record<'a, R: Source>(
 ) -> Result<Vec<u8>, Failure<'a>>
     ensures told { IfOk result (λ page. IsPagedAs (option_map R.bytes second) campaign (string_bytes text) page.items) }
     ensures fault { IfErr result
-        (Stops (IsSomeAnd second R.fails) (IsToldLater reported file.entry.now (option_map R.bytes second) (PageRecorded campaign text)) file.entry.now) }
+        (Stops (IsSomeAnd second R.fails)
+        (IsToldLater reported file.entry.now (option_map R.bytes second)
+        (PageRecorded campaign text)) file.entry.now) }
 {
     let bytes = read_second(alloc, file, second)?;
     match record_paged(alloc, text.as_str(), &campaign, bytes.as_slice()) {
@@ -122,7 +129,8 @@ pub(crate) fn retrace_of<'a, R: Source>(
 ) -> Result<Vec<u8>, Failure<'a>>
     ensures retraced { IfOk result (λ text. IsRetracedBy (option_map R.bytes second) scenario.now text.items) }
     ensures fault { IfErr result
-        (Stops (IsSomeAnd second R.fails) (IsToldLater reported file.entry.now (option_map R.bytes second) (Retrace scenario.now)) file.entry.now) }
+        (Stops (IsSomeAnd second R.fails)
+        (IsToldLater reported file.entry.now (option_map R.bytes second) (Retrace scenario.now)) file.entry.now) }
 {
     let bytes = read_second(alloc, file, second)?;
     match retraced(alloc, scenario, bytes.as_slice()) {

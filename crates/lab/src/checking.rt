@@ -32,7 +32,8 @@ pub struct Checked {
     pub steps: u32,
 }
 
-/// Reads a program in this notation, verifies it and runs it on the bench. The board that it asks is its own, and begins with zeros.
+/// Reads a program in this notation, verifies it and runs it on the bench. The board that it asks is its own, and
+/// begins with zeros.
 ///
 /// # Errors
 ///
@@ -124,7 +125,8 @@ fn accepted_program(alloc: Global, program: Program) -> Result<Verified, Refusal
 
 /// The verified program, or why it is refused.
 fn accepted_by(judgement: Result<Verified, Refused>) -> Result<Verified, Refusal>
-    ensures { MatchResult judgement (λ verified. result ≡ Ok verified) (λ refused. result ≡ Err (verifier_refusal refused.fault)) }
+    ensures { MatchResult judgement (λ verified. result ≡ Ok verified)
+        (λ refused. result ≡ Err (verifier_refusal refused.fault)) }
 {
     match judgement {
         Ok(verified) => Ok(verified),

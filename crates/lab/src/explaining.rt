@@ -47,8 +47,8 @@ fn told(
     explanation_at(alloc, program, &written)
 }
 
-/// The lines of an accepted program that a file of these bytes has, and behind them an empty one and its explanation, if it
-/// is asked for, in the notation in which it is.
+/// The lines of an accepted program that a file of these bytes has, and behind them an empty one and its explanation,
+/// if it is asked for, in the notation in which it is.
 pub(crate) fn with_explanation(
     alloc: Global,
     lines: String,
@@ -56,7 +56,8 @@ pub(crate) fn with_explanation(
     bytes: &[u8],
     program: &Program,
 ) -> Result<String, AllocError>
-    ensures { IfOk result (λ text. IsBehind (option_map (λ notation. notation.now) asked.entry) bytes.now program.now (string_bytes lines) (string_bytes text)) }
+    ensures { IfOk result (λ text. IsBehind (option_map (λ notation. notation.now) asked.entry) bytes.now program.now
+        (string_bytes lines) (string_bytes text)) }
 {
     let Some(notation) = asked else {
         return Ok(lines);

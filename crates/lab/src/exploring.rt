@@ -8,8 +8,8 @@ use explore::findings_agree;
 use round::Scenario;
 use std::alloc::{AllocError, Global};
 
-/// What an oral campaign comes to in all orders of its accesses or, where there are more, in the `most` least ones. Without
-/// a number all are counted, in time and memory that grow as the number of worlds that are not alike.
+/// What an oral campaign comes to in all orders of its accesses or, where there are more, in the `most` least ones.
+/// Without a number all are counted, in time and memory that grow as the number of worlds that are not alike.
 ///
 /// # Errors
 ///
@@ -33,7 +33,8 @@ pub fn with_schedules(
     bytes: &[u8],
     most: Option<u64>,
 ) -> Result<(String, Vec<String>), Refusal>
-    ensures kept { IfOk result (λ kept. KeepsOrders most bytes.now (string_bytes kept.0) (map string_bytes kept.1.items)) }
+    ensures kept { IfOk result
+        (λ kept. KeepsOrders most bytes.now (string_bytes kept.0) (map string_bytes kept.1.items)) }
     ensures refused { IfErr result (RefusesText RefusesScenario bytes.now) }
 {
     let scenario = campaign(alloc, bytes)?;

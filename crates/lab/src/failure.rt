@@ -50,8 +50,8 @@ impl<'a> Failure<'a> {
         }
     }
 
-    /// The fault of a file of these bytes: where they spell no program, with what they seem to be, and where they are an
-    /// object without one, with the sentence of its fault.
+    /// The fault of a file of these bytes: where they spell no program, with what they seem to be, and where they are
+    /// an object without one, with the sentence of its fault.
     pub(crate) fn of_bytes(refusal: Refusal, file: &'a str, bytes: &[u8]) -> Failure<'a>
         ensures { result ≡ fault_of_bytes refusal file.entry bytes.now }
     {

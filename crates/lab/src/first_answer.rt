@@ -12,7 +12,8 @@ pub enum FirstAnswer {
     Bytes(Vec<u8>),
     /// A program to try, in the setting of the second file, and whether its steps are told.
     Trial(Verified, bool),
-    /// A campaign to play, by the schedule of the second file, the account to give of it, and whose decisions to explain.
+    /// A campaign to play, by the schedule of the second file, the account to give of it, and whose decisions to
+    /// explain.
     Play(Campaign, Account, Option<Lieutenants>),
     /// An oral campaign to run with a thread for each general, and whose decisions to explain.
     Muster(Scenario, Option<Lieutenants>),

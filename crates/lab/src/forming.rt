@@ -39,7 +39,8 @@ pub fn filled(
     filling: Filling,
 ) -> Result<String, Refusal>
     ensures known { OnOk result (KnowsLiar generals.now bound.now commander.now filling.liar) }
-    ensures filled { IfOk result (λ text. IsFilled generals.now bound.now commander.now filling.order filling.liar (string_bytes text)) }
+    ensures filled { IfOk result
+        (λ text. IsFilled generals.now bound.now commander.now filling.order filling.liar (string_bytes text)) }
     ensures refused { IfErr result (RefusesFilled generals.now bound.now commander.now filling.liar) }
 {
     let Filling { order, liar } = filling;

@@ -128,7 +128,8 @@ fn page_of(
     chronicle: &Chronicle,
 ) -> Result<Vec<u8>, AllocError>
     requires { IsWhole chronicle.now }
-    ensures { IfOk result (λ page. IsPage scenario_text.now (option_map (λ s. s.now) schedule.entry) chronicle.now page.items) }
+    ensures { IfOk result (λ page. IsPage scenario_text.now
+        (option_map (λ s. s.now) schedule.entry) chronicle.now page.items) }
 {
     let told = hearing(alloc, chronicle)?;
     let table = told_table(&told, chronicle);
@@ -142,7 +143,8 @@ fn signed_page_of(
     schedule: Option<&Schedule>,
     chronicle: &SignedChronicle,
 ) -> Result<Vec<u8>, AllocError>
-    ensures { IfOk result (λ page. page.items ≡ signed_page_text scenario_text.now (option_map (λ s. s.now) schedule.entry) chronicle.now) }
+    ensures { IfOk result (λ page. page.items
+        ≡ signed_page_text scenario_text.now (option_map (λ s. s.now) schedule.entry) chronicle.now) }
 {
     Ok(signed_page_text(alloc, scenario_text, schedule, chronicle)?.into_bytes())
 }

@@ -42,7 +42,8 @@ pub fn assembled_partly_raw(alloc: Global, text: &str) -> Result<Vec<u8>, Refusa
     Ok(assemble(alloc, text)?)
 }
 
-/// The text of the code in this notation that a file has: its instructions, and the units with which none begins as bytes.
+/// The text of the code in this notation that a file has: its instructions, and the units with which none begins as
+/// bytes.
 ///
 /// # Errors
 ///
@@ -83,7 +84,8 @@ fn of_text(alloc: Global, text: &str) -> Result<String, Refusal>
 
 /// That of the code of an object's entry.
 fn of_object(alloc: Global, object: &[u8], entry: Option<&str>) -> Result<String, Refusal>
-    ensures text { IfOk result (λ text. (code : List ℕ) × (entry_of object.now (asked entry.entry) ≡ Ok code) × IsTextOf code (string_bytes text) × (bytes_said (string_bytes text) ≡ Ok code)) }
+    ensures text { IfOk result (λ text. (code : List ℕ) × (entry_of object.now (asked entry.entry) ≡ Ok code)
+        × IsTextOf code (string_bytes text) × (bytes_said (string_bytes text) ≡ Ok code)) }
     ensures refused { IfErr result (RefusesObject RefusesUnits (asked entry.entry) object.now) }
 {
     match code_in(object, entry) {

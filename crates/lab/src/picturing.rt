@@ -22,8 +22,8 @@ use world::{Chronicle, Schedule, play};
 ///
 /// # Errors
 ///
-/// What the table or the scenario refuses; he, if he is no lieutenant of it, since a commander is told nothing; the first
-/// who is named and is none of its generals; or want of memory.
+/// What the table or the scenario refuses; he, if he is no lieutenant of it, since a commander is told nothing; the
+/// first who is named and is none of its generals; or want of memory.
 #[tactic(auto, using(crate::proofs::PicturingLemmas::of_table, crate::proofs::PicturingLemmas::of_campaign, crate::proofs::PicturingLemmas::not_drawn, crate::proofs::PicturingLemmas::known_in))]
 pub fn pictured(
     alloc: Global,
@@ -34,7 +34,9 @@ pub fn pictured(
     view: View,
 ) -> Result<String, Refusal>
     ensures known { OnOk result (KnowsTree (is_toml text.now) text.now general traitors.now) }
-    ensures drawn { IfOk result (λ picture. IsTreeIn (is_toml text.now) text.now traitors.now view (form_of drawing) general (string_bytes picture)) }
+    ensures drawn { IfOk result
+        (λ picture. IsTreeIn (is_toml text.now) text.now traitors.now view (form_of drawing) general
+        (string_bytes picture)) }
     ensures refused { IfErr result (RefusesTree general traitors.now text.now) }
 {
     let form = form(drawing);
@@ -114,7 +116,8 @@ fn campaign_pictured(
     form: Form,
     general: u8,
 ) -> Result<String, AllocError>
-    ensures { IfOk result (λ picture. DrawsTable (table_of (played scenario [])) (traitors_of scenario ++ named.now) view form general (string_bytes picture)) }
+    ensures { IfOk result (λ picture. DrawsTable (table_of (played scenario []))
+        (traitors_of scenario ++ named.now) view form general (string_bytes picture)) }
 {
     scenario.recall();
     let mut all = traitors(alloc, &scenario)?;
@@ -137,7 +140,8 @@ fn chronicle_pictured(
     general: u8,
 ) -> Result<String, AllocError>
     requires { IsWhole chronicle.now }
-    ensures { IfOk result (λ picture. DrawsTable (table_of chronicle.now) traitors.now view form general (string_bytes picture)) }
+    ensures { IfOk result (λ picture. DrawsTable (table_of chronicle.now) traitors.now view form general
+        (string_bytes picture)) }
 {
     let told = hearing(alloc, chronicle)?;
     let table = told_table(&told, chronicle);

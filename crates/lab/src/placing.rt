@@ -1,4 +1,5 @@
-//! What a task prints and, where that tells of a program's trial in the setting of a second file, whose relay it was there.
+//! What a task prints and, where that tells of a program's trial in the setting of a second file, whose relay it was
+//! there.
 ghost use Rattle.std.specs.Prelude.{◌≡◌, IfErr, IfOk, IsSomeAnd, MatchResult, None, Ok, Err, Some, option_map};
 ghost use Rattle.lab.specs.Answers.{trial_of};
 ghost use Rattle.lab.specs.Faults.{Prevents, Stops};
@@ -116,9 +117,13 @@ pub(crate) fn trial_at<'a, R: Source>(
     file: &'a str,
     second: Option<R>,
 ) -> Result<Answer, Failure<'a>>
-    ensures tried { IfOk result (λ answer. IsTrialAt (option_map R.bytes second) traced (explained_in task.now) first.now program.now answer.text.items answer.place) }
+    ensures tried { IfOk result
+        (λ answer. IsTrialAt (option_map R.bytes second) traced
+        (explained_in task.now) first.now program.now answer.text.items answer.place) }
     ensures fault { IfErr result
-        (Stops (IsSomeAnd second R.fails) (IsToldLater (is_explained task.now) file.entry.now (option_map R.bytes second) (Trial program.now traced)) file.entry.now) }
+        (Stops (IsSomeAnd second R.fails)
+        (IsToldLater (is_explained task.now) file.entry.now (option_map R.bytes second)
+        (Trial program.now traced)) file.entry.now) }
 {
     let bytes = read_second(alloc, file, second)?;
     match tried_by(

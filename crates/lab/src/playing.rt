@@ -49,8 +49,8 @@ pub fn campaign(alloc: Global, bytes: &[u8]) -> Result<Scenario, Refusal>
     Ok(scenario::read(alloc, as_text(bytes)?)?)
 }
 
-/// The campaign that the bytes tell, of which this account is to be given: an oral one where that is its message table, since
-/// a signed one has none.
+/// The campaign that the bytes tell, of which this account is to be given: an oral one where that is its message table,
+/// since a signed one has none.
 ///
 /// # Errors
 ///
@@ -81,15 +81,17 @@ pub fn schedule(alloc: Global, bytes: &[u8]) -> Result<Schedule, Refusal>
     Ok(read_schedule(alloc, as_text(bytes)?)?)
 }
 
-/// The schedule of a file that has these bytes or, where they are more than a schedule has, begins with these: then there is
-/// none, whatever follows.
+/// The schedule of a file that has these bytes or, where they are more than a schedule has, begins with these: then
+/// there is none, whatever follows.
 ///
 /// # Errors
 ///
 /// The first line that is none, or want of memory.
 pub(crate) fn schedule_of(alloc: Global, front: &[u8]) -> Result<Schedule, Refusal>
-    ensures told { IfOk result (λ schedule. (all : List ℕ) → IsFront 1048576 (Some all) front.now → schedule_told all ≡ Ok schedule) }
-    ensures refused { IfErr result (λ refusal. (all : List ℕ) → IsFront 1048576 (Some all) front.now → RefusesText RefusesSchedule all refusal) }
+    ensures told { IfOk result (λ schedule. (all : List ℕ) → IsFront 1048576 (Some all) front.now →
+        schedule_told all ≡ Ok schedule) }
+    ensures refused { IfErr result (λ refusal. (all : List ℕ) → IsFront 1048576 (Some all) front.now →
+        RefusesText RefusesSchedule all refusal) }
 {
     if front.len() <= MOST_SCHEDULE_BYTES {
         return schedule(alloc, front);

@@ -28,9 +28,10 @@ use streams::{Output, Source};
 use verify::Verified;
 use world::Schedule;
 
-/// Does the task on its files: prints what it answers, or what is at fault, a line and what is said behind it. The second file is read where the
-/// task has one, and only where the first is not refused. All that is printed is in memory first. Only a muster starts threads,
-/// and it waits for them. A task that reads no file is given an empty one. The result is the exit status: 0 done, 1 refused or a fault of a file, 3 want of memory.
+/// Does the task on its files: prints what it answers, or what is at fault, a line and what is said behind it. The
+/// second file is read where the task has one, and only where the first is not refused. All that is printed is in
+/// memory first. Only a muster starts threads, and it waits for them. A task that reads no file is given an empty one.
+/// The result is the exit status: 0 done, 1 refused or a fault of a file, 3 want of memory.
 pub fn serve<T, R, O, F>(
     rt: &T,
     alloc: Global,
@@ -52,7 +53,8 @@ where
     ensures quiet { result ≡ 0 → fault.new ≡ fault.old }
 
     ensures at_fault { result ≡ 1 →
-        IsFault (R.fails first) (IsSomeAnd second R.fails) (O.fails out.old) (AppendsFront (O.contents out.old) (O.contents out.new)) task.now (files R.bytes first second)
+        IsFault (R.fails first) (IsSomeAnd second R.fails) (O.fails out.old)
+        (AppendsFront (O.contents out.old) (O.contents out.new)) task.now (files R.bytes first second)
         (out.new ≡ out.old) (Tells (F.fails fault.old) (F.contents fault.old) (F.contents fault.new)) }
 
     ensures unprinted { result ≡ 3 → out.new ≡ out.old }
@@ -68,7 +70,8 @@ where
     }
 }
 
-/// Prints the whole answer, or nothing where there is none. Where the output fails, at most a beginning of the answer was printed.
+/// Prints the whole answer, or nothing where there is none. Where the output fails, at most a beginning of the answer
+/// was printed.
 fn print<'a, T, R, O>(
     rt: &T,
     alloc: Global,
@@ -84,7 +87,8 @@ where
     ensures done { OnOk result
         (IsPrinted task.entry.now (files R.bytes first second) (O.contents out.old) (O.contents out.new)) }
     ensures fault { IfErr result
-        (Undoes (R.fails first) (IsSomeAnd second R.fails) (O.fails out.old) (AppendsFront (O.contents out.old) (O.contents out.new)) task.entry.now (files R.bytes first second)) }
+        (Undoes (R.fails first) (IsSomeAnd second R.fails) (O.fails out.old)
+        (AppendsFront (O.contents out.old) (O.contents out.new)) task.entry.now (files R.bytes first second)) }
     ensures unprinted { IfErr result (λ fault. fault ≢ unwritten → out.new ≡ out.old) }
 {
     let text = answered(rt, alloc, task, first, second)?;
@@ -165,7 +169,9 @@ fn mustered_text<'a>(
     explained: bool,
     file: &'a str,
 ) -> Result<Vec<u8>, Failure<'a>>
-    ensures { MatchResult text (λ own. result ≡ Ok own) (λ refusal. IsErrAnd result (IsToldIf explained refusal file.entry (TellsWhyOf refusal Nothing file.entry.now []))) }
+    ensures { MatchResult text (λ own. result ≡ Ok own)
+        (λ refusal. IsErrAnd result
+        (IsToldIf explained refusal file.entry (TellsWhyOf refusal Nothing file.entry.now []))) }
 {
     match text {
         Ok(text) => Ok(text),
@@ -184,9 +190,13 @@ fn trial_of<'a, R: Source>(
     file: &'a str,
     second: Option<R>,
 ) -> Result<Vec<u8>, Failure<'a>>
-    ensures tried { IfOk result (λ text. IsTrialOf (option_map R.bytes second) traced (explained_in task.now) first.now program.now text.items) }
+    ensures tried { IfOk result
+        (λ text. IsTrialOf (option_map R.bytes second) traced
+        (explained_in task.now) first.now program.now text.items) }
     ensures fault { IfErr result
-        (Stops (IsSomeAnd second R.fails) (IsToldLater (is_explained task.now) file.entry.now (option_map R.bytes second) (Trial program.now traced)) file.entry.now) }
+        (Stops (IsSomeAnd second R.fails)
+        (IsToldLater (is_explained task.now) file.entry.now (option_map R.bytes second)
+        (Trial program.now traced)) file.entry.now) }
 {
     match trial_at(alloc, task, first, program, traced, file, second) {
         Ok(answer) => Ok(answer.text),
@@ -204,9 +214,12 @@ fn play_by<'a, R: Source>(
     file: &'a str,
     second: Option<R>,
 ) -> Result<Vec<u8>, Failure<'a>>
-    ensures played { IfOk result (λ text. IsPlayedBy (option_map R.bytes second) campaign account explained text.items) }
+    ensures played { IfOk result
+        (λ text. IsPlayedBy (option_map R.bytes second) campaign account explained text.items) }
     ensures fault { IfErr result
-        (Stops (IsSomeAnd second R.fails) (IsToldLater reported file.entry.now (option_map R.bytes second) (Play campaign account explained)) file.entry.now) }
+        (Stops (IsSomeAnd second R.fails)
+        (IsToldLater reported file.entry.now (option_map R.bytes second)
+        (Play campaign account explained)) file.entry.now) }
 {
     let schedule = scheduled(alloc, reported, file, second)?;
     match played(alloc, campaign, &schedule, account, explained) {
@@ -224,7 +237,8 @@ pub(crate) fn scheduled<'a, R: Source>(
 ) -> Result<Schedule, Failure<'a>>
     ensures told { IfOk result (λ schedule. IsScheduleOf (option_map R.bytes second) schedule) }
     ensures fault { IfErr result
-        (Stops (IsSomeAnd second R.fails) (IsScheduleTold reported file.entry.now (option_map R.bytes second)) file.entry.now) }
+        (Stops (IsSomeAnd second R.fails)
+        (IsScheduleTold reported file.entry.now (option_map R.bytes second)) file.entry.now) }
 {
     let Some(second) = second else {
         return Ok(Schedule {
@@ -258,7 +272,9 @@ fn audit_of<'a, R: Source>(
 ) -> Result<Vec<u8>, Failure<'a>>
     ensures audited { IfOk result (λ text. IsAuditOf (option_map R.bytes second) campaign.now explained text.items) }
     ensures fault { IfErr result
-        (Stops (IsSomeAnd second R.fails) (IsToldLater reported file.entry.now (option_map R.bytes second) (Audit campaign.now explained)) file.entry.now) }
+        (Stops (IsSomeAnd second R.fails)
+        (IsToldLater reported file.entry.now (option_map R.bytes second)
+        (Audit campaign.now explained)) file.entry.now) }
 {
     let bytes = read_second(alloc, file, second)?;
     match audited(alloc, campaign, bytes.as_slice(), explained) {

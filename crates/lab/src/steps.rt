@@ -1,4 +1,5 @@
-//! What is told of a run: by `check --trace` its steps, and by `check --explain` in a setting its calls that put nothing.
+//! What is told of a run: by `check --trace` its steps, and by `check --explain` in a setting its calls that put
+//! nothing.
 ghost use Rattle.std.specs.Prelude.{◌≡◌, ◌++◌, IfOk, option_map, string_bytes};
 ghost use Rattle.lab.specs.Answers.{AreSlipsBehind, steps_behind};
 
@@ -9,8 +10,8 @@ use std::alloc::{AllocError, Global};
 use trial::Setting;
 use verify::Verified;
 
-/// The lines of a program's run in this setting, and behind them an empty one and a line for each of its steps, if they are
-/// asked for.
+/// The lines of a program's run in this setting, and behind them an empty one and a line for each of its steps, if they
+/// are asked for.
 ///
 /// # Errors
 ///
@@ -22,7 +23,8 @@ pub(crate) fn with_steps(
     program: &Verified,
     setting: &Setting,
 ) -> Result<String, AllocError>
-    ensures { IfOk result (λ text. string_bytes text ≡ string_bytes lines ++ steps_behind traced program.now setting.now) }
+    ensures { IfOk result (λ text. string_bytes text ≡ string_bytes lines
+        ++ steps_behind traced program.now setting.now) }
 {
     if !traced {
         return Ok(lines);
@@ -36,8 +38,9 @@ pub(crate) fn with_steps(
     Ok(text)
 }
 
-/// What is said of an accepted program, and behind it a line for each call of its run in this setting that puts nothing, with
-/// its unit and, where that is known, its place in the file of these bytes, if an explanation is asked for.
+/// What is said of an accepted program, and behind it a line for each call of its run in this setting that puts
+/// nothing, with its unit and, where that is known, its place in the file of these bytes, if an explanation is asked
+/// for.
 ///
 /// # Errors
 ///
@@ -50,7 +53,9 @@ pub(crate) fn with_slips(
     program: &Verified,
     setting: &Setting,
 ) -> Result<String, AllocError>
-    ensures { IfOk result (λ text. AreSlipsBehind (option_map (λ notation. notation.now) asked.entry) file.now program.now setting.now (string_bytes told) (string_bytes text)) }
+    ensures { IfOk result (λ text. AreSlipsBehind
+        (option_map (λ notation. notation.now) asked.entry) file.now program.now setting.now (string_bytes told)
+        (string_bytes text)) }
 {
     let Some(notation) = asked else {
         return Ok(told);

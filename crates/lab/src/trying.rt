@@ -12,9 +12,9 @@ use std::alloc::Global;
 use trial::{read, tried};
 use verify::Verified;
 
-/// The lines of the program's trial in the setting that the second file tells, and behind them its steps, if they are asked
-/// for. If it is asked for, in the notation in which the first file has the program, its explanation stands behind these, and a
-/// note for each call that puts nothing. With the lines comes whose relay it was.
+/// The lines of the program's trial in the setting that the second file tells, and behind them its steps, if they are
+/// asked for. If it is asked for, in the notation in which the first file has the program, its explanation stands
+/// behind these, and a note for each call that puts nothing. With the lines comes whose relay it was.
 ///
 /// # Errors
 ///
@@ -27,7 +27,9 @@ pub fn tried_by(
     first: &[u8],
     second: &[u8],
 ) -> Result<(String, Shape), Refusal>
-    ensures tried { IfOk result (λ told. IsTriedAt told.1 traced (option_map (λ notation. notation.now) asked.entry) first.now second.now program.now (string_bytes told.0)) }
+    ensures tried { IfOk result
+        (λ told. IsTriedAt told.1 traced
+        (option_map (λ notation. notation.now) asked.entry) first.now second.now program.now (string_bytes told.0)) }
     ensures refused { IfErr result (RefusesText RefusesSetting second.now) }
 {
     let setting = read(alloc, as_text(second)?)?;

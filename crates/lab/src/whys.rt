@@ -68,7 +68,8 @@ fn bytecode_told(
     fault: codec::Fault,
     unit: usize,
 ) -> Result<String, AllocError>
-    ensures { IfOk result (λ told. string_bytes told ≡ seems_line (seems_at_first bytes.now) ++ bytecode_told name.now bytes.now fault unit) }
+    ensures { IfOk result (λ told. string_bytes told ≡ seems_line (seems_at_first bytes.now)
+        ++ bytecode_told name.now bytes.now fault unit) }
 {
     let why = why::of_bytecode(alloc, name, bytes, fault, unit)?;
     match seems(bytes) {
@@ -98,7 +99,8 @@ fn trace_told(
     name: &str,
     bytes: &[u8],
 ) -> Result<String, AllocError>
-    ensures { IfOk result (λ told. TellsWhy (Trace error.now) (role_view of.entry) name.now bytes.now (string_bytes told)) }
+    ensures { IfOk result (λ told. TellsWhy (Trace error.now) (role_view of.entry) name.now bytes.now
+        (string_bytes told)) }
 {
     match (error, of) {
         (TraceError::At(_, line), Traced::Schedule) => {
@@ -190,8 +192,8 @@ fn is_reported(task: &Task, refusal: &Refusal) -> bool
     }
 }
 
-/// The fault of the task's first file, of which these bytes are to be bytecode, with what is said behind its line where it is
-/// not the verifier that refuses it.
+/// The fault of the task's first file, of which these bytes are to be bytecode, with what is said behind its line where
+/// it is not the verifier that refuses it.
 pub(crate) fn unjudged<'a>(
     alloc: Global,
     task: &Task,
@@ -208,7 +210,8 @@ pub(crate) fn unjudged<'a>(
     }
 }
 
-/// The fault of a second file with this name and these bytes, with what is said behind its line where an explanation is asked for.
+/// The fault of a second file with this name and these bytes, with what is said behind its line where an explanation is
+/// asked for.
 pub(crate) fn later<'a>(
     alloc: Global,
     explained: bool,
@@ -217,7 +220,8 @@ pub(crate) fn later<'a>(
     file: &'a str,
     bytes: &[u8],
 ) -> Failure<'a>
-    ensures { IsToldIf explained refusal file.entry (TellsWhyOf refusal (role_view of.entry) file.entry.now bytes.now) result }
+    ensures { IsToldIf explained refusal file.entry
+        (TellsWhyOf refusal (role_view of.entry) file.entry.now bytes.now) result }
 {
     if explained {
         told(alloc, of, refusal, file, bytes)

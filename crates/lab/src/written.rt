@@ -12,8 +12,8 @@ use command_line::Notation;
 use debug_lines::entry_places;
 use std::alloc::{AllocError, Global};
 
-/// Where each unit of the program that a file of these bytes has in this notation is written: of assembly on which line, of
-/// an object in which line of which file.
+/// Where each unit of the program that a file of these bytes has in this notation is written: of assembly on which
+/// line, of an object in which line of which file.
 pub(crate) fn written_in(
     alloc: Global,
     notation: &Notation,
@@ -30,7 +30,8 @@ pub(crate) fn written_in(
 
 /// That of the program that assembly says.
 fn in_text(alloc: Global, bytes: &[u8]) -> Result<Vec<String>, AllocError>
-    ensures { IfOk result (λ places. IsUtf8 bytes.now → AreWritten (read_on nothing 1 (lines_of bytes.now)) (map string_bytes places.items)) }
+    ensures { IfOk result (λ places. IsUtf8 bytes.now →
+        AreWritten (read_on nothing 1 (lines_of bytes.now)) (map string_bytes places.items)) }
 {
     match str::from_utf8(bytes) {
         Ok(text) => asm::places(alloc, text),
@@ -40,7 +41,8 @@ fn in_text(alloc: Global, bytes: &[u8]) -> Result<Vec<String>, AllocError>
 
 /// That of an object's entry.
 fn in_object(alloc: Global, object: &[u8], entry: Option<&str>) -> Result<Vec<String>, AllocError>
-    ensures { IfOk result (λ places. AreEntryPlaces object.now (function_of object.now (asked entry.entry)) (map string_bytes places.items)) }
+    ensures { IfOk result (λ places. AreEntryPlaces object.now (function_of object.now (asked entry.entry))
+        (map string_bytes places.items)) }
 {
     match entry {
         None => entry_places(alloc, object, None),
@@ -48,8 +50,8 @@ fn in_object(alloc: Global, object: &[u8], entry: Option<&str>) -> Result<Vec<St
     }
 }
 
-/// How each unit of the program that a file of these bytes has in this notation is written: of assembly in the words of its
-/// line.
+/// How each unit of the program that a file of these bytes has in this notation is written: of assembly in the words of
+/// its line.
 pub(crate) fn statements_in(
     alloc: Global,
     notation: &Notation,
@@ -65,7 +67,8 @@ pub(crate) fn statements_in(
 
 /// That of the program that assembly says.
 fn statements_of_text(alloc: Global, bytes: &[u8]) -> Result<Vec<String>, AllocError>
-    ensures { IfOk result (λ statements. IsUtf8 bytes.now → map string_bytes statements.items ≡ statements_of bytes.now) }
+    ensures { IfOk result (λ statements. IsUtf8 bytes.now →
+        map string_bytes statements.items ≡ statements_of bytes.now) }
 {
     match str::from_utf8(bytes) {
         Ok(text) => asm::statements(alloc, text),

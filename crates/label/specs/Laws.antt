@@ -1,16 +1,20 @@
--- What holds of the list of labels, and of the recursion over it. Each statement is the contract of a function of this crate.
+-- What holds of the list of labels, and of the recursion over it. Each statement is the contract of a function of this
+-- crate.
 use Rattle.std.specs.Prelude.{ℕ, suc, ◌+◌, ◌-◌, ◌*◌, ◌<◌, ◌≤◌, ◌≡◌, ◌≢◌, false, List, [], ◌∷◌, ◌++◌, length, map, insert, Some, slice_get, ◌⊎◌}
 use Rattle.label.specs.Labels.{on, others, labels}
 use Rattle.label.specs.Oral.{IsLabel, Messages, taken, om}
 
 -- the list of a length has exactly the labels of that length that lack p
 pub record LabelsAreExact : Type 0 where
-  pub only : (n c p k r : ℕ) (w : List ℕ) → c < n → p < n → p ≢ c → slice_get (labels n c p k) r ≡ Some w → IsLabel n c w × (on w p ≡ false) × (length w ≡ k)
-  pub all : (n c p : ℕ) (w : List ℕ) → c < n → p < n → p ≢ c → IsLabel n c w → on w p ≡ false → (r : ℕ) × (slice_get (labels n c p (length w)) r ≡ Some w)
+  pub only : (n c p k r : ℕ) (w : List ℕ) → c < n → p < n → p ≢ c → slice_get (labels n c p k) r ≡ Some w →
+      IsLabel n c w × (on w p ≡ false) × (length w ≡ k)
+  pub all : (n c p : ℕ) (w : List ℕ) → c < n → p < n → p ≢ c → IsLabel n c w → on w p ≡ false →
+      (r : ℕ) × (slice_get (labels n c p (length w)) r ≡ Some w)
 
 -- no label stands twice
 abbrev pub LabelsDiffer : Type 0
-LabelsDiffer = (n c p k i j : ℕ) (w : List ℕ) → c < n → p < n → p ≢ c → slice_get (labels n c p k) i ≡ Some w → slice_get (labels n c p k) j ≡ Some w → i ≡ j
+LabelsDiffer = (n c p k i j : ℕ) (w : List ℕ) → c < n → p < n → p ≢ c → slice_get (labels n c p k) i ≡ Some w →
+    slice_get (labels n c p k) j ≡ Some w → i ≡ j
 
 -- of two lists of one length, the first comes before the second in lexicographic order
 abbrev pub LexBelow : List ℕ → List ℕ → Type 0
@@ -20,7 +24,8 @@ LexBelow (x ∷ xs) (y ∷ ys) = (x < y) ⊎ ((x ≡ y) × LexBelow xs ys)
 
 -- the list ascends
 abbrev pub LabelsAscend : Type 0
-LabelsAscend = (n c p k i j : ℕ) (v w : List ℕ) → c < n → p < n → p ≢ c → i < j → slice_get (labels n c p k) i ≡ Some v → slice_get (labels n c p k) j ≡ Some w → LexBelow v w
+LabelsAscend = (n c p k i j : ℕ) (v w : List ℕ) → c < n → p < n → p ≢ c → i < j →
+    slice_get (labels n c p k) i ≡ Some v → slice_get (labels n c p k) j ≡ Some w → LexBelow v w
 
 -- one label of the commander alone, and as many as the product says of each further length
 pub record LabelsAreCounted : Type 0 where
@@ -34,10 +39,12 @@ ChildrenStand = (n c p k r t j : ℕ) (w : List ℕ) → c < n → p < n → p �
 
 -- the decision of p reads no more of the messages than his own, at labels of at most so many generals that lack him
 abbrev pub DecisionsReadOwn : Type 0
-DecisionsReadOwn = (f : List ℕ → ℕ) (n c last p : ℕ) (M N : Messages) → ((w : List ℕ) → IsLabel n c w → on w p ≡ false → length w ≤ last → taken M w p ≡ taken N w p)
+DecisionsReadOwn = (f : List ℕ → ℕ) (n c last p : ℕ) (M N : Messages) →
+    ((w : List ℕ) → IsLabel n c w → on w p ≡ false → length w ≤ last → taken M w p ≡ taken N w p)
     → (k : ℕ) (w : List ℕ) → IsLabel n c w → on w p ≡ false → length w + k ≤ last → om f n M k w p ≡ om f n N k w p
 
 -- one level of the recursion: the decisions about the children that lack p, with his own value at his place among them
 abbrev pub LevelsDecide : Type 0
 LevelsDecide = (f : List ℕ → ℕ) (n : ℕ) (M : Messages) (k : ℕ) (w : List ℕ) (p : ℕ) → p < n → on w p ≡ false
-    → om f n M (suc k) w p ≡ f (insert (map (λ j. om f n M k (w ++ j ∷ []) p) (others n (p ∷ w))) (length (others p w)) (taken M w p))
+    → om f n M (suc k) w p ≡ f
+    (insert (map (λ j. om f n M k (w ++ j ∷ []) p) (others n (p ∷ w))) (length (others p w)) (taken M w p))

@@ -13,5 +13,6 @@ pub record IsLoyalAt (n c : ℕ) (traitor : ℕ → Bool) (i : ℕ) : Type 0 whe
 
 -- the loyal lieutenants decide alike, and on the order of a loyal commander
 pub record AgreeInList (n c order : ℕ) (traitor : ℕ → Bool) (decisions : List ℕ) : Type 0 where
-  pub alike : (i j : ℕ) → IsLoyalAt n c traitor i → IsLoyalAt n c traitor j → slice_index decisions i ≡ slice_index decisions j
+  pub alike : (i j : ℕ) → IsLoyalAt n c traitor i → IsLoyalAt n c traitor j →
+      slice_index decisions i ≡ slice_index decisions j
   pub obeyed : traitor c ≡ false → (i : ℕ) → IsLoyalAt n c traitor i → slice_index decisions i ≡ order

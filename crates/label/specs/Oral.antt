@@ -1,4 +1,5 @@
--- Oral messages, over functions of labels and receivers (TOPLAS 1982, section 3; Lynch, Distributed Algorithms, chapter 6).
+-- Oral messages, over functions of labels and receivers (TOPLAS 1982, section 3; Lynch, Distributed Algorithms, chapter
+-- 6).
 use Rattle.std.specs.Prelude.{ℕ, zero, suc, ◌*◌, ◌<◌, ◌≤◌, ◌≡◌, ◌≢◌, ◌==◌, Bool, true, false, cond, List, [], ◌∷◌, ◌++◌, map, length, count_by, Option, None, Some}
 use Rattle.label.specs.Labels.{on, is_distinct, generals, others}
 

@@ -11,9 +11,11 @@ pub record IsShape (s : Shape) : Type 0 where
   pub first : 1 ≤ s.round
   pub last : s.round ≤ 5
 
--- the labels that the general relays: the commander the empty one in round 1, another those of the round before that lack him
+-- the labels that the general relays: the commander the empty one in round 1, another those of the round before that
+-- lack him
 abbrev pub relay : Shape → List (List ℕ)
-relay s = if s.general == s.commander then (if s.round == 1 then [] ∷ [] else []) else labels s.generals s.commander s.general (s.round - 1)
+relay s = if s.general == s.commander then (if s.round == 1 then [] ∷ [] else [])
+    else labels s.generals s.commander s.general (s.round - 1)
 
 -- those whom a relay of w goes to
 abbrev pub receivers : Shape → List ℕ → List ℕ

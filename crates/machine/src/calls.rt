@@ -18,7 +18,8 @@ impl Activation {
         requires free { IsFree (called context.now self.old.relay self.old.state (helper_of number)) }
         requires inside { self.old.state.unit < 4096 }
         requires room { self.old.state.steps + 1 < 2 ^ 32 }
-        ensures turns { Turns (called context.now self.old.relay self.old.state (helper_of number)) result self.new.state }
+        ensures turns { Turns (called context.now self.old.relay self.old.state
+            (helper_of number)) result self.new.state }
         ensures relay { self.new.relay ≡ self.old.relay }
         ensures counts { self.new.state.steps ≡ self.old.state.steps + 1 }
         ensures asks { Asks self.old.state result self.new.state }
@@ -61,7 +62,10 @@ impl Activation {
         requires inside { self.old.state.unit < 4096 }
         requires room { self.old.state.steps + 1 < 2 ^ 32 }
         ensures flow { result ≡ Flow.Asked request }
-        ensures asked { self.new.state ≡ record self.old.state { unit = self.old.state.unit + 1; steps = self.old.state.steps + 1 } }
+        ensures asked { self.new.state ≡ record self.old.state {
+          unit = self.old.state.unit + 1;
+          steps = self.old.state.steps + 1;
+        } }
         ensures relay { self.new.relay ≡ self.old.relay }
     {
         self.unit += 1;
@@ -144,7 +148,8 @@ impl Activation {
         requires inside { self.old.state.unit < 4096 }
         requires room { self.old.state.steps + 1 < 2 ^ 32 }
         ensures flow { result ≡ Flow.Onward }
-        ensures next { sent self.old.relay self.old.state (λ set. 1 - set) (send_in self.old.state) ≡ Next self.new.state }
+        ensures next { sent self.old.relay self.old.state (λ set. 1 - set) (send_in self.old.state)
+            ≡ Next self.new.state }
         ensures relay { self.new.relay ≡ self.old.relay }
     {
         let rank = argument(self.registers.at(1), MOST_LABELS) as u32;
@@ -161,7 +166,8 @@ impl Activation {
         requires inside { self.old.state.unit < 4096 }
         requires room { self.old.state.steps + 1 < 2 ^ 32 }
         ensures flow { result ≡ Flow.Onward }
-        ensures next { sent self.old.relay self.old.state (λ set. set) (send_row_in context.now self.old.state) ≡ Next self.new.state }
+        ensures next { sent self.old.relay self.old.state (λ set. set) (send_row_in context.now self.old.state)
+            ≡ Next self.new.state }
         ensures relay { self.new.relay ≡ self.old.relay }
     {
         let rank = argument(self.registers.at(1), MOST_LABELS) as u32;
@@ -195,7 +201,8 @@ impl Activation {
         requires inside { self.old.state.unit < 4096 }
         requires room { self.old.state.steps + 1 < 2 ^ 32 }
         ensures flow { result ≡ Flow.Onward }
-        ensures next { sent self.old.relay self.old.state (λ set. set) (honest_in context.now self.old.state) ≡ Next self.new.state }
+        ensures next { sent self.old.relay self.old.state (λ set. set) (honest_in context.now self.old.state)
+            ≡ Next self.new.state }
         ensures relay { self.new.relay ≡ self.old.relay }
     {
         let receiver = argument(self.registers.at(1), MOST_GENERALS) as u32;
@@ -238,7 +245,10 @@ impl Activation {
         requires inside { self.old.state.unit < 4096 }
         requires room { self.old.state.steps + 1 < 2 ^ 32 }
         ensures flow { result ≡ Flow.Onward }
-        ensures state { self.new.state ≡ record (returned self.old.state r0) { unit = self.old.state.unit + 1; steps = self.old.state.steps + 1 } }
+        ensures state { self.new.state ≡ record (returned self.old.state r0) {
+          unit = self.old.state.unit + 1;
+          steps = self.old.state.steps + 1;
+        } }
         ensures relay { self.new.relay ≡ self.old.relay }
     {
         self.registers.set_result(r0);

@@ -20,8 +20,10 @@ impl Activation {
         requires fits { fits request.now (words_in reply.now) ≡ true }
         ensures relay { self.new.relay ≡ self.old.relay }
         ensures resumed { self.new.state ≡ resumed request.now (words_in reply.now) self.old.state }
-        ensures reached { (program : List Insn) (context : List ℕ) (answers : List (List ℕ)) → Reached program context self.old.relay answers (before self.old.state) →
-            step program context self.old.relay (before self.old.state) ≡ Ask request.now self.old.state → Reached program context self.new.relay (answers ++ words_in reply.now ∷ []) self.new.state }
+        ensures reached { (program : List Insn) (context : List ℕ) (answers : List (List ℕ)) →
+            Reached program context self.old.relay answers (before self.old.state) →
+            step program context self.old.relay (before self.old.state) ≡ Ask request.now self.old.state →
+            Reached program context self.new.relay (answers ++ words_in reply.now ∷ []) self.new.state }
         ensures of_run { (program : List Insn) (context : List ℕ) →
             IsAskOfRun program context request.now self.old → IsOfRun program context self.new }
     {

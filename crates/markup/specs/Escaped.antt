@@ -7,7 +7,8 @@ is_within low high c = nat_le low c && nat_le c high
 
 -- a document may have the character (XML 1.0, production 2)
 abbrev pub is_character : ℕ → Bool
-is_character c = c == 9 || c == 10 || c == 13 || is_within 0x20 0xD7FF c || is_within 0xE000 0xFFFD c || is_within 0x10000 0x10FFFF c
+is_character c =
+    c == 9 || c == 10 || c == 13 || is_within 0x20 0xD7FF c || is_within 0xE000 0xFFFD c || is_within 0x10000 0x10FFFF c
 
 -- what is shown of a character: the replacement character, where no document may have it
 abbrev pub shown : ℕ → ℕ

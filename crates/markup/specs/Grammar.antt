@@ -17,16 +17,19 @@ abbrev pub is_name : List ℕ → Bool
 is_name [] = false
 is_name (c ∷ cs) = is_letter c && list_all is_name_character cs
 
--- text without tags, which may stand between tags or in quotation marks (10, 14): characters that are no markup, and references (67)
+-- text without tags, which may stand between tags or in quotation marks (10, 14): characters that are no markup, and
+-- references (67)
 pub data IsText : List ℕ → Type 0 where
   no_text : IsText []
-  character : (c : ℕ) (rest : List ℕ) → is_character c ≡ true → c ≢ 38 → c ≢ 60 → c ≢ 62 → c ≢ 34 → IsText rest → IsText (c ∷ rest)
+  character : (c : ℕ) (rest : List ℕ) → is_character c ≡ true → c ≢ 38 → c ≢ 60 → c ≢ 62 → c ≢ 34 → IsText rest →
+      IsText (c ∷ rest)
   referred : (name rest : List ℕ) → IsSome (meaning name) → IsText rest → IsText (38 ∷ (name ++ 59 ∷ rest))
 
 -- attributes (41), each behind a space, and their names, no two the same
 pub data AreAttributes : List (List ℕ) → List ℕ → Type 0 where
   no_attributes : AreAttributes [] []
-  attributed : (name value rest : List ℕ) (names : List (List ℕ)) → is_name name ≡ true → IsText value → list_any (bytes_eq name) names ≡ false
+  attributed : (name value rest : List ℕ) (names : List (List ℕ)) → is_name name ≡ true → IsText value →
+      list_any (bytes_eq name) names ≡ false
       → AreAttributes names rest → AreAttributes (name ∷ names) (attribute name value ++ rest)
 
 -- a name and attributes, as they stand in a tag
@@ -35,10 +38,12 @@ pub record IsTag (name attributes : List ℕ) : Type 0 where
   pub names : List (List ℕ)
   pub attributed_so : AreAttributes names attributes
 
--- what stands between tags (43): text, and elements (39), whose tags have the same name, or which have no content and one tag (44)
+-- what stands between tags (43): text, and elements (39), whose tags have the same name, or which have no content and
+-- one tag (44)
 pub data IsContent : List ℕ → Type 0 where
   text : (cs : List ℕ) → IsText cs → IsContent cs
-  nested : (name attributes content : List ℕ) → IsTag name attributes → IsContent content → IsContent (element name attributes content)
+  nested : (name attributes content : List ℕ) → IsTag name attributes → IsContent content →
+      IsContent (element name attributes content)
   alone : (name attributes : List ℕ) → IsTag name attributes → IsContent (empty name attributes)
   joined : (first rest : List ℕ) → IsContent first → IsContent rest → IsContent (first ++ rest)
 

@@ -22,5 +22,6 @@ pub record EscapesArePlain : Type 0 where
 
 -- a name, attributes and content make an element, which is content again
 pub record ElementsAreElements : Type 0 where
-  pub element : (name attributes content : List ℕ) → IsTag name attributes → IsContent content → IsElement (element name attributes content)
+  pub element : (name attributes content : List ℕ) → IsTag name attributes → IsContent content →
+      IsElement (element name attributes content)
   pub content : (text : List ℕ) → IsElement text → IsContent text

@@ -19,7 +19,8 @@ abbrev pub onto : Option ℕ → Option (List ℕ) → Option (List ℕ)
 onto None rest = None
 onto (Some c) rest = option_map (λ cs. c ∷ cs) rest
 
--- what is read: outside of references, or inside of one whose name has begun so; a reference ends with a semicolon, and no tag is read
+-- what is read: outside of references, or inside of one whose name has begun so; a reference ends with a semicolon, and
+-- no tag is read
 abbrev pub read : Option (List ℕ) → List ℕ → Option (List ℕ)
 read None [] = Some []
 read (Some name) [] = None

@@ -1,5 +1,7 @@
--- How the stack's cells are kept: for each its kind, its byte, and the offset of the pointer whose first piece stood there last.
--- A piece has its pointer's offset at the place of the first piece: whoever writes there overwrites every piece of that pointer.
+-- How the stack's cells are kept: for each its kind, its byte, and the offset of the pointer whose first piece stood
+-- there last.
+-- A piece has its pointer's offset at the place of the first piece: whoever writes there overwrites every piece of that
+-- pointer.
 use Rattle.std.specs.Prelude.{ℕ, zero, suc, ◌+◌, ◌-◌, ◌%◌, ◌≡◌, nat_lt, if◌then◌else◌, List, [], ◌∷◌, ◌++◌, take, drop, length, slice_index}
 use Rattle.std.specs.Int.{w32, cast_signed}
 use Rattle.semantics.specs.Limits.{stack_size}
@@ -20,7 +22,8 @@ region_of kind = if nat_lt kind 10 then Stack else Context
 abbrev pub cell_of : ℕ → ℕ → List ℕ → ℕ → Cell
 cell_of zero byte offsets place = Empty
 cell_of (suc zero) byte offsets place = Byte byte
-cell_of (suc (suc k)) byte offsets place = Piece (k % 8) (region_of (suc (suc k))) (cast_signed w32 (slice_index offsets (place - k % 8)))
+cell_of (suc (suc k)) byte offsets place =
+    Piece (k % 8) (region_of (suc (suc k))) (cast_signed w32 (slice_index offsets (place - k % 8)))
 
 abbrev pub cell_at : List ℕ → List ℕ → List ℕ → ℕ → Cell
 cell_at kinds bytes offsets place = cell_of (slice_index kinds place) (slice_index bytes place) offsets place
@@ -28,7 +31,8 @@ cell_at kinds bytes offsets place = cell_of (slice_index kinds place) (slice_ind
 -- so many cells from a place on
 unfoldable pub cells_from : List ℕ → List ℕ → List ℕ → ℕ → ℕ → List Cell
 cells_from kinds bytes offsets place zero = []
-cells_from kinds bytes offsets place (suc n) = cell_at kinds bytes offsets place ∷ cells_from kinds bytes offsets (suc place) n
+cells_from kinds bytes offsets place (suc n) =
+    cell_at kinds bytes offsets place ∷ cells_from kinds bytes offsets (suc place) n
 
 pub record HasRoom (kinds bytes offsets : List ℕ) : Type 0 where
   pub kinds_room : length kinds ≡ stack_size

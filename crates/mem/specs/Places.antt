@@ -11,7 +11,8 @@ use Rattle.semantics.specs.Memory.{window, region_cells}
 abbrev pub place_at : Value → ℤ → ℕ → Result (Region × ℕ) Cause
 place_at Unset distance size = Err UnsetRegister
 place_at (Number n) distance size = Err PointerUse
-place_at (Pointer region offset) distance size = given (window region (offset +ℤ distance) size) (λ place. Ok (region, place))
+place_at (Pointer region offset) distance size =
+    given (window region (offset +ℤ distance) size) (λ place. Ok (region, place))
 
 -- the cells of a window by its region and place
 abbrev pub part_at : List ℕ → List Cell → ℕ → Region × ℕ → List Cell

@@ -8,4 +8,5 @@ use Rattle.semantics.specs.Call.{orders_of}
 
 -- so many numbers of 4 bytes each at a pointer
 abbrev pub row_at : List ℕ → List Cell → Value → ℕ → Result (List ℕ) Cause
-row_at context stack base count = given (cells_at context stack base (pos 0) (4 * count)) (λ cells. given (bytes_in cells) (λ bytes. Ok (orders_of bytes)))
+row_at context stack base count = given (cells_at context stack base (pos 0) (4 * count))
+    (λ cells. given (bytes_in cells) (λ bytes. Ok (orders_of bytes)))

@@ -14,7 +14,8 @@ use semantics::{Region, Value};
 use word::arithmetic::sign_extend;
 use word::{Narrow, Width};
 
-/// What stands at a pointer and a distance, zero-extended; of 8 pieces of one pointer, that pointer (RFC 9669, section 5.1).
+/// What stands at a pointer and a distance, zero-extended; of 8 pieces of one pointer, that pointer (RFC 9669, section
+/// 5.1).
 pub fn load(
     stack: &Stack,
     context: &Context,
@@ -149,7 +150,8 @@ pub fn read_signed(
     distance: i16,
 ) -> u64
     requires { IsOk (loaded_signed context.now stack.now part (Value.Pointer region offset) distance) }
-    ensures { loaded_signed context.now stack.now part (Value.Pointer region offset) distance ≡ Ok (Value.Number result) }
+    ensures { loaded_signed context.now stack.now part (Value.Pointer region offset) distance
+        ≡ Ok (Value.Number result) }
 {
     let size = size_of(part);
     let place = known_place(region, offset, distance, size);
@@ -163,8 +165,10 @@ pub fn read_signed(
 /// [`store`] of a number at a pointer into the stack, where it is known that it is done.
 #[inline(always)]
 pub fn write_number(stack: &mut Stack, size: Size, offset: i64, distance: i16, number: u64)
-    requires { IsOk (stored stack.old (bytes_of size) (Value.Pointer Region.Stack offset) distance (Value.Number number)) }
-    ensures { stored stack.old (bytes_of size) (Value.Pointer Region.Stack offset) distance (Value.Number number) ≡ Ok stack.new }
+    requires { IsOk (stored stack.old (bytes_of size) (Value.Pointer Region.Stack offset) distance
+        (Value.Number number)) }
+    ensures { stored stack.old (bytes_of size) (Value.Pointer Region.Stack offset) distance (Value.Number number)
+        ≡ Ok stack.new }
 {
     let place = known_place(Region::Stack, offset, distance, size);
     stack.put_number(place, size, number);

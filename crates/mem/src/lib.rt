@@ -1,7 +1,8 @@
 //! What a program reads and writes: the stack and the context, by cells.
 //!
-//! `load`, `load_signed` and `store` tell a fault for every access, whatever its pointer is; tests call them. The machine, whose
-//! programs are verified, calls `read`, `read_signed`, `write_number` and `write_pointer`, which ask that the access is within its region.
+//! `load`, `load_signed` and `store` tell a fault for every access, whatever its pointer is; tests call them. The
+//! machine, whose programs are verified, calls `read`, `read_signed`, `write_number` and `write_pointer`, which ask
+//! that the access is within its region.
 #![tactic(auto)]
 
 mod access;

@@ -25,7 +25,8 @@ reads_scenario _ = false
 
 -- the text in which the files stand that the document asks for, each in its turn, where that is another text
 abbrev pub SeesIn : (List ℕ → Option (List ℕ)) → Option Members → Option (List ℕ) → Type 0
-SeesIn known document text = (files : List File) × AllZip (IsBeside known) (asked document) files × Resolves files document text
+SeesIn known document text =
+    (files : List File) × AllZip (IsBeside known) (asked document) files × Resolves files document text
 
 -- the bytes are no text, and stay; or the new ones are those of such a text
 abbrev pub Sees : (List ℕ → Option (List ℕ)) → List ℕ → List ℕ → Type 0

@@ -15,7 +15,8 @@ use Rattle.references.specs.Names.{File, reference_of}
 use Rattle.neighbours.specs.declared.naming.Untaken.{Untaken}
 use Rattle.neighbours.specs.declared.naming.Untaken.TheVariants.{Told, Memory}
 
--- what stands in the place of a file of these bytes: its text where it is assembly, else bytecode in hex, of an object that of its function
+-- what stands in the place of a file of these bytes: its text where it is assembly, else bytecode in hex, of an object
+-- that of its function
 abbrev pub IsTextOf : Key → Option (List ℕ) → List ℕ → List ℕ → Type 0
 IsTextOf Assembly function bytes text = text ≡ bytes
 IsTextOf Bytecode function bytes text = text ≡ encode_lower bytes
@@ -44,7 +45,8 @@ IsBeside known a f = (bytes : List ℕ) × AreBytes known a.name bytes × IsFile
 -- what is told of a file of this name, as it is shown: that it cannot be read, or is no text
 abbrev pub fault_lines : ℕ → Key → List ℕ → List ℕ → List ℕ
 fault_lines index key fault name =
-    codes "fault " ++ fault ++ codes " " ++ name ++ codes "\nit is named by traitor[" ++ decimal index ++ codes "]." ++ reference_of key
+    codes "fault " ++ fault ++ codes " " ++ name ++ codes "\nit is named by traitor[" ++ decimal index ++ codes "]."
+    ++ reference_of key
 
 abbrev pub fault_told : Asked → List ℕ → List ℕ → List ℕ
 fault_told a fault name = fault_lines a.index a.key fault name
@@ -52,7 +54,8 @@ fault_told a fault name = fault_lines a.index a.key fault name
 -- that an object has this fault
 abbrev pub refused_lines : ℕ → Key → Fault → List ℕ → List ℕ
 refused_lines index key fault name =
-    codes "refused " ++ told fault ++ codes "\n" ++ sentence_of fault ++ codes "\n" ++ name ++ codes " is named by traitor["
+    codes "refused " ++ told fault ++ codes "\n" ++ sentence_of fault ++ codes "\n" ++ name
+    ++ codes " is named by traitor["
     ++ decimal index ++ codes "]." ++ reference_of key
 
 abbrev pub refused_told : Asked → Fault → List ℕ → List ℕ
@@ -66,10 +69,12 @@ IsNamed a lines text = IfSome (shown a.name) (λ name. text ≡ lines name)
 abbrev pub IsFaultIn : Asked → List ℕ → List ℕ → Type 0
 IsFaultIn a bytes text =
     ((a.key ≡ Assembly) × (IsUtf8 bytes → ⊥) × IsNamed a (fault_told a (codes "text")) text)
-    ⊎ ((fault : Fault) × (a.key ≡ Object) × (entry_of bytes a.function ≡ Err fault) × IsNamed a (refused_told a fault) text)
+    ⊎ ((fault : Fault) × (a.key ≡ Object) × (entry_of bytes a.function ≡ Err fault)
+    × IsNamed a (refused_told a fault) text)
 
 -- of a file whose read failed so, or of one that has such bytes
-abbrev pub IsFaultOf : (List ℕ → Option (List ℕ)) → (List ℕ → ErrorKind → Type 0) → Asked → List ℕ → Option ErrorKind → Type 0
+abbrev pub IsFaultOf : (List ℕ → Option (List ℕ)) → (List ℕ → ErrorKind → Type 0) → Asked → List ℕ → Option ErrorKind →
+    Type 0
 IsFaultOf known fails a text (Some kind) = fails a.name kind × IsNamed a (fault_told a (codes "read")) text
 IsFaultOf known fails a text None = (bytes : List ℕ) × AreBytes known a.name bytes × IsFaultIn a bytes text
 
@@ -80,7 +85,8 @@ IsUntakenOf known fails a Memory = Unit {0}
 
 -- the same of a read that failed so, and of these bytes
 abbrev pub IsUnread : Asked → ErrorKind → Untaken → Type 0
-IsUnread a failed (Told lines kind) = (kind ≡ Some failed) × IsNamed a (fault_told a (codes "read")) (string_bytes lines)
+IsUnread a failed (Told lines kind) =
+    (kind ≡ Some failed) × IsNamed a (fault_told a (codes "read")) (string_bytes lines)
 IsUnread a failed Memory = Unit {0}
 
 abbrev pub IsUntakenIn : Asked → List ℕ → Untaken → Type 0
@@ -89,5 +95,6 @@ IsUntakenIn a bytes Memory = Unit {0}
 
 -- the same of one of those that are asked for
 abbrev pub IsUntaken : (List ℕ → Option (List ℕ)) → (List ℕ → ErrorKind → Type 0) → List Asked → Untaken → Type 0
-IsUntaken known fails asked (Told lines kind) = (a : Asked) × Contains asked a × IsFaultOf known fails a (string_bytes lines) kind
+IsUntaken known fails asked (Told lines kind) =
+    (a : Asked) × Contains asked a × IsFaultOf known fails a (string_bytes lines) kind
 IsUntaken known fails asked Memory = Unit {0}

@@ -20,7 +20,8 @@ use streams::FileName;
 pub enum Untaken {
     /// It is not read, or has a fault.
     Told {
-        /// What is told of it: the fault, of an object also what that means, and by which key the file is named, each a line.
+        /// What is told of it: the fault, of an object also what that means, and by which key the file is named, each a
+        /// line.
         lines: String,
         /// How its reading failed, where it is not read.
         kind: Option<ErrorKind>,

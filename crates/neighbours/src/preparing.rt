@@ -36,15 +36,16 @@ pub fn reads_scenario(task: &Task) -> bool
     }
 }
 
-/// The bytes of a scenario in which the files stand that it names, each in its place; the same bytes where they are no text, no
-/// TOML, or name none.
+/// The bytes of a scenario in which the files stand that it names, each in its place; the same bytes where they are no
+/// text, no TOML, or name none.
 ///
 /// # Errors
 ///
 /// A file that is named is not taken, or want of memory.
 pub fn with_files<D: Folder>(alloc: Global, bytes: Vec<u8>, folder: &D) -> Result<Vec<u8>, Untaken>
     ensures seen { IfOk result (λ new. Sees (D.bytes folder.now) bytes.items new.items) }
-    ensures untaken { IfErr result (IsUntaken (D.bytes folder.now) (D.fails folder.now) (asked (parse_document bytes.items))) }
+    ensures untaken { IfErr result
+        (IsUntaken (D.bytes folder.now) (D.fails folder.now) (asked (parse_document bytes.items))) }
 {
     let Ok(text) = str::from_utf8(bytes.as_slice()) else {
         return Ok(bytes);
@@ -57,8 +58,10 @@ pub fn with_files<D: Folder>(alloc: Global, bytes: Vec<u8>, folder: &D) -> Resul
 
 /// The text in which the files stand that it names, if it names some.
 fn with_named<D: Folder>(alloc: Global, text: &str, folder: &D) -> Result<Option<String>, Untaken>
-    ensures seen { IfOk result (λ new. SeesIn (D.bytes folder.now) (parse_document text.now) (option_map string_bytes new)) }
-    ensures untaken { IfErr result (IsUntaken (D.bytes folder.now) (D.fails folder.now) (asked (parse_document text.now))) }
+    ensures seen { IfOk result
+        (λ new. SeesIn (D.bytes folder.now) (parse_document text.now) (option_map string_bytes new)) }
+    ensures untaken { IfErr result
+        (IsUntaken (D.bytes folder.now) (D.fails folder.now) (asked (parse_document text.now))) }
 {
     let named = asked(alloc, text)?;
     let files = read_all(alloc, named.as_slice(), folder)?;

@@ -1,7 +1,7 @@
-//! `objects OBJECT NAME..`: the code of an object's only global function, and of its functions of these names, in hex, and a
-//! line for each unit whose place in the text is known, or the first fault of each. data/several.o is what clang makes of the
-//! second program of checks/objects. `objects --each LIST` says the same of each object of LIST, which has a line for each: the
-//! object in hex, and the names, each behind a blank.
+//! `objects OBJECT NAME..`: the code of an object's only global function, and of its functions of these names, in hex,
+//! and a line for each unit whose place in the text is known, or the first fault of each. data/several.o is what clang
+//! makes of the second program of checks/objects. `objects --each LIST` says the same of each object of LIST, which has
+//! a line for each: the object in hex, and the names, each behind a blank.
 #![tactic(auto)]
 
 use anyhow::{Result, bail};

@@ -46,7 +46,8 @@ order_among receiver (p ∷ ps) (o ∷ orders) = if p.receiver == receiver then 
 
 -- the order for a receiver of the label of that rank, or nothing where there is no such place
 abbrev pub order_at : Relay → Outbox → ℕ → ℕ → Option ℕ
-order_at r outbox rank receiver = order_among receiver (slice_index_or (places r) rank []) (slice_index_or outbox rank [])
+order_at r outbox rank receiver =
+    order_among receiver (slice_index_or (places r) rank []) (slice_index_or outbox rank [])
 
 -- the rows have as many orders as there are places
 abbrev pub HasPlaces : Relay → Outbox → Type 0

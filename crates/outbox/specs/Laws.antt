@@ -19,8 +19,11 @@ abbrev pub order_after : Choice → Option Place → Option ℕ → Option ℕ
 order_after choice None before = None
 order_after choice (Some place) before = newer (choice place) before
 
--- whatever places a helper chooses (one, a row's, a receiver's, those of taken values), each gives the last order put there, and the others give what they gave
+-- whatever places a helper chooses (one, a row's, a receiver's, those of taken values), each gives the last order put
+-- there, and the others give what they gave
 pub record LastOrdersAreGiven : Type 0 where
   pub gives : (relay : Relay) (choice : Choice) (outbox : Outbox) (rank receiver : ℕ) → HasPlaces relay outbox →
-      order_at relay (written relay choice outbox) rank receiver ≡ order_after choice (place_of relay rank receiver) (order_at relay outbox rank receiver)
-  pub stays : (relay : Relay) (choice : Choice) (outbox : Outbox) → HasPlaces relay outbox → HasPlaces relay (written relay choice outbox)
+      order_at relay (written relay choice outbox) rank receiver
+      ≡ order_after choice (place_of relay rank receiver) (order_at relay outbox rank receiver)
+  pub stays : (relay : Relay) (choice : Choice) (outbox : Outbox) → HasPlaces relay outbox →
+      HasPlaces relay (written relay choice outbox)

@@ -9,4 +9,5 @@ has_bit mask n = bit_at mask n == 1
 -- the orders from a place on, each where the set has its place, and nothing elsewhere
 abbrev pub kept_from : ℕ → ℕ → List ℕ → List (Option ℕ)
 kept_from mask place [] = []
-kept_from mask place (order ∷ orders) = (if has_bit mask place then Some order else None) ∷ kept_from mask (place + 1) orders
+kept_from mask place (order ∷ orders) =
+    (if has_bit mask place then Some order else None) ∷ kept_from mask (place + 1) orders

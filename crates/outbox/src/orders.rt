@@ -16,7 +16,8 @@ use semantics::Entry;
 use std::alloc::{AllocError, Global};
 use std::marker::Model;
 
-/// The outbox of a general in a round: for each label that he relays, by rank, an order or nothing for each receiver; or, where orders are signed, what he enters.
+/// The outbox of a general in a round: for each label that he relays, by rank, an order or nothing for each receiver;
+/// or, where orders are signed, what he enters.
 #[derive(Drop)]
 pub struct Outbox {
     shape: Shape,
@@ -83,7 +84,8 @@ impl Outbox {
         self.enter(Entry::Sign { order, receivers })
     }
 
-    /// Enters the chain held at this place, with the general's signature, for these receivers: whether there is such a chain, which he has not signed, and there was room.
+    /// Enters the chain held at this place, with the general's signature, for these receivers: whether there is such a
+    /// chain, which he has not signed, and there was room.
     pub fn pass(&mut self, held: u16, receivers: u16) -> bool
         ensures relay { self.new.relay ≡ self.old.relay }
         ensures rows { self.new.rows ≡ self.old.rows }
@@ -186,7 +188,8 @@ impl Outbox {
         requires { length context.now ≡ 4096 }
         ensures relay { self.new.relay ≡ self.old.relay }
         ensures entries { self.new.entries ≡ self.old.entries }
-        ensures rows { self.new.rows ≡ map (λ row. map (λ place. Some (value_in context.now place.rank)) row) (places self.old.relay) }
+        ensures rows { self.new.rows
+            ≡ map (λ row. map (λ place. Some (value_in context.now place.rank)) row) (places self.old.relay) }
     {
         let labels = self.rows.len();
         for rank in 0..labels {
@@ -208,7 +211,8 @@ impl Outbox {
     /// The orders for the label of that rank, where there is such a label.
     pub fn orders(&self, rank: u32) -> Option<&Row>
         ensures none { IsNone result ↔ (length self.now.rows ≤ rank) }
-        ensures orders { (receiver : ℕ) → order_of_row result receiver ≡ order_at self.now.relay self.now.rows rank receiver }
+        ensures orders { (receiver : ℕ) →
+            order_of_row result receiver ≡ order_at self.now.relay self.now.rows rank receiver }
     {
         let rank = rank as usize;
         if rank >= self.rows.len() {
@@ -236,7 +240,8 @@ impl Outbox {
         self.rows[rank as usize].receivers()
     }
 
-    /// The order for the receiver of that number among those of the label of that rank, from 0, where there is such a place and an order was put.
+    /// The order for the receiver of that number among those of the label of that rank, from 0, where there is such a
+    /// place and an order was put.
     pub fn at(&self, rank: u32, number: usize) -> Option<u32>
         ensures { result ≡ slice_index_or (slice_index_or self.now.rows rank []) number None }
     {

@@ -29,7 +29,8 @@ pub(crate) fn rows_of(alloc: Global, shape: Shape) -> Result<Vec<Row>, AllocErro
 fn lieutenant_rows(alloc: Global, shape: Shape) -> Result<Vec<Row>, AllocError>
     requires shape { IsShape shape }
     requires lieutenant { shape.general ≢ shape.commander }
-    ensures { IfOk result (λ rows. rows.items ≡ map (row_for shape) (labels shape.generals shape.commander shape.general (shape.round - 1))) }
+    ensures { IfOk result (λ rows. rows.items
+        ≡ map (row_for shape) (labels shape.generals shape.commander shape.general (shape.round - 1))) }
 {
     if shape.round == 1 {
         return Ok(Vec::new(alloc));

@@ -60,7 +60,8 @@ impl Signing {
         true
     }
 
-    /// Whether the general can send the entry's chain: the commander signs orders, and who holds a chain that he has not signed passes it on.
+    /// Whether the general can send the entry's chain: the commander signs orders, and who holds a chain that he has
+    /// not signed passes it on.
     fn may_send(&self, shape: Shape, entry: Entry) -> bool
         requires { IsShape shape }
         ensures { result ≡ is_sendable (signed shape self.now.held) entry }

@@ -16,7 +16,8 @@ use Rattle.why.specs.Made.{TellsMade}
 use Rattle.own_lines.specs.declared.refusing.Taken.{Taken}
 use Rattle.own_lines.specs.declared.refusing.Taken.TheVariants as taken
 
--- which campaigns a task takes that explains what it refuses of a scenario: a message table and a muster are of oral ones
+-- which campaigns a task takes that explains what it refuses of a scenario: a message table and a muster are of oral
+-- ones
 abbrev pub taken_by : Task → Option Taken
 taken_by (Play scenario schedule Chronicle (Some of)) = Some taken.Any
 taken_by (Play scenario schedule Table (Some of)) = Some taken.Oral
@@ -49,7 +50,8 @@ IsRefusalShown file own made error lines =
 -- the text that was made tells a campaign, and nothing is told of it; or it is refused, and that is told
 abbrev pub IsToldOf : Taken → List ℕ → List ℕ → List ℕ → Option (List ℕ) → Type 0
 IsToldOf kind file own made None = Takes kind made
-IsToldOf kind file own made (Some lines) = (error : ScenarioError) × Refuses kind made error × IsRefusalShown file own made error lines
+IsToldOf kind file own made (Some lines) =
+    (error : ScenarioError) × Refuses kind made error × IsRefusalShown file own made error lines
 
 abbrev pub IsToldBy : Option Taken → List ℕ → List ℕ → List ℕ → Option (List ℕ) → Type 0
 IsToldBy None file own made lines = lines ≡ None

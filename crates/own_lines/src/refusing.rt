@@ -141,8 +141,8 @@ fn told(alloc: Global, task: &Task, own: &str, made: &str) -> Result<Option<Stri
 }
 
 /// What is told of the task's scenario of these own bytes, where it explains what it refuses, and the text in which the
-/// files stand that it names is refused: the line of the refusal, and what is said of it, at its own lines and those of its
-/// files. Of a scenario that names no file, and of bytes that are no text, nothing is.
+/// files stand that it names is refused: the line of the refusal, and what is said of it, at its own lines and those of
+/// its files. Of a scenario that names no file, and of bytes that are no text, nothing is.
 ///
 /// # Errors
 ///

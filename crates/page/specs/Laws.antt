@@ -14,7 +14,8 @@ pub record TextsAreVisible : Type 0 where
   pub seen : (cs : List ℕ) → list_all (λ c. not (is_hidden c)) (visible cs) ≡ true
   pub same : (cs : List ℕ) → list_all (λ c. not (is_hidden c)) cs ≡ true → visible cs ≡ cs
 
--- parts are content, with content in them: folds, lists and their items, tables and their rows, and a picture that is content
+-- parts are content, with content in them: folds, lists and their items, tables and their rows, and a picture that is
+-- content
 pub record PartsAreContent : Type 0 where
   pub heading : (text : List ℕ) → IsContent (heading text)
   pub paragraph : (text : List ℕ) → IsContent (paragraph text)
@@ -32,4 +33,5 @@ pub record PartsAreContent : Type 0 where
 
 -- a page with such parts is one element of XML, between the line that says that it is HTML and a line feed
 abbrev pub PagesAreElements : Type 0
-PagesAreElements = (title parts : List ℕ) → IsContent parts → (text : List ℕ) × IsElement text × (page title parts ≡ codes "<!DOCTYPE html>\n" ++ text ++ codes "\n")
+PagesAreElements = (title parts : List ℕ) → IsContent parts →
+    (text : List ℕ) × IsElement text × (page title parts ≡ codes "<!DOCTYPE html>\n" ++ text ++ codes "\n")

@@ -1,4 +1,5 @@
--- A page of HTML (HTML Living Standard, section 13.1) that is one element of XML too, byte by byte. Texts of others are made visible and escaped.
+-- A page of HTML (HTML Living Standard, section 13.1) that is one element of XML too, byte by byte. Texts of others are
+-- made visible and escaped.
 use Rattle.std.specs.Prelude.{ℕ, List, ◌++◌, codes}
 use Rattle.std.specs.Str.{chars, encode_utf8_all}
 use Rattle.markup.specs.Escaped.{escaped}

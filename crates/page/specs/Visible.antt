@@ -3,11 +3,12 @@ use Rattle.std.specs.Prelude.{ℕ, ◌+◌, ◌/◌, ◌%◌, ◌==◌, nat_lt, 
 use Rattle.std.specs.List.{flat_map}
 use Rattle.markup.specs.Escaped.{is_within}
 
--- controls but the tab, the line feed and the carriage return (Unicode, general category Cc), those that turn the order of others
--- (UAX 9, Bidi_Control), and three of no width
+-- controls but the tab, the line feed and the carriage return (Unicode, general category Cc), those that turn the order
+-- of others (UAX 9, Bidi_Control), and three of no width
 abbrev pub is_hidden : ℕ → Bool
 is_hidden c =
-    is_within 0 8 c || is_within 11 12 c || is_within 14 31 c || is_within 127 159 c || c == 0x61C || c == 0x200B || is_within 0x200E 0x200F c || is_within 0x202A 0x202E c
+    is_within 0 8 c || is_within 11 12 c || is_within 14 31 c || is_within 127 159 c || c == 0x61C || c == 0x200B
+    || is_within 0x200E 0x200F c || is_within 0x202A 0x202E c
     || c == 0x2060 || is_within 0x2066 0x2069 c || c == 0xFEFF
 
 -- written as it is: what ASCII prints, but for markup
@@ -20,7 +21,8 @@ digit d = if nat_lt d 10 then 48 + d else 55 + d
 
 -- the number of a character, of four digits, as Unicode writes it
 abbrev pub numbered : ℕ → List ℕ
-numbered c = codes "[U+" ++ digit (c / 4096 % 16) ∷ digit (c / 256 % 16) ∷ digit (c / 16 % 16) ∷ digit (c % 16) ∷ codes "]"
+numbered c = codes "[U+" ++ digit (c / 4096 % 16) ∷ digit (c / 256 % 16) ∷ digit (c / 16 % 16) ∷ digit
+    (c % 16) ∷ codes "]"
 
 abbrev pub made_visible : ℕ → List ℕ
 made_visible c = if is_hidden c then numbered c else c ∷ []

@@ -45,7 +45,8 @@ pub fn put_begun_lines(out: &mut String, text: &str) -> Result<(), AllocError>
     out.push_str("</pre>\n")
 }
 
-/// Adds what begins a fold: the parts behind it, up to its end, are shown where a reader opens it, and this line always.
+/// Adds what begins a fold: the parts behind it, up to its end, are shown where a reader opens it, and this line
+/// always.
 pub fn put_fold_start(out: &mut String, summary: &str) -> Result<(), AllocError>
     ensures { OnOk result (string_bytes out.new ≡ string_bytes out.old ++ fold_start summary.now) }
 {

@@ -25,7 +25,8 @@ pub(crate) fn put_shown(out: &mut String, text: &str) -> Result<(), AllocError>
 /// Adds a character, escaped, or its number: most are written as they are, which is seen first.
 #[tactic(auto, using(crate::proofs::PlainLemmas::plain_written))]
 fn put_visible(out: &mut String, character: char) -> Result<(), AllocError>
-    ensures { OnOk result (string_bytes out.new ≡ string_bytes out.old ++ encode_utf8_all (escaped (made_visible character))) }
+    ensures { OnOk result (string_bytes out.new ≡ string_bytes out.old
+        ++ encode_utf8_all (escaped (made_visible character))) }
 {
     if is_plain(character) {
         return out.push(character);

@@ -21,7 +21,8 @@ kind_of _ opcode = []
 -- an instruction as ever, or `.unit 0x` with the eight bytes in hex, in the order in which they stand, and why
 abbrev pub piece_text : Piece → List ℕ
 piece_text (Spelled insn) = insn_text insn
-piece_text (Raw unit fault) = codes ".unit 0x" ++ encode_lower unit ++ codes " ; " ++ code_of fault ++ kind_of fault (slice_index unit 0)
+piece_text (Raw unit fault) =
+    codes ".unit 0x" ++ encode_lower unit ++ codes " ; " ++ code_of fault ++ kind_of fault (slice_index unit 0)
 
 -- one piece a line, a line feed behind each
 abbrev pub pieces_text : List Piece → List ℕ

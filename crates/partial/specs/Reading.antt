@@ -24,7 +24,8 @@ in_bytes (Err error) = Err Operand
 
 -- `0x` and sixteen digits: the eight bytes, in the order in which they stand
 abbrev pub eight_of : List ℕ → Result (List ℕ) Fault
-eight_of number = if starts_with nat_eq number (codes "0x") then in_bytes (decode_sized (drop 2 number) 8) else Err Operand
+eight_of number =
+    if starts_with nat_eq number (codes "0x") then in_bytes (decode_sized (drop 2 number) 8) else Err Operand
 
 -- the same with white space round it
 abbrev pub unit_in : List ℕ → Result (List ℕ) Fault
@@ -32,7 +33,8 @@ unit_in operand = if is_all_blank (from Blank operand) then eight_of (before Bla
 
 -- the word `.unit` and its operand
 abbrev pub raw_in : List ℕ → Result (List ℕ) Fault
-raw_in code = if bytes_eq (before Blank code) (codes ".unit") then unit_in (from Solid (from Blank code)) else Err Mnemonic
+raw_in code =
+    if bytes_eq (before Blank code) (codes ".unit") then unit_in (from Solid (from Blank code)) else Err Mnemonic
 
 -- what a line says that is assembled by itself, where names stand for nothing; one without an instruction says no bytes
 abbrev pub alone : Result (List Insn) AsmError → Result (List ℕ) Fault
@@ -52,7 +54,8 @@ line_bytes line = if is_dotted line then raw_in (before semicolon (from Solid li
 -- those of the lines from this number on, behind those that are done; the first fault of the first line that has one
 abbrev pub bytes_on : List ℕ → ℕ → List (List ℕ) → Result (List ℕ) AsmError
 bytes_on done number [] = Ok done
-bytes_on done number (line ∷ lines) = at_line number (line_bytes line) >>= λ bytes. bytes_on (done ++ bytes) (number + 1) lines
+bytes_on done number (line ∷ lines) =
+    at_line number (line_bytes line) >>= λ bytes. bytes_on (done ++ bytes) (number + 1) lines
 
 -- the bytes that the text says, or its first fault
 unfoldable pub bytes_said : List ℕ → Result (List ℕ) AsmError

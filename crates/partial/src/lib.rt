@@ -1,4 +1,5 @@
-//! Bytecode of which not all can be decoded, as text: a unit with which no instruction begins stands there as its bytes.
+//! Bytecode of which not all can be decoded, as text: a unit with which no instruction begins stands there as its
+//! bytes.
 #![tactic(auto)]
 
 mod assembler;

@@ -36,7 +36,8 @@ FitsPoster seat came pass v = v.posts ≡ true → (seat v.general ≡ Some pass
 -- those that are back have posted what came of them, and their seats are empty
 abbrev pub AreBack : ℕ → (ℕ → Option ℕ) → List Letter → List Posted → Type 0
 AreBack made seat came [] = Unit {0}
-AreBack made seat came (p ∷ back) = ((p.general < made) × (seat p.general ≡ None) × (p.letters ≡ letters_of p.general came)) × AreBack made seat came back
+AreBack made seat came (p ∷ back) = ((p.general < made) × (seat p.general ≡ None)
+    × (p.letters ≡ letters_of p.general came)) × AreBack made seat came back
 
 -- there is one collector, who knows what was taken; of generals without a poster yet nothing came
 abbrev pub FitsCollector : ℕ → (ℕ → Option ℕ) → List Letter → List Letter → ℕ → Known → Type 0

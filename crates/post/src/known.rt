@@ -8,8 +8,8 @@ pub(crate) struct Posted {
     pub(crate) letters: LinkedList<Letter>,
 }
 
-/// What a pass knows. A poster knows its general and what it has posted. The collector knows what was taken, for how many
-/// generals posters were made, and what those have posted that are back.
+/// What a pass knows. A poster knows its general and what it has posted. The collector knows what was taken, for how
+/// many generals posters were made, and what those have posted that are back.
 pub(crate) struct Known {
     pub(crate) posts: bool,
     pub(crate) takes: bool,

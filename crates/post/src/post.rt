@@ -15,8 +15,8 @@ use std::alloc::{AllocError, Global};
 use std::marker::Model;
 use std::sync::Wait;
 
-/// A queue of letters that threads share. For each general, what was taken and then what is queued is what he has posted,
-/// in order, each letter once, whatever the threads do.
+/// A queue of letters that threads share. For each general, what was taken and then what is queued is what he has
+/// posted, in order, each letter once, whatever the threads do.
 #[derive(Drop)]
 pub struct Post {
     queue: Queue,
@@ -46,7 +46,8 @@ impl Post {
         requires { 0 < capacity }
         ensures post { IfOk result (λ r. r.0.capacity ≡ capacity) }
         ensures count { IfOk result (λ r. length r.1.items ≡ generals) }
-        ensures posters { IfOk result (λ r. (g : ℕ) (d : PosterSeen) → g < generals → slice_index_or r.1.items g d ≡ poster_seen r.0.table g []) }
+        ensures posters { IfOk result (λ r. (g : ℕ) (d : PosterSeen) → g < generals →
+            slice_index_or r.1.items g d ≡ poster_seen r.0.table g []) }
         ensures collector { IfOk result (λ r. r.2 ≡ collector_seen r.0.table [] generals) }
     {
         let (queue, mut pass) = Queue::ruled(alloc, capacity)?;
@@ -92,8 +93,8 @@ impl Post {
         (Collector { pass }, taken)
     }
 
-    /// Ends the post, and gives the letters that are queued, oldest first: with what was taken before, they are what the
-    /// posters' generals have posted. Memory for them is asked for before one is taken.
+    /// Ends the post, and gives the letters that are queued, oldest first: with what was taken before, they are what
+    /// the posters' generals have posted. Memory for them is asked for before one is taken.
     ///
     /// # Errors
     ///
@@ -106,8 +107,11 @@ impl Post {
     ) -> Result<Vec<Letter>, AllocError>
         requires posters { All (λ p. p.table ≡ self.table) posters.items }
         requires collector { collector.table ≡ self.table }
-        ensures left { IfOk result (λ left. AreDelivered (collector.taken ++ left.items) (map (λ p. posted p.general p.posted) posters.items)) }
-        ensures lost { IfErr result (λ _. (queued : List LetterSeen) × AreDelivered (collector.taken ++ queued) (map (λ p. posted p.general p.posted) posters.items)) }
+        ensures left { IfOk result
+            (λ left. AreDelivered (collector.taken ++ left.items)
+            (map (λ p. posted p.general p.posted) posters.items)) }
+        ensures lost { IfErr result (λ _. (queued : List LetterSeen)
+            × AreDelivered (collector.taken ++ queued) (map (λ p. posted p.general p.posted) posters.items)) }
     {
         let Post { queue, alloc } = self;
         let Collector { pass } = collector;

@@ -1,4 +1,5 @@
--- What a conditional jump tells of two intervals p and q on one of its edges: nothing is left where no pair of numbers takes it.
+-- What a conditional jump tells of two intervals p and q on one of its edges: nothing is left where no pair of numbers
+-- takes it.
 use Rattle.std.specs.Prelude.{ℕ, ◌+◌, ◌-◌, ◌^◌, min, max, Bool, true, false, not, ◌&&◌, ◌==◌, nat_lt, nat_le, if◌then◌else◌, Option, Some, None}
 use Rattle.word.specs.Arithmetic.{bits_of}
 use Rattle.word.specs.declared.Width.{Width}
@@ -115,7 +116,8 @@ tells SignedAtMost = true
 
 -- whether a condition tells anything of two intervals
 abbrev pub is_refined : Width → Condition → ℕ × ℕ → ℕ × ℕ → Bool
-is_refined w condition p q = (nat_lt p.1 (edge_limit w condition) && nat_lt q.1 (edge_limit w condition)) && tells condition
+is_refined w condition p q =
+    (nat_lt p.1 (edge_limit w condition) && nat_lt q.1 (edge_limit w condition)) && tells condition
 
 -- what is left of two intervals where a jump on a condition is taken, or is not
 unfoldable pub refined : Width → Condition → Bool → ℕ × ℕ → ℕ × ℕ → Option Pair

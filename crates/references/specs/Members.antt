@@ -7,7 +7,8 @@ use Rattle.toml.specs.Data.{Data, Items, no_items, item, Members, no_members, me
 -- the members, with d at k
 abbrev pub put : List ℕ → Data → Members → Members
 put k d no_members = member k d no_members
-put k d (member l e ms) = match_ordering (slice_cmp nat_cmp k l) (member k d (member l e ms)) (member l d ms) (member l e (put k d ms))
+put k d (member l e ms) =
+    match_ordering (slice_cmp nat_cmp k l) (member k d (member l e ms)) (member l d ms) (member l e (put k d ms))
 
 -- the items of both lists
 abbrev pub join : Items → Items → Items

@@ -28,7 +28,8 @@ is_same Bytecode Bytecode = true
 is_same Object Object = true
 is_same _ _ = false
 
--- a file that was read: by which key it is named, its name, which function of an object, and the text that stands in its place
+-- a file that was read: by which key it is named, its name, which function of an object, and the text that stands in
+-- its place
 pub record File : Type 0 where
   pub key : Key
   pub name : List ℕ
@@ -47,7 +48,8 @@ is_named f key name function = is_same f.key key && (bytes_eq f.name name && are
 -- the text of the first file that is named so
 abbrev pub text_named : List File → Key → List ℕ → Option (List ℕ) → Option (List ℕ)
 text_named [] key name function = None
-text_named (f ∷ fs) key name function = cond (is_named f key name function) (Some f.text) (text_named fs key name function)
+text_named (f ∷ fs) key name function =
+    cond (is_named f key name function) (Some f.text) (text_named fs key name function)
 
 -- the table has a program in the place of such a file, or two files for it
 abbrev pub is_taken : Key → Members → Bool
@@ -65,7 +67,8 @@ function_at key ms = None
 
 -- the generals who share a table, where it names none by himself
 abbrev pub seats : Members → Option Items
-seats ms = cond (is_some (get_member (codes "general") ms)) None (option_and_then as_array (get_member (codes "generals") ms))
+seats ms = cond (is_some (get_member (codes "general") ms)) None
+    (option_and_then as_array (get_member (codes "generals") ms))
 
 -- the list of traitors
 abbrev pub traitors : Members → Option Items

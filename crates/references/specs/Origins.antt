@@ -22,7 +22,8 @@ stands_for d = by_table (as_table d)
 -- the element from which the table of this number comes, of those from this one on; behind all of them none does
 abbrev pub origin_from : ℕ → ℕ → Items → ℕ
 origin_from at number no_items = at
-origin_from at number (item d ds) = if nat_lt number (stands_for d) then at else origin_from (at + 1) (number - stands_for d) ds
+origin_from at number (item d ds) =
+    if nat_lt number (stands_for d) then at else origin_from (at + 1) (number - stands_for d) ds
 
 abbrev pub origin_in : ℕ → Option Items → ℕ
 origin_in number None = number

@@ -10,11 +10,14 @@ use Rattle.references.specs.Members.{join, put}
 -- what stands in the place of the file that a table names by the key k: of which program, and its text
 abbrev pub program : List File → Members → List ℕ → Option (Key × List ℕ)
 program files ms k =
-    option_and_then (λ key. option_and_then (λ name. option_map (λ t. (key, t)) (text_named files key name (function_at key ms))) (name_at key ms)) (key_of k)
+    option_and_then (λ key. option_and_then
+    (λ name. option_map (λ t. (key, t)) (text_named files key name (function_at key ms))) (name_at key ms))
+    (key_of k)
 
 -- the key names the function of an object that stands in its place: nothing is left of it
 abbrev pub is_spent : List File → Members → List ℕ → Bool
-is_spent files ms k = bytes_eq k (codes "entry") && (is_some (function_at Object ms) && is_some (program files ms (codes "elf")))
+is_spent files ms k =
+    bytes_eq k (codes "entry") && (is_some (function_at Object ms) && is_some (program files ms (codes "elf")))
 
 -- an entry without a file: this general in place of those who share the table
 abbrev pub kept : Option Data → List ℕ → Data → Members → Members
@@ -82,7 +85,8 @@ abbrev pub refers : Items → Bool
 refers no_items = false
 refers (item d ds) = element_refers d || refers ds
 
--- the text is this document's, where that nests no deeper than a reader goes; or there is none, since a date of it has no text
+-- the text is this document's, where that nests no deeper than a reader goes; or there is none, since a date of it has
+-- no text
 abbrev pub IsPrinted : Members → Option (List ℕ) → Type 0
 IsPrinted ms None = members_have_valid_dates ms ≡ false
 IsPrinted ms (Some text) = members_depth ms ≤ 80 → parse_document text ≡ Some ms

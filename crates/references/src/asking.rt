@@ -28,7 +28,12 @@ impl Model for Reference {
 
     ghost Value = { Asked };
 
-    ghost view = { λ a. record { index = a.index; key = a.key; name = string_bytes a.name; function = option_map string_bytes a.function } };
+    ghost view = { λ a. record {
+      index = a.index;
+      key = a.key;
+      name = string_bytes a.name;
+      function = option_map string_bytes a.function;
+    } };
 }
 
 /// A text of its own, where there is one.

@@ -9,8 +9,8 @@ use crate::key::Key;
 use std::alloc::{AllocError, Global};
 use std::marker::Model;
 
-/// A file that was read beside a scenario: by which key it is named, its name, which function of an object, and the text that
-/// stands in its place.
+/// A file that was read beside a scenario: by which key it is named, its name, which function of an object, and the
+/// text that stands in its place.
 #[derive(Debug, Drop)]
 pub struct Beside {
     key: Key,
@@ -25,13 +25,23 @@ impl Model for Beside {
 
     ghost Value = { File };
 
-    ghost view = { λ f. record { key = f.key; name = string_bytes f.name; function = option_map string_bytes f.function; text = string_bytes f.text } };
+    ghost view = { λ f. record {
+      key = f.key;
+      name = string_bytes f.name;
+      function = option_map string_bytes f.function;
+      text = string_bytes f.text;
+    } };
 }
 
 impl Beside {
     /// A file of assembly with this text.
     pub fn assembly(name: String, text: String) -> Beside
-        ensures { result ≡ record { key = Assembly; name = string_bytes name; function = None; text = string_bytes text } }
+        ensures { result ≡ record {
+          key = Assembly;
+          name = string_bytes name;
+          function = None;
+          text = string_bytes text;
+        } }
     {
         Beside {
             key: Key::Assembly,
@@ -47,7 +57,12 @@ impl Beside {
     ///
     /// `AllocError` where the memory for the digits is refused.
     pub fn bytecode(alloc: Global, name: String, bytes: &[u8]) -> Result<Beside, AllocError>
-        ensures { IfOk result (λ f. f ≡ record { key = Bytecode; name = string_bytes name; function = None; text = encode_lower bytes.now }) }
+        ensures { IfOk result (λ f. f ≡ record {
+          key = Bytecode;
+          name = string_bytes name;
+          function = None;
+          text = encode_lower bytes.now;
+        }) }
     {
         let text = hex::encode(alloc, bytes)?;
         Ok(Beside {
@@ -58,8 +73,8 @@ impl Beside {
         })
     }
 
-    /// An object, of which this function has this code, which stands in its place in hex; no function is named where it is
-    /// the only global one.
+    /// An object, of which this function has this code, which stands in its place in hex; no function is named where it
+    /// is the only global one.
     ///
     /// # Errors
     ///
@@ -70,7 +85,12 @@ impl Beside {
         function: Option<&str>,
         code: &[u8],
     ) -> Result<Beside, AllocError>
-        ensures { IfOk result (λ f. f ≡ record { key = Object; name = string_bytes name; function = option_map (λ f. f.now) function.entry; text = encode_lower code.now }) }
+        ensures { IfOk result (λ f. f ≡ record {
+          key = Object;
+          name = string_bytes name;
+          function = option_map (λ f. f.now) function.entry;
+          text = encode_lower code.now;
+        }) }
     {
         let text = hex::encode(alloc, code)?;
         Ok(Beside {

@@ -1,5 +1,5 @@
-//! Programs that a scenario names by their files, and traitors that share a program: the text in which each stands where it is
-//! named, which a reader of scenarios takes.
+//! Programs that a scenario names by their files, and traitors that share a program: the text in which each stands
+//! where it is named, which a reader of scenarios takes.
 #![tactic(auto)]
 
 mod asking;

@@ -99,8 +99,8 @@ fn seat_in(values: &[Value], general: u8) -> Option<usize>
     None
 }
 
-/// From which traitor's table of the text of a scenario the table of this number comes that stands in its resolved text, both
-/// counted from 0; the same number where the text has no list of traitors.
+/// From which traitor's table of the text of a scenario the table of this number comes that stands in its resolved
+/// text, both counted from 0; the same number where the text has no list of traitors.
 ///
 /// # Errors
 ///
@@ -119,8 +119,8 @@ pub fn origin(alloc: Global, text: &str, number: usize) -> Result<usize, AllocEr
     }
 }
 
-/// Which traitor's table of the text of a scenario is the first of this general, by himself or with others, counted from 0;
-/// none where no table is.
+/// Which traitor's table of the text of a scenario is the first of this general, by himself or with others, counted
+/// from 0; none where no table is.
 ///
 /// # Errors
 ///

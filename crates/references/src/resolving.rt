@@ -13,8 +13,8 @@ use crate::tables::{function_at, has, name_at, put, seats, traitors};
 use std::alloc::{AllocError, Global};
 use toml::{Table, Value};
 
-/// What stands in the place of the file that a table names by this key: the key of its program and its text; nothing where
-/// the key names none, or the file was not read.
+/// What stands in the place of the file that a table names by this key: the key of its program and its text; nothing
+/// where the key names none, or the file was not read.
 fn program<'a>(files: &'a [Beside], table: &Table, key: &str) -> Option<(Key, &'a str)>
     ensures { option_map (λ p. (p.0, (p.1).now)) result ≡ program files.now (table_view table.now) key.now }
 {
@@ -33,7 +33,8 @@ fn is_spent(files: &[Beside], table: &Table, key: &str) -> bool
         && program(files, table, "elf").is_some()
 }
 
-/// Puts an entry of a traitor's table: the program in place of its file, and this general in place of those who share it.
+/// Puts an entry of a traitor's table: the program in place of its file, and this general in place of those who share
+/// it.
 fn put_entry(
     alloc: Global,
     done: &mut Table,
@@ -44,7 +45,8 @@ fn put_entry(
     value: &Value,
 ) -> Result<(), AllocError>
     ensures { OnOk result (table_view done.new
-        ≡ entry files.now (option_map (λ v. view v.now) general.entry) (table_view table.now) key.now (view value.now) (table_view done.old)) }
+        ≡ entry files.now (option_map (λ v. view v.now) general.entry) (table_view table.now) key.now (view value.now)
+        (table_view done.old)) }
 {
     if is_spent(files, table, key) {
         return Ok(());
@@ -63,7 +65,8 @@ fn rebuilt(
     general: Option<&Value>,
     table: &Table,
 ) -> Result<Table, AllocError>
-    ensures { IfOk result (λ t. table_view t ≡ rebuilt files.now (option_map (λ v. view v.now) general.entry) (table_view table.now)) }
+    ensures { IfOk result (λ t. table_view t
+        ≡ rebuilt files.now (option_map (λ v. view v.now) general.entry) (table_view table.now)) }
 {
     let mut done = Table::new(alloc);
     for (key, value) in table {
@@ -87,7 +90,8 @@ fn push_each(
     generals: &[Value],
     table: &Table,
 ) -> Result<(), AllocError>
-    ensures { OnOk result (items_view done.new.items ≡ join (items_view done.old.items) (one_each files.now (table_view table.now) (items_view generals.now))) }
+    ensures { OnOk result (items_view done.new.items
+        ≡ join (items_view done.old.items) (one_each files.now (table_view table.now) (items_view generals.now))) }
 {
     for index in 0..generals.len() {
         let one = rebuilt(alloc, files, Some(&generals[index]), table)?;
@@ -103,7 +107,8 @@ fn push_tables(
     files: &[Beside],
     table: &Table,
 ) -> Result<(), AllocError>
-    ensures { OnOk result (items_view done.new.items ≡ join (items_view done.old.items) (tables files.now (table_view table.now))) }
+    ensures { OnOk result (items_view done.new.items
+        ≡ join (items_view done.old.items) (tables files.now (table_view table.now))) }
 {
     match seats(table) {
         Some(generals) => push_each(alloc, done, files, generals, table),
@@ -118,7 +123,8 @@ fn push_element(
     files: &[Beside],
     value: &Value,
 ) -> Result<(), AllocError>
-    ensures { OnOk result (items_view done.new.items ≡ join (items_view done.old.items) (tables_of files.now (view value.now))) }
+    ensures { OnOk result (items_view done.new.items
+        ≡ join (items_view done.old.items) (tables_of files.now (view value.now))) }
 {
     match value.as_table() {
         Some(table) => push_tables(alloc, done, files, table),
@@ -181,14 +187,15 @@ fn printed(alloc: Global, table: &Table) -> Result<Option<String>, AllocError>
     }
 }
 
-/// The text of a document's table in which the files stand where they are named, and each traitor has a table of his own; none
-/// where no table names a file or several generals.
+/// The text of a document's table in which the files stand where they are named, and each traitor has a table of his
+/// own; none where no table names a file or several generals.
 fn resolved_document(
     alloc: Global,
     files: &[Beside],
     table: Table,
 ) -> Result<Option<String>, AllocError>
-    ensures { IfOk result (λ new. ResolvesList files.now (table_view table) (traitors (table_view table)) (option_map string_bytes new)) }
+    ensures { IfOk result (λ new. ResolvesList files.now (table_view table) (traitors (table_view table))
+        (option_map string_bytes new)) }
 {
     let mut table = table;
     let Some(values) = traitors(&table) else {
@@ -202,11 +209,11 @@ fn resolved_document(
     printed(alloc, &table)
 }
 
-/// The text of a scenario in which the files stand where they are named, and each traitor has a table of his own; none where
-/// the text is no TOML or no table names a file or several generals: then the text itself is to be read.
+/// The text of a scenario in which the files stand where they are named, and each traitor has a table of his own; none
+/// where the text is no TOML or no table names a file or several generals: then the text itself is to be read.
 ///
-/// A file that is not among these stays named, and is refused as an unknown key; so does one in whose place the table has a
-/// program as well, and a list of generals beside a general.
+/// A file that is not among these stays named, and is refused as an unknown key; so does one in whose place the table
+/// has a program as well, and a list of generals beside a general.
 ///
 /// # Errors
 ///

@@ -28,7 +28,8 @@ fn text_at<'a>(table: &'a Table, key: &str) -> Option<&'a str>
 
 /// The elements of the list at a key, where one stands there.
 fn list_at<'a>(table: &'a Table, key: &str) -> Option<&'a [Value]>
-    ensures { option_map (λ ds. items_view ds.now) result ≡ option_and_then as_array (get_member key.now (table_view table.now)) }
+    ensures { option_map (λ ds. items_view ds.now) result
+        ≡ option_and_then as_array (get_member key.now (table_view table.now)) }
 {
     match table.get(key) {
         Some(value) => match value.as_array() {

@@ -15,11 +15,13 @@ lower_off_at t size rank = length (others t.general (label_at t size rank))
 
 -- the part of the level below that belongs to a rank
 abbrev pub children_of : LieutenantTree → List ℕ → ℕ → ℕ → List ℕ
-children_of t below size rank = slice_range below (rank * (t.generals - 1 - size)) (rank * (t.generals - 1 - size) + (t.generals - 1 - size))
+children_of t below size rank =
+    slice_range below (rank * (t.generals - 1 - size)) (rank * (t.generals - 1 - size) + (t.generals - 1 - size))
 
 -- what a rank's children decide, with the lieutenant's own order in its place
 unfoldable pub upward : (List ℕ → ℕ) → LieutenantTree → List ℕ → ℕ → ℕ → ℕ
-upward f t below size rank = f (insert (children_of t below size rank) (lower_off_at t size rank) (order_at_rank t size rank))
+upward f t below size rank =
+    f (insert (children_of t below size rank) (lower_off_at t size rank) (order_at_rank t size rank))
 
 -- what is decided about the labels of a length with k relays left, by rank
 unfoldable pub decisions_at : (List ℕ → ℕ) → LieutenantTree → Messages → ℕ → ℕ → List ℕ

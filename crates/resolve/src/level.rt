@@ -52,7 +52,8 @@ fn upward<C: Combine>(tree: &Tree, rule: &C, size: u8, below: &[u32], rank: usiz
     requires some { 0 < size }
     requires short { size ≤ tree.now.bound }
     requires within { rank < length (labels tree.now.generals tree.now.commander tree.now.general size) }
-    requires long { length below.now ≡ length (labels tree.now.generals tree.now.commander tree.now.general (size + 1)) }
+    requires long { length below.now
+        ≡ length (labels tree.now.generals tree.now.commander tree.now.general (size + 1)) }
     ensures { result ≡ upward (C.combined rule.now) tree.now below.now size rank }
 {
     let own = order_at(tree.level(size), rank);
@@ -79,8 +80,11 @@ fn level_at_once<C: Combine + Sync, R: Threads + Sync>(
 ) -> Result<Vec<u32>, AllocError>
     requires some { 0 < size }
     requires short { size ≤ tree.now.bound }
-    requires long { length below.now ≡ length (labels tree.now.generals tree.now.commander tree.now.general (size + 1)) }
-    ensures { IfOk result (λ v. v.items ≡ map (upward (C.combined rule.now) tree.now below.now size) (nat_range 0 (length (labels tree.now.generals tree.now.commander tree.now.general size)))) }
+    requires long { length below.now
+        ≡ length (labels tree.now.generals tree.now.commander tree.now.general (size + 1)) }
+    ensures { IfOk result (λ v. v.items
+        ≡ map (upward (C.combined rule.now) tree.now below.now size)
+        (nat_range 0 (length (labels tree.now.generals tree.now.commander tree.now.general size)))) }
 {
     let count = tree.level(size).len();
     (0..count)
@@ -88,7 +92,8 @@ fn level_at_once<C: Combine + Sync, R: Threads + Sync>(
         .map(
             |rank: usize| -> u32
                 requires { (0 < size) × (size ≤ tree.now.bound)
-                    × (length below.now ≡ length (labels tree.now.generals tree.now.commander tree.now.general (size + 1)))
+                    × (length below.now
+                    ≡ length (labels tree.now.generals tree.now.commander tree.now.general (size + 1)))
                     × (rank < length (labels tree.now.generals tree.now.commander tree.now.general size)) }
                 ensures { result ≡ upward (C.combined rule.entry.now) tree.entry.now below.entry.now size rank }
             { upward(tree, rule, size, below, rank) },
@@ -98,8 +103,11 @@ fn level_at_once<C: Combine + Sync, R: Threads + Sync>(
 
 /// The orders that were told of the longest labels, by rank.
 fn longest(alloc: Global, tree: &Tree) -> Result<Vec<u32>, AllocError>
-    ensures long { IfOk result (λ v. length v.items ≡ length (labels tree.now.generals tree.now.commander tree.now.general (tree.now.bound + 1))) }
-    ensures told { (M : Messages) → (f : List ℕ → ℕ) → IsFilled tree.now M → IfOk result (λ v. v.items ≡ decisions_at f tree.now M 0 (tree.now.bound + 1)) }
+    ensures long { IfOk result
+        (λ v. length v.items ≡ length
+        (labels tree.now.generals tree.now.commander tree.now.general (tree.now.bound + 1))) }
+    ensures told { (M : Messages) → (f : List ℕ → ℕ) → IsFilled tree.now M →
+        IfOk result (λ v. v.items ≡ decisions_at f tree.now M 0 (tree.now.bound + 1)) }
 {
     let _space = tree.space();
     let level = tree.level(tree.bound() + 1);

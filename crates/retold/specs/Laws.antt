@@ -9,4 +9,5 @@ use Rattle.retold.specs.Retold.{IsWhole}
 
 -- the chronicle of a complete run is whole
 abbrev pub RunsAreWhole : Type 0
-RunsAreWhole = (s : Scenario) (events : List Event) → IsScenario s → IsComplete s events → IsWhole (chronicle_of (run (opening s) events))
+RunsAreWhole = (s : Scenario) (events : List Event) → IsScenario s → IsComplete s events →
+    IsWhole (chronicle_of (run (opening s) events))

@@ -12,8 +12,8 @@ use Rattle.world.specs.Chronicle.{Chronicle, decisions}
 use Rattle.tables.specs.Answers.{ExplainsOne, ExplainsTable}
 use Rattle.tables.specs.Written.{table_text}
 
--- the table of a campaign's messages: of each label, the shorter ones first, for each receiver who is off it what its last general told
--- him of the rest by his letter, and no line where he told him nothing
+-- the table of a campaign's messages: of each label, the shorter ones first, for each receiver who is off it what its
+-- last general told him of the rest by his letter, and no line where he told him nothing
 abbrev pub table_of : Chronicle → List ℕ
 table_of c = table_text (messages c.letters) c.scenario.generals c.scenario.bound c.scenario.commander c.scenario.rule
 

@@ -9,8 +9,9 @@ use std::alloc::{AllocError, Global};
 use tables::TreeTable;
 use world::Chronicle;
 
-/// How the lieutenants of a campaign come to their decisions, or this general alone to his: what `book` says of its message
-/// table, where the scenario's traitors are named. The table is not written: it is told by the lieutenants' trees.
+/// How the lieutenants of a campaign come to their decisions, or this general alone to his: what `book` says of its
+/// message table, where the scenario's traitors are named. The table is not written: it is told by the lieutenants'
+/// trees.
 ///
 /// # Errors
 ///

@@ -8,7 +8,8 @@ use Rattle.semantics.specs.Outbox.{empty_outbox}
 use Rattle.semantics.specs.Call.{resumed}
 use Rattle.semantics.specs.Execution.{step}
 
--- what is run, with which context and for which relay, how many steps it may take, where it stands, and whether it has exited
+-- what is run, with which context and for which relay, how many steps it may take, where it stands, and whether it has
+-- exited
 pub record Activation : Type 0 where
   pub program : List Insn
   pub context : List ℕ
@@ -19,7 +20,14 @@ pub record Activation : Type 0 where
 
 abbrev pub started : Option ℕ → List Insn → List ℕ → Relay → Activation
 started patience program context relay =
-    record { program = program; context = context; relay = relay; patience = patience; state = entry (empty_outbox relay); over = false }
+    record {
+      program = program;
+      context = context;
+      relay = relay;
+      patience = patience;
+      state = entry (empty_outbox relay);
+      over = false;
+    }
 
 -- so many steps have reached a patience
 abbrev pub is_reached : Option ℕ → ℕ → Bool

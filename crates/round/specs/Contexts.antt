@@ -12,7 +12,8 @@ use Rattle.outbox.specs.Contents.{Contents}
 use Rattle.round.specs.Scenario.{Scenario, shape_of}
 use Rattle.round.specs.Letters.{Letter, messages, telling}
 
--- what a general took of a label in these rounds: the order that its last general told him of the rest; of the empty label the scenario's order, which the commander alone relays, loyal or not
+-- what a general took of a label in these rounds: the order that its last general told him of the rest; of the empty
+-- label the scenario's order, which the commander alone relays, loyal or not
 abbrev pub took : Scenario → List (List Letter) → ℕ → List ℕ → ℕ
 took s before g u = heard (messages before) s.order u g
 
@@ -23,7 +24,8 @@ context_bytes numbers = take context_size (flat_map (little_bytes 4) numbers ++ 
 -- the numbers of a context: eight of the relay and its campaign, and the value taken for each label relayed
 abbrev pub context_numbers : Shape → ℕ → List ℕ → List ℕ
 context_numbers shape bound values =
-    shape.generals ∷ bound ∷ shape.general ∷ shape.commander ∷ shape.round ∷ length values ∷ (shape.generals - shape.round) ∷ 0 ∷ values
+    shape.generals ∷ bound ∷ shape.general ∷ shape.commander ∷ shape.round ∷ length values ∷
+    (shape.generals - shape.round) ∷ 0 ∷ values
 
 -- what a general is told when the round behind these begins
 abbrev pub context_of : Scenario → List (List Letter) → ℕ → List ℕ
@@ -33,7 +35,8 @@ context_of s before g =
 
 -- what the general took has 32 bits
 abbrev pub AreWords : Scenario → List (List Letter) → ℕ → Type 0
-AreWords s before g = (rank : ℕ) (u : List ℕ) → slice_get (relay (shape_of s g (suc (length before)))) rank ≡ Some u → took s before g u < 2 ^ 32
+AreWords s before g = (rank : ℕ) (u : List ℕ) → slice_get (relay (shape_of s g (suc (length before)))) rank ≡ Some u →
+    took s before g u < 2 ^ 32
 
 -- a word of a context, of 4 bytes
 abbrev pub number_told : List ℕ → ℕ → ℕ
@@ -61,7 +64,12 @@ IsToldTo g round context = (number_told context at_general ≡ g) × (number_tol
 
 -- the relay of a general in a round, in the campaign that his context tells
 abbrev pub shape_told : ℕ → ℕ → List ℕ → Shape
-shape_told g round context = record { generals = number_told context at_generals; commander = number_told context at_commander; general = g; round = round }
+shape_told g round context = record {
+  generals = number_told context at_generals;
+  commander = number_told context at_commander;
+  general = g;
+  round = round;
+}
 
 -- that relay, where orders are oral, which a context tells by a zero
 abbrev pub relay_told : ℕ → ℕ → List ℕ → Relay
@@ -81,7 +89,16 @@ outbox_told shape context = record { relay = oral shape; rows = rows_told (oral 
 -- a loyal general's letter, with this outbox: he runs nothing
 abbrev pub faithful_letter_with : ℕ → ℕ → List ℕ → Contents → Letter
 faithful_letter_with g round context outbox =
-    record { general = g; round = round; context = context; program = None; transcript = []; steps = 0; outbox = outbox; exited = true }
+    record {
+      general = g;
+      round = round;
+      context = context;
+      program = None;
+      transcript = [];
+      steps = 0;
+      outbox = outbox;
+      exited = true;
+    }
 
 -- a loyal general's letter, from his context alone
 abbrev pub letter_told : ℕ → ℕ → List ℕ → Letter

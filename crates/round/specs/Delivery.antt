@@ -13,14 +13,16 @@ use Rattle.round.specs.declared.front.Front.{Front}
 
 -- for each general the index of his letter, or past the last
 abbrev pub AreLetterIndices : List Letter → List ℕ → Type 0
-AreLetterIndices letters indices = (length indices ≡ 13) × ((g : ℕ) → g < 13 → slice_get letters (slice_index indices g) ≡ letter_of letters g)
+AreLetterIndices letters indices =
+    (length indices ≡ 13) × ((g : ℕ) → g < 13 → slice_get letters (slice_index indices g) ≡ letter_of letters g)
 
 -- what a letter tells p of the label of that rank among those that it relays
 abbrev pub order_in_letter : Option Letter → ℕ → ℕ → Option ℕ
 order_in_letter None rank p = None
 order_in_letter (Some l) rank p = order_at l.outbox.relay l.outbox.rows rank p
 
--- t is filled from some N, which is M except at labels of length k; of these, the ones of rank below i have what the letters tell
+-- t is filled from some N, which is M except at labels of length k; of these, the ones of rank below i have what the
+-- letters tell
 pub record IsPartly (M : Messages) (letters : List Letter) (n c p k i : ℕ) (t : LieutenantTree) : Type 0 where
   pub N : Messages
   pub filled : IsFilled t N
@@ -30,7 +32,8 @@ pub record IsPartly (M : Messages) (letters : List Letter) (n c p k i : ℕ) (t 
 -- if t has the letters' values at the labels of length k and rank below i, u has them at those below j
 pub record FillsFromTo (t : LieutenantTree) (letters : List Letter) (k i j : ℕ) (u : LieutenantTree) : Type 0 where
   pub same : SameCampaign t u
-  pub partly : (M : Messages) → IsPartly M letters t.generals t.commander t.general k i t → IsPartly M letters t.generals t.commander t.general k j u
+  pub partly : (M : Messages) → IsPartly M letters t.generals t.commander t.general k i t →
+      IsPartly M letters t.generals t.commander t.general k j u
 
 -- the first rank of the labels of a length that begin with this one, and the rank past them
 abbrev pub first_under : LieutenantTree → Front → ℕ → ℕ
@@ -51,7 +54,8 @@ pub record IsTold (letters : List Letter) (t u : LieutenantTree) : Type 0 where
 
 -- the letters are of one round of the campaign of so many generals under this commander
 abbrev pub AreOfCampaign : ℕ → ℕ → List Letter → Type 0
-AreOfCampaign n c letters = (i : ℕ) (l : Letter) → slice_get letters i ≡ Some l → l.outbox.relay.shape ≡ record { generals = n; commander = c; general = l.general; round = round_of letters }
+AreOfCampaign n c letters = (i : ℕ) (l : Letter) → slice_get letters i ≡ Some l →
+    l.outbox.relay.shape ≡ record { generals = n; commander = c; general = l.general; round = round_of letters }
 
 -- the trees are of that campaign, and the letters are due to them
 pub record IsDueIn (n c : ℕ) (letters : List Letter) (t : LieutenantTree) : Type 0 where
@@ -65,7 +69,8 @@ AreDueIn n c letters trees = (j : ℕ) (t : LieutenantTree) → slice_get trees 
 
 -- no two trees are of one lieutenant
 abbrev pub AreApart : List LieutenantTree → Type 0
-AreApart trees = (i j : ℕ) (t u : LieutenantTree) → slice_get trees i ≡ Some t → slice_get trees j ≡ Some u → t.general ≡ u.general → i ≡ j
+AreApart trees = (i j : ℕ) (t u : LieutenantTree) → slice_get trees i ≡ Some t → slice_get trees j ≡ Some u →
+    t.general ≡ u.general → i ≡ j
 
 -- for the lieutenant of each tree its index, for each other general an index past the last
 pub record AreTreeIndices (trees : List LieutenantTree) (table : List ℕ) : Type 0 where
@@ -73,9 +78,11 @@ pub record AreTreeIndices (trees : List LieutenantTree) (table : List ℕ) : Typ
   pub found : (i : ℕ) (t : LieutenantTree) → slice_get trees i ≡ Some t → slice_index table t.general ≡ i
   pub only : (g : ℕ) (t : LieutenantTree) → g < 13 → slice_get trees (slice_index table g) ≡ Some t → t.general ≡ g
 
--- a label that is shorter than those of the round of these letters, with what a walk from it down to the labels of that round needs:
+-- a label that is shorter than those of the round of these letters, with what a walk from it down to the labels of that
+-- round needs:
 -- where each general's letter stands, and trees of the campaign to which the letters are due
-pub record IsRoute (n : ℕ) (letters : List Letter) (indices : List ℕ) (k : ℕ) (f : Front) (trees : List LieutenantTree) : Type 0 where
+pub record IsRoute (n : ℕ) (letters : List Letter) (indices : List ℕ) (k : ℕ) (f : Front)
+    (trees : List LieutenantTree) : Type 0 where
   pub few : n ≤ 13
   pub size : k ≡ round_of letters
   pub small : k ≤ 5
@@ -93,17 +100,20 @@ pub record Tellers : Type 0 where
   pub generals : List ℕ
   pub rows : List (Bor RowOrders)
 
--- of those who are off a label the ones below x, each with the label's row in his letter, or one that tells nobody where there is none
+-- of those who are off a label the ones below x, each with the label's row in his letter, or one that tells nobody
+-- where there is none
 pub record AreTellers (letters : List Letter) (n : ℕ) (f : Front) (x : ℕ) (t : Tellers) : Type 0 where
   pub long : length t.generals ≡ 13
   pub wide : length t.rows ≡ 13
   pub few : t.count ≤ x
   pub names : (c : ℕ) (w : List ℕ) → IsFront n c w f → take t.count t.generals ≡ others x w
   pub rows : (i p : ℕ) (r : Bor RowOrders) → i < t.count → slice_get t.rows i ≡ Some r →
-      order_in p r.now ≡ order_in_letter (letter_of letters (slice_index t.generals i)) (slice_index f.ranks (slice_index t.generals i)) p
+      order_in p r.now ≡ order_in_letter (letter_of letters (slice_index t.generals i))
+      (slice_index f.ranks (slice_index t.generals i)) p
 
 -- the rows of those who are off a label, of whom the tree's lieutenant is the one of that number
-pub record AreTellersOf (letters : List Letter) (t : LieutenantTree) (f : Front) (i : ℕ) (rows : List (Bor RowOrders)) : Type 0 where
+pub record AreTellersOf (letters : List Letter) (t : LieutenantTree) (f : Front) (i : ℕ)
+    (rows : List (Bor RowOrders)) : Type 0 where
   pub count : ℕ
   pub generals : List ℕ
   pub all : AreTellers letters t.generals f t.generals (record { count = count; generals = generals; rows = rows })
@@ -113,7 +123,8 @@ pub record AreTellersOf (letters : List Letter) (t : LieutenantTree) (f : Front)
 -- what was told of the labels that begin with this one: nothing where the tree's lieutenant stands on it
 pub record IsToldUnder (letters : List Letter) (k : ℕ) (f : Front) (t u : LieutenantTree) : Type 0 where
   pub on : slice_index_or f.on t.general false ≡ true → u ≡ t
-  pub off : slice_index_or f.on t.general false ≡ false → FillsFromTo t letters k (first_under t f k) (past_under t f k) u
+  pub off : slice_index_or f.on t.general false ≡ false →
+      FillsFromTo t letters k (first_under t f k) (past_under t f k) u
 
 -- a shorter label that lacks the tree's lieutenant, in the round of these letters
 pub record IsWalk (t : LieutenantTree) (letters : List Letter) (indices : List ℕ) (k : ℕ) (f : Front) : Type 0 where

@@ -34,7 +34,11 @@ tells outbox u p = value_beside (λ j. j == p) None (receivers outbox.relay.shap
 
 -- the outbox that tells each receiver of each label that label's value
 abbrev pub telling : Shape → (List ℕ → ℕ) → Contents
-telling shape value = record { relay = oral shape; rows = map (λ u. map (λ p. Some (value u)) (receivers shape u)) (relay shape); entries = [] }
+telling shape value = record {
+  relay = oral shape;
+  rows = map (λ u. map (λ p. Some (value u)) (receivers shape u)) (relay shape);
+  entries = [];
+}
 
 abbrev pub letter_of : List Letter → ℕ → Option Letter
 letter_of letters g = find (λ l. l.general == g) letters
@@ -43,7 +47,8 @@ abbrev pub told_by : Option Letter → List ℕ → ℕ → Option ℕ
 told_by None u p = None
 told_by (Some l) u p = tells l.outbox u p
 
--- who told whom what in these rounds: the last general of a label told it by his letter of the round of its length; of the empty label it means nothing, and nothing asks for it
+-- who told whom what in these rounds: the last general of a label told it by his letter of the round of its length; of
+-- the empty label it means nothing, and nothing asks for it
 unfoldable pub messages : List (List Letter) → Messages
 messages closed w p =
     let last = length w - 1 in

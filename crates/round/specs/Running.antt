@@ -1,4 +1,5 @@
--- How code holds an activation, and what a turn leaves of it and of the board (own). No headline of docs/TRUSTED.md rests on this: what a tick does, World.antt of `world` says.
+-- How code holds an activation, and what a turn leaves of it and of the board (own). No headline of docs/TRUSTED.md
+-- rests on this: what a tick does, World.antt of `world` says.
 use Rattle.std.specs.Prelude.{ℕ, ◌≡◌, ◌≤◌, Bool, true, false, ◌||◌, Option, Some, None, min, All, List, [], ◌∷◌, ◌++◌}
 use Rattle.semantics.specs.declared.request.Request.{Request}
 use Rattle.semantics.specs.State.{State, Outcome, Next, Ask, Exit}
@@ -40,19 +41,32 @@ IsBack _ old new = Unit {0}
 abbrev pub access_entered : ℕ → ℕ → Request → RecordedBoard → RecordedBoard
 access_entered general round request k = record k {
   words = next k.words request;
-  ledger = k.ledger ++ record { general = general; round = round; request = request; reply = reply k.words request } ∷ [];
+  ledger = k.ledger ++ record {
+    general = general;
+    round = round;
+    request = request;
+    reply = reply k.words request;
+  } ∷ [];
 }
 
 -- what a turn leaves of the activation and of the board; a request is served within it
 abbrev pub moved : ℕ → ℕ → Activation → RecordedBoard → Turn → Activation × RecordedBoard
 moved general round a k (Goes b) = (b, k)
-moved general round a k (Asks request answered) = (answered (reply k.words request), access_entered general round request k)
+moved general round a k (Asks request answered) =
+    (answered (reply k.words request), access_entered general round request k)
 moved general round a k Ended = (a, k)
 
 -- an activation by what it is made of
 abbrev pub activation_of : Option ℕ → List Insn → List ℕ → Standing → Bool → Activation
 activation_of patience program context standing over =
-    record { program = program; context = context; relay = standing.relay; patience = patience; state = standing.state; over = over }
+    record {
+      program = program;
+      context = context;
+      relay = standing.relay;
+      patience = patience;
+      state = standing.state;
+      over = over;
+    }
 
 -- so many turns without an access lead from the one to the other
 abbrev pub Silently : Activation → Activation → Type 0
@@ -94,17 +108,23 @@ pub record IsOnWay (general round : ℕ) (start a : Activation) (transcript : Li
   pub fitting : AreFitting transcript
 
 -- it has come here by the accesses that were served to it, behind those served before
-pub record IsWayServed (general round : ℕ) (start a : Activation) (before transcript served : List Access) : Type 0 where
+pub record IsWayServed (general round : ℕ) (start a : Activation)
+    (before transcript served : List Access) : Type 0 where
   pub way : IsOnWay general round start a transcript
   pub whole : served ≡ before ++ transcript
 
--- a run of the program that was given up: what was served to it, behind what was served before, are its accesses as far as it came
+-- a run of the program that was given up: what was served to it, behind what was served before, are its accesses as far
+-- as it came
 abbrev pub IsGivenUp : ℕ → ℕ → List Insn → List ℕ → Option ℕ → List Access → List Access → Type 0
 IsGivenUp general round program context patience before served =
-    (a : Activation) × (transcript : List Access) × IsWayServed general round (started patience program context (relay_told general round context)) a before transcript served
+    (a : Activation) × (transcript : List Access)
+    × IsWayServed general round
+    (started patience program context (relay_told general round context)) a before transcript served
 
--- the letter of an activation that was run to its end, or to its patience: its program, run in this context with just the accesses of its transcript, whose replies fit, has come to its outbox
-pub record IsLived (general round : ℕ) (program : List Insn) (context : List ℕ) (patience : Option ℕ) (l : Letter) : Type 0 where
+-- the letter of an activation that was run to its end, or to its patience: its program, run in this context with just
+-- the accesses of its transcript, whose replies fit, has come to its outbox
+pub record IsLived (general round : ℕ) (program : List Insn) (context : List ℕ) (patience : Option ℕ)
+    (l : Letter) : Type 0 where
   pub own_general : l.general ≡ general
   pub own_round : l.round ≡ round
   pub own_context : l.context ≡ context

@@ -12,7 +12,8 @@ use Rattle.round.specs.Activation.{Activation, started, Turn, Goes, Asks, Ended,
 abbrev pub Onward : (Activation → List Access → Activation → Type 0) → Turn → List Access → Activation → Type 0
 Onward Rest (Goes a) transcript end = Rest a transcript end
 Onward Rest (Asks request answered) [] end = ⊥
-Onward Rest (Asks request answered) (x ∷ transcript) end = (x.request ≡ request) × Rest (answered x.reply) transcript end
+Onward Rest (Asks request answered) (x ∷ transcript) end =
+    (x.request ≡ request) × Rest (answered x.reply) transcript end
 Onward Rest Ended transcript end = ⊥
 
 -- in so many steps it comes from the one to the other, and the board serves just these accesses
@@ -38,10 +39,12 @@ IsRunOf l None =
     (l.transcript ≡ []) × (l.steps ≡ 0) × (l.outbox.rows ≡ rows_told l.outbox.relay l.context) × (l.exited ≡ true)
     × (tells_oral l.context → l.outbox.entries ≡ [])
 IsRunOf l (Some program) =
-    AreFitting l.transcript × (end : Activation) × Runs l.steps (started None program l.context l.outbox.relay) l.transcript end
+    AreFitting l.transcript × (end : Activation)
+    × Runs l.steps (started None program l.context l.outbox.relay) l.transcript end
     × (l.outbox.rows ≡ end.state.outbox) × (l.exited ≡ end.over) × (l.outbox.entries ≡ end.state.entries)
 
--- what every letter keeps: its context tells its general and its round; an unfinished one too, and with no regard to a patience
+-- what every letter keeps: its context tells its general and its round; an unfinished one too, and with no regard to a
+-- patience
 pub record IsLetter (l : Letter) : Type 0 where
   pub context : IsContext l.context
   pub own : IsToldTo l.general l.round l.context

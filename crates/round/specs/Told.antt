@@ -31,15 +31,23 @@ heard_also M letters w p = cond (length w == round_of letters) (told_now letters
 -- the letters are of one round of the tree's campaign
 pub record AreDue (t : LieutenantTree) (given : List Letter) : Type 0 where
   pub round : round_of given < t.bound + 2
-  pub letters : (i : ℕ) (l : Letter) → slice_get given i ≡ Some l → l.outbox.relay.shape ≡ record { generals = t.generals; commander = t.commander; general = l.general; round = round_of given }
+  pub letters : (i : ℕ) (l : Letter) → slice_get given i ≡ Some l →
+      l.outbox.relay.shape ≡ record {
+        generals = t.generals;
+        commander = t.commander;
+        general = l.general;
+        round = round_of given;
+      }
 
 -- the letters are of this round of the campaign
 abbrev pub AreLettersOf : Scenario → ℕ → List Letter → Type 0
-AreLettersOf s round letters = (i : ℕ) (l : Letter) → slice_get letters i ≡ Some l → (l.round ≡ round) × (l.outbox.relay.shape ≡ shape_of s l.general round)
+AreLettersOf s round letters = (i : ℕ) (l : Letter) → slice_get letters i ≡ Some l →
+    (l.round ≡ round) × (l.outbox.relay.shape ≡ shape_of s l.general round)
 
 -- the letters of each of these rounds are of that round
 abbrev pub AreRoundsOf : Scenario → List (List Letter) → Type 0
-AreRoundsOf s before = (i : ℕ) (letters : List Letter) → slice_get before i ≡ Some letters → AreLettersOf s (suc i) letters
+AreRoundsOf s before =
+    (i : ℕ) (letters : List Letter) → slice_get before i ≡ Some letters → AreLettersOf s (suc i) letters
 
 -- how many rounds were told, and each lieutenant's tree, ascending
 pub record ToldSeen : Type 0 where
@@ -54,4 +62,5 @@ lieutenant_at commander i = if nat_lt i commander then i else i + 1
 pub record WasTold (s : Scenario) (before : List (List Letter)) (h : ToldSeen) : Type 0 where
   pub rounds : h.rounds ≡ length before
   pub count : length h.trees + 1 ≡ s.generals
-  pub trees : (i : ℕ) (t : LieutenantTree) → slice_get h.trees i ≡ Some t → IsTreeOf s before (lieutenant_at s.commander i) t
+  pub trees : (i : ℕ) (t : LieutenantTree) → slice_get h.trees i ≡ Some t →
+      IsTreeOf s before (lieutenant_at s.commander i) t

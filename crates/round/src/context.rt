@@ -9,9 +9,9 @@ use label::Shape;
 use mem::Context;
 use std::alloc::{AllocError, Global};
 
-/// Writes the context of a relay in a campaign with this bound, in place of what the vector held, which has room for it:
-/// the values taken for its labels, in the order of their ranks, nothing as RETREAT. It takes no memory. Labels are 990 at
-/// most (13 generals in round 5: 11 * 10 * 9), and behind the eight numbers there is room for 1,016 values.
+/// Writes the context of a relay in a campaign with this bound, in place of what the vector held, which has room for
+/// it: the values taken for its labels, in the order of their ranks, nothing as RETREAT. It takes no memory. Labels are
+/// 990 at most (13 generals in round 5: 11 * 10 * 9), and behind the eight numbers there is room for 1,016 values.
 pub(crate) fn write_context(bytes: &mut Vec<u8>, shape: Shape, bound: u8, values: &[Option<u32>])
     requires room { 4096 ≤ vec_capacity bytes.old }
     requires rounds { shape.round ≤ shape.generals }

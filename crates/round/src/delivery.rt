@@ -80,8 +80,8 @@ fn fill_first(letters: &[Letter], indices: &[usize; 13], commander: u8, trees: &
     }
 }
 
-/// Fills in what the letters tell of all labels of the round's length that begin with this one, which is shorter. `nobody`
-/// stands for the rows of letters that are missing.
+/// Fills in what the letters tell of all labels of the round's length that begin with this one, which is shorter.
+/// `nobody` stands for the rows of letters that are missing.
 fn descend<'a>(
     letters: &'a [Letter],
     nobody: &'a Row,

@@ -55,7 +55,8 @@ impl Front {
 /// The ranks of the label with one general more.
 fn ranks_with(old: [u32; 13], width: u32, below: u32, general: u8) -> [u32; 13]
     ensures wide { length result ≡ 13 }
-    ensures ranks { (x t : ℕ) → x < 13 → t + cond (nat_lt x general) 1 0 ≡ below → slice_index old x * width + t < 2 ^ 32 → slice_index result x ≡ slice_index old x * width + t }
+    ensures ranks { (x t : ℕ) → x < 13 → t + cond (nat_lt x general) 1 0 ≡ below →
+        slice_index old x * width + t < 2 ^ 32 → slice_index result x ≡ slice_index old x * width + t }
 {
     let mut ranks = old;
     for x in 0..13 {

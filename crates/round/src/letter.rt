@@ -7,9 +7,10 @@ use outbox::Outbox;
 use std::alloc::{AllocError, Global};
 use std::marker::Model;
 
-/// What a general was told and did in a round, and whom he told what. Its outbox has the shape that the context tells, and is oral where that tells so;
-/// a traitor's is what his program, run on the context with the transcript's replies, has put, or entered where orders are signed, after so many steps,
-/// a loyal general's tells each receiver what the context has.
+/// What a general was told and did in a round, and whom he told what. Its outbox has the shape that the context tells,
+/// and is oral where that tells so; a traitor's is what his program, run on the context with the transcript's replies,
+/// has put, or entered where orders are signed, after so many steps, a loyal general's tells each receiver what the
+/// context has.
 #[derive(Drop)]
 pub struct Letter {
     /// The general's number.

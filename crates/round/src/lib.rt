@@ -1,4 +1,5 @@
-//! What the generals do in a round: scenarios, letters, contexts and activations. What is said of them stands in specs/.
+//! What the generals do in a round: scenarios, letters, contexts and activations. What is said of them stands in
+//! specs/.
 #![tactic(auto)]
 
 mod accesses;

@@ -26,13 +26,13 @@ use std::sync::Arc;
 use verify::Verified;
 
 /// Runs a general's program in its context to its end, or until it has taken as many steps as the patience says; a
-/// request that is the last of these steps is still served. The letter tells what it did and put; its transcript is just
-/// what the server has served meanwhile.
+/// request that is the last of these steps is still served. The letter tells what it did and put; its transcript is
+/// just what the server has served meanwhile.
 ///
 /// # Errors
 ///
-/// `AllocError` where the memory for the outbox, an access or the transcript is refused. What the server has served until
-/// then is what the program had asked so far.
+/// `AllocError` where the memory for the outbox, an access or the transcript is refused. What the server has served
+/// until then is what the program had asked so far.
 pub fn live<S: Server>(
     alloc: Global,
     server: &mut S,
@@ -47,7 +47,9 @@ pub fn live<S: Server>(
     requires shape { IsShape (shape_told general round context.items) }
     ensures lived { IfOk result (IsLived general round (arc_value program) context.items patience) }
     ensures served { IfOk result (λ letter. S.served server.new ≡ S.served server.old ++ letter.transcript) }
-    ensures given_up { OnErr result (IsGivenUp general round (arc_value program) context.items patience (S.served server.old) (S.served server.new)) }
+    ensures given_up { OnErr result
+        (IsGivenUp general round (arc_value program) context.items patience (S.served server.old)
+        (S.served server.new)) }
 {
     let shape = shape_told(general, round, context.as_slice());
     let mut running = Running::start(program, context, patience, Outbox::new(alloc, shape)?);
@@ -67,9 +69,11 @@ fn go_on<S: Server>(
     round: u32,
 ) -> Result<(), AllocError>
     requires { has_ended running.old ≡ false }
-    ensures way { OnOk result ((start : Activated) (before : List Entry) → IsWayServed general round start running.old before transcript.old.items (S.served server.old) →
+    ensures way { OnOk result ((start : Activated) (before : List Entry) →
+        IsWayServed general round start running.old before transcript.old.items (S.served server.old) →
         IsWayServed general round start running.new before transcript.new.items (S.served server.new)) }
-    ensures given_up { OnErr result ((start : Activated) (before : List Entry) → IsWayServed general round start running.old before transcript.old.items (S.served server.old) →
+    ensures given_up { OnErr result ((start : Activated) (before : List Entry) →
+        IsWayServed general round start running.old before transcript.old.items (S.served server.old) →
         (a : Activated) × (made : List Entry) × IsWayServed general round start a before made (S.served server.new)) }
     ensures later { OnOk result (running.old.state.steps < running.new.state.steps) }
     ensures few { OnOk result (running.old.state.steps < 4096) }

@@ -35,7 +35,8 @@ pub fn are_rounds_of(scenario: &Scenario, rounds: &[Round]) -> bool
 }
 
 fn is_letter_of(scenario: &Scenario, round: u32, letter: &Letter) -> bool
-    ensures { IsTrue result ↔ ((letter.now.round ≡ round) × (letter.now.outbox.relay.shape ≡ shape_of scenario.now letter.now.general round)) }
+    ensures { IsTrue result ↔ ((letter.now.round ≡ round)
+        × (letter.now.outbox.relay.shape ≡ shape_of scenario.now letter.now.general round)) }
 {
     let shape = letter.outbox.shape();
     letter.round == round

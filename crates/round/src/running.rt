@@ -62,7 +62,8 @@ impl Model for Running {
 }
 
 impl Running {
-    /// The program at its start in the context, with an outbox in which nothing is put, nor entered where orders are signed. It has so many steps, or as many as it needs.
+    /// The program at its start in the context, with an outbox in which nothing is put, nor entered where orders are
+    /// signed. It has so many steps, or as many as it needs.
     pub fn start(
         program: Arc<Verified>,
         context: Vec<u8>,
@@ -116,21 +117,22 @@ impl Running {
             )
     }
 
-    /// Tells an activation, before its first step, what its general is told as the next round begins, in place of what it
-    /// was started with. It takes no memory.
+    /// Tells an activation, before its first step, what its general is told as the next round begins, in place of what
+    /// it was started with. It takes no memory.
     pub fn brief(&mut self, told: &Told, scenario: &Scenario, general: u8)
         requires start { self.old ≡ started self.old.patience self.old.program self.old.context self.old.relay }
         requires told { (before : List (List Written)) × WasTold scenario.now before told.now }
         requires left { told.now.rounds ≤ scenario.now.bound }
         requires general { general < scenario.now.generals }
         ensures { (before : List (List Written)) → WasTold scenario.now before told.now
-            → self.new ≡ started self.old.patience self.old.program (context_of scenario.now before general) self.old.relay }
+            → self.new ≡ started self.old.patience self.old.program
+            (context_of scenario.now before general) self.old.relay }
     {
         told.write_context_after(scenario, general, told.rounds(), &mut self.context);
     }
 
-    /// The letter of the activation as it stands, with the accesses that it made. The program, the context and the outbox
-    /// are moved into it.
+    /// The letter of the activation as it stands, with the accesses that it made. The program, the context and the
+    /// outbox are moved into it.
     pub fn into_letter(self, general: u32, round: u32, transcript: Vec<Access>) -> Letter
         requires { IsLetter (letter_left general round transcript.items self) }
         ensures { result ≡ letter_left general round transcript.items self }

@@ -52,8 +52,8 @@ impl Model for Scenario {
 }
 
 impl Scenario {
-    /// The campaign of 2 to 13 generals, with a bound of 0 to 4 that is at least 2 below their number, and a seat for each;
-    /// an activation may take 1 to 4,096 steps, or as many as it needs.
+    /// The campaign of 2 to 13 generals, with a bound of 0 to 4 that is at least 2 below their number, and a seat for
+    /// each; an activation may take 1 to 4,096 steps, or as many as it needs.
     pub fn new(
         generals: u8,
         bound: u8,

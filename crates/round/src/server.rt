@@ -8,9 +8,9 @@ use board::Board;
 use semantics::{Reply, Request};
 use std::alloc::AllocError;
 
-/// Who serves the accesses of a running program: a board, or a board behind a lock, held by one general's thread. It owes that a
-/// reply fits its request, and that what it has served is put down as it was asked and answered, in order; what it
-/// answers, and what others do to its board, is its own affair.
+/// Who serves the accesses of a running program: a board, or a board behind a lock, held by one general's thread. It
+/// owes that a reply fits its request, and that what it has served is put down as it was asked and answered, in order;
+/// what it answers, and what others do to its board, is its own affair.
 pub trait Server {
     /// What it has served so far to those who asked through it, in order; a board's is its ledger.
     ghost served: { Self → List Entry };
@@ -23,7 +23,12 @@ pub trait Server {
     fn serve(&mut self, general: u32, round: u32, request: Request) -> Result<Reply, AllocError>
         ensures fits { IfOk result (λ r. fits request (words_in r) ≡ true) }
         ensures form { IfOk result (λ r. IsReplyTo request r) }
-        ensures entered { IfOk result (λ r. served self.new ≡ served self.old ++ record { general = general; round = round; request = request; reply = words_in r } ∷ []) }
+        ensures entered { IfOk result (λ r. served self.new ≡ served self.old ++ record {
+          general = general;
+          round = round;
+          request = request;
+          reply = words_in r;
+        } ∷ []) }
         ensures unserved { OnErr result (served self.new ≡ served self.old) };
 }
 

@@ -35,7 +35,12 @@ pub(crate) fn list_tellers<'a>(
     ensures few { result ≤ 13 }
     ensures long { length names.new ≡ 13 }
     ensures wide { length rows.new ≡ 13 }
-    ensures tellers { AreLetterIndices letters.now indices.now → AreTellers letters.now generals front.now generals (record { count = result; generals = names.new; rows = rows.new }) }
+    ensures tellers { AreLetterIndices letters.now indices.now →
+        AreTellers letters.now generals front.now generals (record {
+          count = result;
+          generals = names.new;
+          rows = rows.new;
+        }) }
 {
     let mut count = 0;
     for general in 0..generals {
@@ -50,10 +55,13 @@ pub(crate) fn list_tellers<'a>(
 /// Fills in what the generals off a label tell the tree's lieutenant of it, each with himself behind it. The
 /// lieutenant is the one of number `own` among them.
 pub(crate) fn fill_children(own: usize, rows: &[&Row], size: u8, tree: &mut Tree, front: &Front)
-    requires told { (letters : List LetterSeen) × (indices : List ℕ) × IsWalk tree.old letters indices size front.now × AreTellersOf letters tree.old front.now own rows.now }
+    requires told { (letters : List LetterSeen) × (indices : List ℕ) × IsWalk tree.old letters indices size front.now
+        × AreTellersOf letters tree.old front.now own rows.now }
     requires last { front.now.size + 1 ≡ size }
-    ensures { (letters : List LetterSeen) (indices : List ℕ) → IsWalk tree.old letters indices size front.now → AreTellersOf letters tree.old front.now own rows.now
-        → FillsFromTo tree.old letters size (first_under tree.old front.now size) (past_under tree.old front.now size) tree.new }
+    ensures { (letters : List LetterSeen) (indices : List ℕ) → IsWalk tree.old letters indices size front.now →
+        AreTellersOf letters tree.old front.now own rows.now
+        → FillsFromTo tree.old letters size (first_under tree.old front.now size)
+        (past_under tree.old front.now size) tree.new }
 {
     let space = tree.space();
     let width = usize::from(space.generals).saturating_sub(usize::from(size));
@@ -66,7 +74,8 @@ pub(crate) fn fill_children(own: usize, rows: &[&Row], size: u8, tree: &mut Tree
 /// What the row at this index tells a receiver, where the row of number `own` is passed over.
 fn order_past(rows: &[&Row], own: usize, index: usize, receiver: u8) -> Option<u32>
     requires { index + 1 < length rows.now }
-    ensures { (row : Bor RowOrders) → slice_get rows.now (lieutenant_at own index) ≡ Some row → result ≡ order_in receiver row.now }
+    ensures { (row : Bor RowOrders) → slice_get rows.now (lieutenant_at own index) ≡ Some row →
+        result ≡ order_in receiver row.now }
 {
     let number = if index < own { index } else { index + 1 };
     rows[number].order(u32::from(receiver))
@@ -80,7 +89,8 @@ pub(crate) fn row_in<'a>(
     rank: u32,
 ) -> Option<&'a Row>
     requires { general < 13 }
-    ensures { (receiver : ℕ) → AreLetterIndices letters.now indices.now → order_of_row result receiver ≡ order_in_letter (letter_of letters.now general) rank receiver }
+    ensures { (receiver : ℕ) → AreLetterIndices letters.now indices.now →
+        order_of_row result receiver ≡ order_in_letter (letter_of letters.now general) rank receiver }
 {
     match letters.get(indices[usize::from(general)]) {
         Some(letter) => letter.outbox.orders(rank),

@@ -68,7 +68,8 @@ impl Told {
         requires told { (before : List (List LetterSeen)) × WasTold scenario.now before self.old }
         requires left { self.old.rounds ≤ scenario.now.bound }
         requires letters { AreLettersOf scenario.now (suc self.old.rounds) letters.now }
-        ensures { (before : List (List LetterSeen)) → WasTold scenario.now before self.old → WasTold scenario.now (before ++ letters.now ∷ []) self.new }
+        ensures { (before : List (List LetterSeen)) → WasTold scenario.now before self.old →
+            WasTold scenario.now (before ++ letters.now ∷ []) self.new }
     {
         scenario.recall();
         deliver_to_all(
@@ -82,8 +83,10 @@ impl Told {
 
     /// Takes back the letters of the round that was told last. It takes no memory.
     pub fn forget(&mut self, scenario: &Scenario)
-        requires told { (before : List (List LetterSeen)) × (letters : List LetterSeen) × WasTold scenario.now (before ++ letters ∷ []) self.old }
-        ensures { (before : List (List LetterSeen)) → (letters : List LetterSeen) → WasTold scenario.now (before ++ letters ∷ []) self.old → WasTold scenario.now before self.new }
+        requires told { (before : List (List LetterSeen)) × (letters : List LetterSeen)
+            × WasTold scenario.now (before ++ letters ∷ []) self.old }
+        ensures { (before : List (List LetterSeen)) → (letters : List LetterSeen) →
+            WasTold scenario.now (before ++ letters ∷ []) self.old → WasTold scenario.now before self.new }
     {
         scenario.recall();
         for index in 0..self.trees.len() {
@@ -106,8 +109,10 @@ impl Told {
         requires told { (before : List (List LetterSeen)) × WasTold scenario.now before self.now }
         requires left { self.now.rounds ≤ scenario.now.bound }
         requires general { general < scenario.now.generals }
-        ensures context { IfOk result (λ bytes. (before : List (List LetterSeen)) → WasTold scenario.now before self.now → bytes.items ≡ context_of scenario.now before general) }
-        ensures words { OnOk result ((before : List (List LetterSeen)) → WasTold scenario.now before self.now → AreWords scenario.now before general) }
+        ensures context { IfOk result (λ bytes. (before : List (List LetterSeen)) →
+            WasTold scenario.now before self.now → bytes.items ≡ context_of scenario.now before general) }
+        ensures words { OnOk result ((before : List (List LetterSeen)) → WasTold scenario.now before self.now →
+            AreWords scenario.now before general) }
     {
         self.context_after(alloc, scenario, general, self.rounds)
     }
@@ -129,8 +134,10 @@ impl Told {
         requires passed { rounds ≤ self.now.rounds }
         requires left { rounds ≤ scenario.now.bound }
         requires general { general < scenario.now.generals }
-        ensures context { IfOk result (λ bytes. (before : List (List LetterSeen)) → WasTold scenario.now before self.now → bytes.items ≡ context_of scenario.now (take rounds before) general) }
-        ensures words { OnOk result ((before : List (List LetterSeen)) → WasTold scenario.now before self.now → AreWords scenario.now (take rounds before) general) }
+        ensures context { IfOk result (λ bytes. (before : List (List LetterSeen)) →
+            WasTold scenario.now before self.now → bytes.items ≡ context_of scenario.now (take rounds before) general) }
+        ensures words { OnOk result ((before : List (List LetterSeen)) → WasTold scenario.now before self.now →
+            AreWords scenario.now (take rounds before) general) }
     {
         let mut bytes = Vec::with_capacity(alloc, Context::BYTES)?;
         self.write_context_after(scenario, general, rounds, &mut bytes);
@@ -150,8 +157,10 @@ impl Told {
         requires passed { rounds ≤ self.now.rounds }
         requires left { rounds ≤ scenario.now.bound }
         requires general { general < scenario.now.generals }
-        ensures context { (before : List (List LetterSeen)) → WasTold scenario.now before self.now → bytes.new.items ≡ context_of scenario.now (take rounds before) general }
-        ensures words { (before : List (List LetterSeen)) → WasTold scenario.now before self.now → AreWords scenario.now (take rounds before) general }
+        ensures context { (before : List (List LetterSeen)) → WasTold scenario.now before self.now →
+            bytes.new.items ≡ context_of scenario.now (take rounds before) general }
+        ensures words { (before : List (List LetterSeen)) → WasTold scenario.now before self.now →
+            AreWords scenario.now (take rounds before) general }
     {
         let bound = scenario.bound();
         if rounds == 0 {

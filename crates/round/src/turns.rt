@@ -62,8 +62,10 @@ fn many(activation: &mut Activation, verified: &Verified, bytes: &[u8], limit: u
     requires context { IsContext bytes.now }
     requires of_run { IsOfRun verified.now bytes.now activation.old }
     ensures relay { activation.new.relay ≡ activation.old.relay }
-    ensures went { Silently (activation_of None verified.now bytes.now activation.old false) (activation_of None verified.now bytes.now activation.new result) }
-    ensures pauses { Pauses limit (activation_of None verified.now bytes.now activation.new result) (turn (activation_of None verified.now bytes.now activation.new result)) }
+    ensures went { Silently (activation_of None verified.now bytes.now activation.old false)
+        (activation_of None verified.now bytes.now activation.new result) }
+    ensures pauses { Pauses limit (activation_of None verified.now bytes.now activation.new result)
+        (turn (activation_of None verified.now bytes.now activation.new result)) }
     ensures of_run { result ≡ false → IsOfRun verified.now bytes.now activation.new }
     ensures within { (m : ℕ) → activation.old.state.steps ≤ m → limit ≤ m → activation.new.state.steps ≤ m }
 {
@@ -83,7 +85,8 @@ pub(crate) fn one(activation: &mut Activation, verified: &Verified, bytes: &[u8]
     requires context { IsContext bytes.now }
     requires of_run { IsOfRun verified.now bytes.now activation.old }
     ensures relay { activation.new.relay ≡ activation.old.relay }
-    ensures stops { Stopped (step verified.now bytes.now activation.old.relay activation.old.state) result activation.new.state }
+    ensures stops { Stopped (step verified.now bytes.now activation.old.relay activation.old.state) result
+        activation.new.state }
     ensures back { IsBack result activation.old.state activation.new.state }
     ensures counted { IsCounted result activation.new.state }
     ensures one { activation.new.state.steps ≡ activation.old.state.steps + 1 }
@@ -106,7 +109,9 @@ fn serve(
 ) -> Result<(), AllocError>
     requires { HasAsked activation.old.state }
     ensures relay { activation.new.relay ≡ activation.old.relay }
-    ensures done { OnOk result ((activation.new.state ≡ resumed request (reply board.old.words request) activation.old.state) × (board.new ≡ access_entered general round request board.old)) }
+    ensures done { OnOk result
+        ((activation.new.state ≡ resumed request (reply board.old.words request) activation.old.state)
+        × (board.new ≡ access_entered general round request board.old)) }
     ensures steps { OnOk result (activation.new.state.steps ≡ activation.old.state.steps) }
     ensures undone { OnErr result ((activation.new.state ≡ before activation.old.state) × (board.new ≡ board.old)) }
     ensures of_run { (program : List Insn) (context : List ℕ) →

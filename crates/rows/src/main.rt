@@ -1,6 +1,6 @@
 //! `rows`, which asks the laboratory what the rows of the tables in data/ ask, by the same calls that the program
-//! makes, and says which rows are answered otherwise. `rows NAME..` takes the tables of these names; docs/TESTING.md says
-//! how one is written.
+//! makes, and says which rows are answered otherwise. `rows NAME..` takes the tables of these names; docs/TESTING.md
+//! says how one is written.
 #![tactic(auto)]
 
 mod asking;

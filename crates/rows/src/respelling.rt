@@ -40,7 +40,8 @@ fn put_line(alloc: Global, out: &mut String, object: &Map<String, Value>) -> Res
     Ok(())
 }
 
-/// The words of an object's line: `$NAME` stands for a member, `$NAME..` for those of a list, and `$NAME.` for them, joined by dots.
+/// The words of an object's line: `$NAME` stands for a member, `$NAME..` for those of a list, and `$NAME.` for them,
+/// joined by dots.
 fn words(object: &Map<String, Value>) -> Result<&'static str> {
     let Some(line) = object.get("line").and_then(Value::as_str) else {
         bail!("an object that does not say what it is");

@@ -50,8 +50,8 @@ impl Told {
     }
 }
 
-/// What the program answers to these words with these files, with this standard output: of several requests one behind the
-/// other, and the worst status. A file that it writes is put with them.
+/// What the program answers to these words with these files, with this standard output: of several requests one behind
+/// the other, and the worst status. A file that it writes is put with them.
 pub fn answered<R: Threads + Wait + Sync + AllocGlobal>(
     rt: &R,
     words: &[&str],
@@ -93,8 +93,8 @@ fn answered_one<R: Threads + Wait + Sync + AllocGlobal>(
     written(alloc, &request.task, shelf, told)
 }
 
-/// Puts with the files what a task that is done writes besides its answer: the schedule of a seed, or the outcomes of an
-/// exploration.
+/// Puts with the files what a task that is done writes besides its answer: the schedule of a seed, or the outcomes of
+/// an exploration.
 fn keep(alloc: Global, task: &Task, shelf: &mut Shelf) -> Result<()> {
     if let (Some(seed), Some(name)) = (task.seed(), task.schedule_target()) {
         let text = seeded(alloc, seed)?;

@@ -148,7 +148,8 @@ pub record Head : Type 0 where
   pub rule : Rule
   pub messages : Messages
 
--- 2 to 13 generals, a bound of at most 4 and at most all generals but 2, the commander a general, a patience of 1 to 4,096 steps
+-- 2 to 13 generals, a bound of at most 4 and at most all generals but 2, the commander a general, a patience of 1 to
+-- 4,096 steps
 pub record IsHeadWithin (generals bound commander : ℕ) (patience : Option ℕ) : Type 0 where
   pub few : generals ≤ 13
   pub rounds : bound ≤ 4

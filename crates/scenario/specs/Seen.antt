@@ -31,7 +31,8 @@ Makes g source (Err _) = ⊥
 -- the program, accepted, or why it is not
 abbrev pub Accepts : ℕ → List Insn → Result (List Insn) ScenarioError → Type 0
 Accepts g program (Ok accepted) = (accepted ≡ program) × (judged program ≡ None)
-Accepts g program (Err (errors.Program h (Verifier reason unit))) = (h ≡ g) × (judged program ≡ Some (verifier.At reason unit))
+Accepts g program (Err (errors.Program h (Verifier reason unit))) =
+    (h ≡ g) × (judged program ≡ Some (verifier.At reason unit))
 Accepts g program (Err errors.Memory) = Unit {0}
 Accepts g program (Err _) = ⊥
 

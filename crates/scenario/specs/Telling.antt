@@ -45,5 +45,6 @@ told Toml = codes "S1"
 told (Unknown None key) = codes "S2 " ++ string_bytes key
 told (Unknown (Some index) key) = codes "S2 traitor[" ++ decimal index ++ codes "]." ++ string_bytes key
 told (At fault place) = code_of fault ++ codes " " ++ place_text place
-told (Program general fault) = scenario_code fault ++ codes " traitor " ++ decimal general ++ codes " " ++ program_text fault
+told (Program general fault) =
+    scenario_code fault ++ codes " traitor " ++ decimal general ++ codes " " ++ program_text fault
 told Memory = codes "out of memory"

@@ -32,8 +32,10 @@ IsProgramOf (Hex text) program = (bytes : List ℕ) × (decode_of text ≡ Ok by
 abbrev pub IsFaultOf : ProgramFault → Source → Type 0
 IsFaultOf (faults.Asm fault line) (Assembly text) = said text ≡ Err (assembler.At fault line)
 IsFaultOf faults.Hex (Hex text) = IsErr (decode_of text)
-IsFaultOf (faults.Code fault unit) (Hex text) = (bytes : List ℕ) × (decode_of text ≡ Ok bytes) × IsFirstFault bytes fault unit
-IsFaultOf (faults.Verifier reason unit) source = (program : List Insn) × IsProgramOf source program × (judged program ≡ Some (verifier.At reason unit))
+IsFaultOf (faults.Code fault unit) (Hex text) =
+    (bytes : List ℕ) × (decode_of text ≡ Ok bytes) × IsFirstFault bytes fault unit
+IsFaultOf (faults.Verifier reason unit) source =
+    (program : List Insn) × IsProgramOf source program × (judged program ≡ Some (verifier.At reason unit))
 IsFaultOf _ _ = ⊥
 
 -- the answer to one table: the general and his program, which the verifier accepts, or its first fault
@@ -50,16 +52,28 @@ abbrev pub Stopped : {X : Type 0} → Result Table Flaw → Result X ScenarioErr
 Stopped read (Ok x) = ⊥
 Stopped read (Err e) = TableGives read (Err e)
 
--- the tables from this one on: one of them stops, or each seats its general, and then the answer is what is made of the seats
+-- the tables from this one on: one of them stops, or each seats its general, and then the answer is what is made of the
+-- seats
 abbrev pub Answers : {X : Type 0} → (Seats → X) → ℕ → ℕ → Seats → Items → Result X ScenarioError → Type 0
 Answers made n i seats no_items (Ok x) = x ≡ made seats
 Answers made n i seats no_items (Err e) = e ≡ errors.Memory
 Answers made n i seats (item d ds) r =
-    Stopped (table n seats i d) r ⊎ ((seated : ℕ × List Insn) × TableGives (table n seats i d) (Ok seated) × Answers made n (i + 1) (slice_set seats seated.0 (Some seated.1)) ds r)
+    Stopped (table n seats i d) r
+    ⊎ ((seated : ℕ × List Insn) × TableGives (table n seats i d) (Ok seated)
+    × Answers made n (i + 1) (slice_set seats seated.0 (Some seated.1)) ds r)
 
 -- the scenario of a campaign's numbers and seats
 abbrev pub scenario_of : Head → Seats → Scenario
-scenario_of h seats = record { generals = h.generals; bound = h.bound; commander = h.commander; order = h.order; board = h.board; programs = seats; patience = h.patience; rule = h.rule }
+scenario_of h seats = record {
+  generals = h.generals;
+  bound = h.bound;
+  commander = h.commander;
+  order = h.order;
+  board = h.board;
+  programs = seats;
+  patience = h.patience;
+  rule = h.rule;
+}
 
 -- a scenario whose orders are sent so
 abbrev pub campaign_by : Messages → Scenario → Campaign
@@ -88,7 +102,8 @@ Headed made (Err flaw) ms (Err e) = Fails {Y = Head} e (Err flaw)
 
 -- the answer to a text: what is made of the head and the seats that its table tells, or the first fault, in the table's
 -- order; no other answer but want of memory
-abbrev pub Answered : {X : Type 0} → (Head → Seats → X) → (Members → Result Head Flaw) → Option Members → Result X ScenarioError → Type 0
+abbrev pub Answered : {X : Type 0} → (Head → Seats → X) → (Members → Result Head Flaw) → Option Members →
+    Result X ScenarioError → Type 0
 Answered made head_of None (Err errors.Toml) = Unit {0}
 Answered made head_of None (Err errors.Memory) = Unit {0}
 Answered made head_of None _ = ⊥

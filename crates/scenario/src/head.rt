@@ -21,7 +21,16 @@ impl Model for Head {
 
     ghost Value = { Numbers };
 
-    ghost view = { λ h. record { generals = h.generals; bound = h.bound; commander = h.commander; order = h.order; board = h.board; patience = h.patience; rule = h.rule; messages = h.messages } };
+    ghost view = { λ h. record {
+      generals = h.generals;
+      bound = h.bound;
+      commander = h.commander;
+      order = h.order;
+      board = h.board;
+      patience = h.patience;
+      rule = h.rule;
+      messages = h.messages;
+    } };
 
     ghost invariant = { λ h. IsHeadWithin h.generals h.bound h.commander h.patience };
 }

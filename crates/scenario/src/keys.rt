@@ -164,7 +164,8 @@ pub fn optional_number(
     most: u32,
     value: Option<&Value>,
 ) -> Result<Option<u32>, ScenarioError>
-    ensures value { Gives (λ n. n) result (optional_number place least most (option_map (λ v. view v.now) value.entry)) }
+    ensures value { Gives (λ n. n) result
+        (optional_number place least most (option_map (λ v. view v.now) value.entry)) }
     ensures within { IfOk result (λ o. IfSome o (λ n. (least ≤ n) × (n ≤ most))) }
     ensures fault { IfErr result (λ e. e ≢ Memory) }
 {

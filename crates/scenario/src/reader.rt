@@ -233,8 +233,8 @@ fn unparsed(is_memory: bool) -> ScenarioError
 /// # Errors
 ///
 /// The first fault, with its place: that the text is no TOML, then an unknown key at the top (the least by bytes), then
-/// `generals`, `bound`, `commander`, `order`, `board`, `patience`, `rule`, `messages` (a signed campaign is refused there: S4),
-/// the list `traitor`, and its tables in order.
+/// `generals`, `bound`, `commander`, `order`, `board`, `patience`, `rule`, `messages` (a signed campaign is refused
+/// there: S4), the list `traitor`, and its tables in order.
 pub fn read(alloc: Global, text: &str) -> Result<Scenario, ScenarioError>
     ensures { Reads (parse_document text.now) result }
 {
@@ -248,7 +248,8 @@ pub fn read(alloc: Global, text: &str) -> Result<Scenario, ScenarioError>
 ///
 /// # Errors
 ///
-/// The first fault, with its place, in the order of `read`; behind `messages` that a signed campaign has a key `rule` (S2).
+/// The first fault, with its place, in the order of `read`; behind `messages` that a signed campaign has a key `rule`
+/// (S2).
 pub fn read_any(alloc: Global, text: &str) -> Result<Campaign, ScenarioError>
     ensures { ReadsAny (parse_document text.now) result }
 {

@@ -25,7 +25,8 @@ fn written<'a>(
     asm: Option<&'a Value>,
     code: Option<&'a Value>,
 ) -> Result<Written<'a>, ScenarioError>
-    ensures value { Gives source_of result (source index (option_map (λ v. view v.now) asm.entry) (option_map (λ v. view v.now) code.entry)) }
+    ensures value { Gives source_of result
+        (source index (option_map (λ v. view v.now) asm.entry) (option_map (λ v. view v.now) code.entry)) }
     ensures fault { IfErr result (λ e. e ≢ Memory) }
 {
     match (asm, code) {
@@ -65,7 +66,8 @@ fn once(place: Place, seats: &[Seat], general: u8) -> Result<(), ScenarioError>
 
 /// An element of the list, which is a table.
 fn as_table(index: usize, value: &Value) -> Result<&Table, ScenarioError>
-    ensures value { Gives (λ t. table_view t.now) result (ok_or (as_table (view value.now)) (faulty Fault.Kind (Place.Table index))) }
+    ensures value { Gives (λ t. table_view t.now) result
+        (ok_or (as_table (view value.now)) (faulty Fault.Kind (Place.Table index))) }
     ensures fault { IfErr result (λ e. e ≢ Memory) }
 {
     match value.as_table() {
@@ -84,7 +86,10 @@ fn in_table<'a>(
     table: &'a Table,
 ) -> Result<(u8, Written<'a>), ScenarioError>
     requires { length seats.now ≡ generals }
-    ensures gives { Gives (λ t. record { general = t.0; source = source_of t.1 }) result (table_in generals seats.now index (table_view table.now)) }
+    ensures gives { Gives (λ t. record {
+      general = t.0;
+      source = source_of t.1;
+    }) result (table_in generals seats.now index (table_view table.now)) }
     ensures small { IfOk result (λ t. t.0 < generals) }
 {
     entry_is_known(alloc, index, table)?;
@@ -105,7 +110,10 @@ fn table<'a>(
     value: &'a Value,
 ) -> Result<(u8, Written<'a>), ScenarioError>
     requires { length seats.now ≡ generals }
-    ensures gives { Gives (λ t. record { general = t.0; source = source_of t.1 }) result (table generals seats.now index (view value.now)) }
+    ensures gives { Gives (λ t. record {
+      general = t.0;
+      source = source_of t.1;
+    }) result (table generals seats.now index (view value.now)) }
     ensures small { IfOk result (λ t. t.0 < generals) }
 {
     in_table(alloc, generals, seats, index, as_table(index, value)?)

@@ -11,7 +11,8 @@ abbrev pub is_unsigned : ℕ → Option ℕ → Bool
 is_unsigned g None = false
 is_unsigned g (Some signers) = not (bit_at signers g == 1)
 
--- the commander signs orders, and who holds a chain that he has not signed passes it on; nothing is signed where orders are oral
+-- the commander signs orders, and who holds a chain that he has not signed passes it on; nothing is signed where orders
+-- are oral
 abbrev pub may_send : Kind → Shape → Entry → Bool
 may_send Oral shape entry = false
 may_send (Signed held) shape (Sign order receivers) = shape.general == shape.commander

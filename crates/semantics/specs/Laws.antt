@@ -18,21 +18,28 @@ use Rattle.semantics.specs.Whole.{IsWhole, HasWords, Each, CountsOnce}
 
 -- each step is counted once
 abbrev pub StepsAreCounted : Type 0
-StepsAreCounted = (program : List Insn) (context : List ℕ) (relay : Relay) (s : State) → CountsOnce s (step program context relay s)
+StepsAreCounted =
+    (program : List Insn) (context : List ℕ) (relay : Relay) (s : State) → CountsOnce s (step program context relay s)
 
--- entry, step and answer leave a state whole; so every state that is reached is whole, and of well-formed instructions in a campaign's setting its numbers have 64 bits and its bytes 8
+-- entry, step and answer leave a state whole; so every state that is reached is whole, and of well-formed instructions
+-- in a campaign's setting its numbers have 64 bits and its bytes 8
 pub record StatesStayWhole : Type 0 where
   pub at_entry : (relay : Relay) → IsWhole (entry (empty_outbox relay))
-  pub stepped : (program : List Insn) (context : List ℕ) (relay : Relay) (s : State) → IsWhole s → Each IsWhole (step program context relay s)
+  pub stepped : (program : List Insn) (context : List ℕ) (relay : Relay) (s : State) → IsWhole s →
+      Each IsWhole (step program context relay s)
   pub answered : (request : Request) (words : List ℕ) (s : State) → IsWhole s → IsWhole (resumed request words s)
-  pub reached : (program : List Insn) (context : List ℕ) (relay : Relay) (answers : List (List ℕ)) (s : State) → Reached program context relay answers s → IsWhole s
-  pub words : (program : List Insn) (context : List ℕ) (relay : Relay) (answers : List (List ℕ)) (s : State) → AllByRecursion IsInsn program → IsContext context → IsRelay relay →
+  pub reached : (program : List Insn) (context : List ℕ) (relay : Relay) (answers : List (List ℕ)) (s : State) →
+      Reached program context relay answers s → IsWhole s
+  pub words : (program : List Insn) (context : List ℕ) (relay : Relay) (answers : List (List ℕ)) (s : State) →
+      AllByRecursion IsInsn program → IsContext context → IsRelay relay →
       Reached program context relay answers s → HasWords s
 
 -- what has exited, trapped or waits stays so under any further steps
 abbrev pub RunsStayOver : Type 0
-RunsStayOver = (program : List Insn) (context : List ℕ) (relay : Relay) (k j : ℕ) (answers : List (List ℕ)) (s : State) →
-    IsFinal (onwards program context relay k answers s) → onwards program context relay (k + j) answers s ≡ onwards program context relay k answers s
+RunsStayOver =
+    (program : List Insn) (context : List ℕ) (relay : Relay) (k j : ℕ) (answers : List (List ℕ)) (s : State) →
+    IsFinal (onwards program context relay k answers s) →
+    onwards program context relay (k + j) answers s ≡ onwards program context relay k answers s
 
 -- a state that is reached is where the run of its answers stands after its steps
 abbrev pub ReachedIsRun : Type 0
@@ -42,19 +49,25 @@ ReachedIsRun = (program : List Insn) (context : List ℕ) (relay : Relay) (answe
 -- a program is sound exactly where its entry is safe for as many steps as it has instructions
 pub record SoundIsSafeAtEntry : Type 0 where
   pub sound : (program : List Insn) →
-      ((context : List ℕ) (relay : Relay) → IsContext context → IsRelay relay → IsSafe program context relay (length program) (entry (empty_outbox relay))) →
+      ((context : List ℕ) (relay : Relay) → IsContext context → IsRelay relay →
+      IsSafe program context relay (length program) (entry (empty_outbox relay))) →
       IsSound program
-  pub safe : (program : List Insn) (context : List ℕ) (relay : Relay) → IsSound program → IsContext context → IsRelay relay →
+  pub safe : (program : List Insn) (context : List ℕ) (relay : Relay) → IsSound program → IsContext context →
+      IsRelay relay →
       IsSafe program context relay (length program) (entry (empty_outbox relay))
 
--- every state that a sound program reaches is safe for the steps that are left, and has taken fewer steps than the program has instructions
+-- every state that a sound program reaches is safe for the steps that are left, and has taken fewer steps than the
+-- program has instructions
 pub record ReachedIsSafe : Type 0 where
-  pub safe : (program : List Insn) (context : List ℕ) (relay : Relay) (answers : List (List ℕ)) (s : State) → IsSound program → IsContext context → IsRelay relay →
+  pub safe : (program : List Insn) (context : List ℕ) (relay : Relay) (answers : List (List ℕ)) (s : State) →
+      IsSound program → IsContext context → IsRelay relay →
       Reached program context relay answers s → IsSafe program context relay (length program - s.steps) s
-  pub fewer : (program : List Insn) (context : List ℕ) (relay : Relay) (answers : List (List ℕ)) (s : State) → IsSound program → IsContext context → IsRelay relay →
+  pub fewer : (program : List Insn) (context : List ℕ) (relay : Relay) (answers : List (List ℕ)) (s : State) →
+      IsSound program → IsContext context → IsRelay relay →
       Reached program context relay answers s → s.steps < length program
 
--- in every state that is reached there are at most 8 entries, and each is of a chain that the general can send; where orders are oral there is no entry, and where they are signed no order is put
+-- in every state that is reached there are at most 8 entries, and each is of a chain that the general can send; where
+-- orders are oral there is no entry, and where they are signed no order is put
 pub record EntriesAreFew : Type 0 where
   pub few : (program : List Insn) (context : List ℕ) (relay : Relay) (answers : List (List ℕ)) (s : State) →
       Reached program context relay answers s → length s.entries ≤ most_entries
@@ -62,5 +75,6 @@ pub record EntriesAreFew : Type 0 where
       Reached program context relay answers s → AllByRecursion (λ entry. is_sendable relay entry ≡ true) s.entries
   pub spoken : (program : List Insn) (context : List ℕ) (shape : Shape) (answers : List (List ℕ)) (s : State) →
       Reached program context (oral shape) answers s → s.entries ≡ []
-  pub written : (program : List Insn) (context : List ℕ) (shape : Shape) (held : List ℕ) (answers : List (List ℕ)) (s : State) →
+  pub written : (program : List Insn) (context : List ℕ) (shape : Shape) (held : List ℕ) (answers : List (List ℕ))
+      (s : State) →
       Reached program context (signed shape held) answers s → s.outbox ≡ []

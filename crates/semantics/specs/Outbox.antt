@@ -12,10 +12,15 @@ pub record Place : Type 0 where
   pub number : ℕ
   pub receiver : ℕ
 
--- the places, in rows: a row for each label relayed, in it the receivers in ascending order; none where orders are signed
+-- the places, in rows: a row for each label relayed, in it the receivers in ascending order; none where orders are
+-- signed
 abbrev pub places : Relay → List (List Place)
 places r =
-    map (λ label. map (λ p. record { rank = label.0; number = p.0; receiver = p.1 }) (enumerate_from 0 (receivers r.shape label.1)))
+    map (λ label. map (λ p. record {
+      rank = label.0;
+      number = p.0;
+      receiver = p.1;
+    }) (enumerate_from 0 (receivers r.shape label.1)))
     (enumerate_from 0 (relayed r))
 
 -- the outbox in which nothing has been put
@@ -51,7 +56,8 @@ along_row rank orders place = if place.rank == rank then slice_get orders place.
 abbrev pub at_receiver : ℕ → ℕ → Choice
 at_receiver receiver order place = if place.receiver == receiver then Some order else None
 
--- the value that the general took for the label of a rank, as the context has it: behind eight numbers of 4 bytes, 4 bytes for each rank
+-- the value that the general took for the label of a rank, as the context has it: behind eight numbers of 4 bytes, 4
+-- bytes for each rank
 abbrev pub taken_value : List ℕ → ℕ → ℕ
 taken_value context rank = little_number (slice_range context (32 + 4 * rank) (36 + 4 * rank))
 

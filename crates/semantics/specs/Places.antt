@@ -12,11 +12,16 @@ RelaysAreFew = (relay : Relay) → IsRelay relay → length (relayed relay) ≤ 
 pub record FewPlacesAreSet : Type 0 where
   pub sent : (relay : Relay) (label receiver order : ℕ) → places_set relay (at_place label receiver order) ≤ 1
   pub along : (relay : Relay) (label : ℕ) (orders : List ℕ) → places_set relay (along_row label orders) ≤ length orders
-  pub swayed : (relay : Relay) (receiver order : ℕ) → places_set relay (at_receiver receiver order) ≤ length (relayed relay)
-  pub taken : (relay : Relay) (context : List ℕ) (receiver : ℕ) → places_set relay (as_taken context receiver) ≤ length (relayed relay)
+  pub swayed : (relay : Relay) (receiver order : ℕ) →
+      places_set relay (at_receiver receiver order) ≤ length (relayed relay)
+  pub taken : (relay : Relay) (context : List ℕ) (receiver : ℕ) →
+      places_set relay (as_taken context receiver) ≤ length (relayed relay)
 
 -- the ranges of what the helpers return
 pub record RangesAreKept : Type 0 where
-  pub along : (relay : Relay) (label : ℕ) (orders : List ℕ) → length orders ≤ most_generals → places_set relay (along_row label orders) ≤ most_generals
-  pub swayed : (relay : Relay) (receiver order : ℕ) → IsRelay relay → places_set relay (at_receiver receiver order) ≤ most_labels
-  pub taken : (relay : Relay) (context : List ℕ) (receiver : ℕ) → IsRelay relay → places_set relay (as_taken context receiver) ≤ most_labels
+  pub along : (relay : Relay) (label : ℕ) (orders : List ℕ) → length orders ≤ most_generals →
+      places_set relay (along_row label orders) ≤ most_generals
+  pub swayed : (relay : Relay) (receiver order : ℕ) → IsRelay relay →
+      places_set relay (at_receiver receiver order) ≤ most_labels
+  pub taken : (relay : Relay) (context : List ℕ) (receiver : ℕ) → IsRelay relay →
+      places_set relay (as_taken context receiver) ≤ most_labels

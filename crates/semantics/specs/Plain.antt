@@ -60,7 +60,8 @@ leads_to i unit = pos (unit + units_of i) ∷ []
 -- some path from the entry to the unit writes the register nowhere
 pub data Unwritten (program : List Insn) (r : ℕ) : ℕ → Type 0 where
   at_entry : Unwritten program r 0
-  along : {unit : ℕ} (i : Insn) (next : ℕ) → Unwritten program r unit → instruction_at program unit ≡ Some i → (IsIn r (writes i) → ⊥) →
+  along : {unit : ℕ} (i : Insn) (next : ℕ) → Unwritten program r unit → instruction_at program unit ≡ Some i →
+      (IsIn r (writes i) → ⊥) →
       IsIn (pos next) (leads_to i unit) → Unwritten program r next
 
 -- an instruction starts there
@@ -75,6 +76,8 @@ EndsWithExit (i ∷ j ∷ is) = EndsWithExit (j ∷ is)
 pub record IsPlain (program : List Insn) : Type 0 where
   pub exit_last : EndsWithExit program
   pub numbers : (unit : ℕ) (i : Insn) → instruction_at program unit ≡ Some i → IsOfNumbers i
-  pub forward : (unit : ℕ) (i : Insn) (z : ℤ) → instruction_at program unit ≡ Some i → IsIn z (leads_to i unit) → (pos unit <ℤ z) × IsStart program z
-  pub written_before : (unit r : ℕ) (i : Insn) → instruction_at program unit ≡ Some i → IsIn r (reads i) → Unwritten program r unit → ⊥
+  pub forward : (unit : ℕ) (i : Insn) (z : ℤ) → instruction_at program unit ≡ Some i → IsIn z (leads_to i unit) →
+      (pos unit <ℤ z) × IsStart program z
+  pub written_before : (unit r : ℕ) (i : Insn) → instruction_at program unit ≡ Some i → IsIn r (reads i) →
+      Unwritten program r unit → ⊥
   pub frame_kept : (unit : ℕ) (i : Insn) → instruction_at program unit ≡ Some i → IsIn 10 (writes i) → ⊥

@@ -8,7 +8,8 @@ pub fn steps_are_counted()
     ensures { StepsAreCounted }
 {}
 
-/// Every state of a run has eleven registers, 512 cells, and r10 at the end of the stack; of well-formed instructions in a campaign's setting its numbers have 64 bits and its bytes 8.
+/// Every state of a run has eleven registers, 512 cells, and r10 at the end of the stack; of well-formed instructions
+/// in a campaign's setting its numbers have 64 bits and its bytes 8.
 pub fn states_stay_whole()
     ensures { StatesStayWhole }
 {}
@@ -33,7 +34,8 @@ pub fn reached_is_safe()
     ensures { ReachedIsSafe }
 {}
 
-/// A program that is plain and sound, one that asks the board and is sound, and one that is neither: the definitions are neither empty nor full.
+/// A program that is plain and sound, one that asks the board and is sound, and one that is neither: the definitions
+/// are neither empty nor full.
 pub fn some_are_plain_and_sound()
     ensures { SomeArePlainAndSound }
 {}
@@ -53,7 +55,8 @@ pub fn ranges_are_kept()
     ensures { RangesAreKept }
 {}
 
-/// No activation has more than 8 entries, and each is of a chain that its general can send; where orders are oral nothing is entered, and where they are signed nothing is put.
+/// No activation has more than 8 entries, and each is of a chain that its general can send; where orders are oral
+/// nothing is entered, and where they are signed nothing is put.
 pub fn entries_are_few()
     ensures { EntriesAreFew }
 {}

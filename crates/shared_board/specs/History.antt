@@ -1,5 +1,5 @@
--- The one history of a shared board's accesses, and the step that enters one (own; the form of a locked object whose calls have one
--- order, Herlihy and Wing 1990).
+-- The one history of a shared board's accesses, and the step that enters one (own; the form of a locked object whose
+-- calls have one order, Herlihy and Wing 1990).
 use Rattle.std.specs.Prelude.{ℕ, ◌≡◌, ◌==◌, cond, true, List, [], ◌∷◌, ◌++◌, length}
 use mathlib.Core.List.{IsPrefix}
 use Rattle.logbook.specs.Pages.{Cell, Step, View, Book, Named}
@@ -22,7 +22,8 @@ pub record IsEntered (seen : List Access) (count : ℕ) (access : Access) (after
 
 -- a step finds how long the history is, and enters its access where that is what it expects
 abbrev pub Enters : Step Access → View Access ℕ → ℕ → View Access ℕ → Type 0
-Enters s v found w = (before : List Access) × IsPrefix v.0 before × (length before ≡ found) × (w.0 ≡ cond (found == s.old) (before ++ s.ask ∷ []) before)
+Enters s v found w = (before : List Access) × IsPrefix v.0 before × (length before ≡ found)
+    × (w.0 ≡ cond (found == s.old) (before ++ s.ask ∷ []) before)
 
 -- a step finds how long the history is, and enters nothing
 abbrev pub Looks : Step Access → View Access ℕ → ℕ → View Access ℕ → Type 0

@@ -17,9 +17,10 @@ pub record UnsharedSeen : Type 0 where
   pub name : ℕ
   pub parts : ℕ
 
--- one access of this general, round and request was served, behind all that was met and what others have had served since; the
--- answer is the board's at that place
-pub record Serves (opening : List ℕ) (old : Witnessed) (general round : ℕ) (request : Request) (answer : List ℕ) (new : Witnessed) : Type 0 where
+-- one access of this general, round and request was served, behind all that was met and what others have had served
+-- since; the answer is the board's at that place
+pub record Serves (opening : List ℕ) (old : Witnessed) (general round : ℕ) (request : Request) (answer : List ℕ)
+    (new : Witnessed) : Type 0 where
   pub before : List Access
   pub later : IsPrefix old.seen before
   pub answered : answer ≡ reply (words_after opening before) request

@@ -37,7 +37,8 @@ impl<J: Room> Model for Desk<J> {
 
     ghost view = { λ d. d.board };
 
-    ghost invariant = { λ d. (d.head ≡ head_of J.book) × (d.history.book ≡ J.book) × (d.history.log ≡ d.board.ledger) × (d.board.opening ≡ J.opening) × (d.served.total ≡ length d.board.ledger) };
+    ghost invariant = { λ d. (d.head ≡ head_of J.book) × (d.history.book ≡ J.book) × (d.history.log ≡ d.board.ledger)
+        × (d.board.opening ≡ J.opening) × (d.served.total ≡ length d.board.ledger) };
 }
 
 impl<J: Room> Desk<J> {
@@ -55,7 +56,12 @@ impl<J: Room> Desk<J> {
         ensures fits { IfOk result (λ r. fits request (words_in r) ≡ true) }
         ensures form { IfOk result (λ r. IsReplyTo request r) }
         ensures entered { OnOk result
-            (self.new.ledger ≡ self.old.ledger ++ record { general = general; round = round; request = request; reply = reply self.old.words request } ∷ []) }
+            (self.new.ledger ≡ self.old.ledger ++ record {
+              general = general;
+              round = round;
+              request = request;
+              reply = reply self.old.words request;
+            } ∷ []) }
         ensures seen { OnOk result (me.new.seen ≡ self.new.ledger) }
         ensures later { OnOk result (IsPrefix me.old.seen self.old.ledger) }
         ensures once { OnOk result (me.new.made ≡ suc me.old.made) }

@@ -2,8 +2,8 @@
 use std::marker::Brand;
 use std::sync::ledger::Ledger;
 
-/// Names one shared board: its history, and the words that it opens with. Each call of a program that shares a board picks
-/// the name, as a ledger's of `std`, which counts the accesses.
+/// Names one shared board: its history, and the words that it opens with. Each call of a program that shares a board
+/// picks the name, as a ledger's of `std`, which counts the accesses.
 pub trait Room: Ledger {
     ghost use Rattle.std.specs.Prelude.{ℕ, List};
     ghost use Rattle.logbook.specs.Pages.{Book};

@@ -35,7 +35,12 @@ impl Model for Unshared {
 
     ghost Value = { UnsharedSeen };
 
-    ghost view = { λ u. record { opening = u.board.opening; book = u.history.book; name = u.blank.name; parts = u.blank.parts } };
+    ghost view = { λ u. record {
+      opening = u.board.opening;
+      book = u.history.book;
+      name = u.blank.name;
+      parts = u.blank.parts;
+    } };
 
     ghost invariant = { λ u. (u.board.ledger ≡ []) × (u.head ≡ head_of u.history.book) × (u.history.log ≡ []) };
 }
@@ -57,8 +62,8 @@ impl Unshared {
     }
 }
 
-/// A board that threads share, behind a lock. Its type names the one history of the accesses that it has served: whenever
-/// the lock is free the ledger is that history, legal from the opening words on.
+/// A board that threads share, behind a lock. Its type names the one history of the accesses that it has served:
+/// whenever the lock is free the ledger is that history, legal from the opening words on.
 #[derive(Drop)]
 pub struct SharedBoard<J: Room> {
     desk: Mutex<Desk<J>>,
@@ -113,8 +118,8 @@ impl<J: Room> SharedBoard<J> {
 
     /// Serves a general's request of a round, and enters it, while the lock is held. It waits for the lock.
     ///
-    /// It enters just one access into the history, behind all that the witness has met, and answers what the board answers
-    /// there.
+    /// It enters just one access into the history, behind all that the witness has met, and answers what the board
+    /// answers there.
     ///
     /// # Errors
     ///
@@ -135,8 +140,8 @@ impl<J: Room> SharedBoard<J> {
         self.desk.lock(rt).serve(rt, me, general, round, request)
     }
 
-    /// The board that was shared, with all accesses that it has served: each reply is what the words before it gave, and what
-    /// the witness has met is the ledger's beginning.
+    /// The board that was shared, with all accesses that it has served: each reply is what the words before it gave,
+    /// and what the witness has met is the ledger's beginning.
     pub fn into_board<R: Wait>(self, rt: &R, witness: Witness<J>) -> Board
         ensures opening { result.opening ≡ J.opening }
         ensures legal { IsLegal result.opening result.ledger }

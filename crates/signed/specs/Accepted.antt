@@ -1,4 +1,5 @@
--- What comes to a general, what counts of it, and what a loyal general does with it (TOPLAS 1982, section 4, algorithm SM(m)).
+-- What comes to a general, what counts of it, and what a loyal general does with it (TOPLAS 1982, section 4, algorithm
+-- SM(m)).
 use Rattle.std.specs.Prelude.{ℕ, zero, suc, ◌==◌, nat_le, Bool, not, cond, ◌&&◌, List, [], ◌∷◌, ◌++◌, map, filter, flat_map, length}
 use Rattle.label.specs.Labels.{on, generals}
 use Rattle.signed.specs.Chains.{Chain, orders, signed_alone, signed_also}
@@ -43,9 +44,10 @@ decided [] = 0
 decided (v ∷ []) = v
 decided (v ∷ w ∷ vs) = 0
 
--- what a loyal general signs in a round: the commander his order in the first; a lieutenant, in each round after one of the first m,
--- each chain that brought him an order then
+-- what a loyal general signs in a round: the commander his order in the first; a lieutenant, in each round after one of
+-- the first m, each chain that brought him an order then
 unfoldable pub loyal_chains : ℕ → ℕ → ℕ → ℕ → Deliveries → ℕ → ℕ → List Chain
 loyal_chains n c m order S zero g = []
 loyal_chains n c m order S (suc zero) g = cond (g == c) (signed_alone order c ∷ []) []
-loyal_chains n c m order S (suc (suc r)) g = cond (g == c) [] (cond (nat_le (suc r) m) (map (λ ch. signed_also ch g) (added n S r g)) [])
+loyal_chains n c m order S (suc (suc r)) g =
+    cond (g == c) [] (cond (nat_le (suc r) m) (map (λ ch. signed_also ch g) (added n S r g)) [])

@@ -7,7 +7,8 @@ use Rattle.signed.specs.Accepted.{Deliveries, accepted, decided, loyal_chains}
 
 -- a loyal general sends what he signs to all who are not on it
 abbrev pub IsLoyal : ℕ → ℕ → ℕ → ℕ → Deliveries → ℕ → Type 0
-IsLoyal n c m order S g = (r q : ℕ) → q < n → S r g q ≡ filter (λ ch. not (on ch.signers q)) (loyal_chains n c m order S r g)
+IsLoyal n c m order S g =
+    (r q : ℕ) → q < n → S r g q ≡ filter (λ ch. not (on ch.signers q)) (loyal_chains n c m order S r g)
 
 -- a chain that came to g in an earlier round
 pub record IsHeld (n : ℕ) (S : Deliveries) (r g : ℕ) (ch : Chain) : Type 0 where
@@ -24,9 +25,11 @@ pub record IsPassedOn (n : ℕ) (S : Deliveries) (r g : ℕ) (ch : Chain) : Type
   pub once : on held.signers g ≡ false
   pub signed : ch ≡ signed_also held g
 
--- whatever a general does, he signs with his own signature (assumption A4): an order if he is the commander, or a chain that he holds
+-- whatever a general does, he signs with his own signature (assumption A4): an order if he is the commander, or a chain
+-- that he holds
 abbrev pub SignsForHimself : ℕ → ℕ → Deliveries → ℕ → Type 0
-SignsForHimself n c S g = (r p : ℕ) (ch : Chain) → p < n → Among ch (S r g p) → ((g ≡ c) × (ch.signers ≡ g ∷ [])) ⊎ IsPassedOn n S r g ch
+SignsForHimself n c S g =
+    (r p : ℕ) (ch : Chain) → p < n → Among ch (S r g p) → ((g ≡ c) × (ch.signers ≡ g ∷ [])) ⊎ IsPassedOn n S r g ch
 
 -- at most m traitors, and two generals more
 pub record IsSignedBound (n m : ℕ) (traitor : ℕ → Bool) : Type 0 where
@@ -35,8 +38,10 @@ pub record IsSignedBound (n m : ℕ) (traitor : ℕ → Bool) : Type 0 where
 
 -- all loyal lieutenants accept the same orders and decide alike, and on the order of a loyal commander
 pub record SignedAgree (n c order : ℕ) (traitor : ℕ → Bool) (accepts : ℕ → List ℕ) : Type 0 where
-  pub same : (p q v : ℕ) → IsLoyalLieutenant n c traitor p → IsLoyalLieutenant n c traitor q → on (accepts p) v ≡ on (accepts q) v
-  pub alike : (p q : ℕ) → IsLoyalLieutenant n c traitor p → IsLoyalLieutenant n c traitor q → decided (accepts p) ≡ decided (accepts q)
+  pub same : (p q v : ℕ) → IsLoyalLieutenant n c traitor p → IsLoyalLieutenant n c traitor q →
+      on (accepts p) v ≡ on (accepts q) v
+  pub alike : (p q : ℕ) → IsLoyalLieutenant n c traitor p → IsLoyalLieutenant n c traitor q →
+      decided (accepts p) ≡ decided (accepts q)
   pub obeyed : traitor c ≡ false → (p : ℕ) → IsLoyalLieutenant n c traitor p → decided (accepts p) ≡ order
 
 -- with at most m traitors, whatever they sign and whomever they send it

@@ -1,5 +1,6 @@
--- How the lieutenants of a signed campaign come to their decisions, as it is told: the orders that each accepts, with the chain that
--- brought him each first, what he makes of them (TOPLAS 1982, algorithm SM(m)), and whether the conditions IC1 and IC2 hold.
+-- How the lieutenants of a signed campaign come to their decisions, as it is told: the orders that each accepts, with
+-- the chain that brought him each first, what he makes of them (TOPLAS 1982, algorithm SM(m)), and whether the
+-- conditions IC1 and IC2 hold.
 use Rattle.std.specs.Prelude.{ℕ, zero, suc, ◌==◌, ◌&&◌, not, nat_lt, count_by, Bool, true, false, if◌then◌else◌, List, [], ◌∷◌, ◌++◌, codes, Option, None, Some}
 use Rattle.std.specs.Fmt.{decimal}
 use Rattle.std.specs.List.{flat_map}
@@ -40,12 +41,14 @@ choice_line p traitor vs = codes "decision " ++ decimal p ++ mark traitor ++ dec
 
 -- the lines of a lieutenant: who he is, the orders that he accepts, and his decision
 unfoldable pub acceptance_lines : Chronicle → ℕ → List ℕ
-acceptance_lines c p = head_line p ++ flat_map accepted_line (chains_of c p) ++ choice_line p (is_traitor c.scenario p) (orders (chains_of c p))
+acceptance_lines c p = head_line p ++ flat_map accepted_line (chains_of c p)
+    ++ choice_line p (is_traitor c.scenario p) (orders (chains_of c p))
 
 -- whether there are at most m traitors
 abbrev pub traitors_line : Scenario → Bool → List ℕ
 traitors_line s holds =
-    codes "bound " ++ yes_no holds ++ codes ": " ++ decimal (count_by (is_traitor s) (generals s.generals)) ++ codes " traitors, " ++ few_words holds ++ decimal s.bound ++ codes "\n"
+    codes "bound " ++ yes_no holds ++ codes ": " ++ decimal (count_by (is_traitor s) (generals s.generals))
+    ++ codes " traitors, " ++ few_words holds ++ decimal s.bound ++ codes "\n"
 
 -- whether a loyal commander is obeyed
 abbrev pub obedience_of : ℕ → Option Bool → Obedience
@@ -63,5 +66,6 @@ acceptance_of c g = if nat_lt g c.scenario.generals && not (g == c.scenario.comm
 
 -- all of it, of all lieutenants or of one general
 unfoldable pub signed_explained : Chronicle → Option ℕ → List ℕ
-signed_explained c None = flat_map (acceptance_lines c) (lieutenants c.scenario.generals c.scenario.commander) ++ verdict_lines c.scenario c.verdict
+signed_explained c None = flat_map (acceptance_lines c) (lieutenants c.scenario.generals c.scenario.commander)
+    ++ verdict_lines c.scenario c.verdict
 signed_explained c (Some g) = acceptance_of c g ++ verdict_lines c.scenario c.verdict

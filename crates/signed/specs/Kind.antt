@@ -32,7 +32,8 @@ signed_entries s closed g =
     loyal_entries s.generals s.commander s.bound s.order (delivered (sent_in s closed)) (suc (length closed)) g
 
 abbrev pub signed_kind : Kind
-signed_kind = record { context = signed_context; relay = signed_relay; rows = λ s closed g. []; entries = signed_entries }
+signed_kind =
+    record { context = signed_context; relay = signed_relay; rows = λ s closed g. []; entries = signed_entries }
 
 -- the world of a signed campaign after these events
 abbrev pub played : Scenario → List Event → World

@@ -1,4 +1,5 @@
--- What holds of the ledgers and chronicles of signed campaigns. Each statement is the contract of a function of this crate.
+-- What holds of the ledgers and chronicles of signed campaigns. Each statement is the contract of a function of this
+-- crate.
 use Rattle.std.specs.Prelude.{◌≡◌, List}
 use Rattle.round.specs.Scenario.{Scenario, IsScenario}
 use Rattle.world.specs.declared.event.Event.{Event}

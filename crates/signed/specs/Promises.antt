@@ -18,7 +18,8 @@ use Rattle.signed.specs.Kind.{signed_kind, played}
 -- with at most m traitors among m + 2 generals or more the loyal lieutenants' decisions agree, and are the order of a
 -- loyal commander
 abbrev pub AgreeUnderSignedBound : Scenario → List ℕ → Type 0
-AgreeUnderSignedBound s ds = IsSignedBound s.generals s.bound (is_traitor s) → AgreeInList s.generals s.commander s.order (is_traitor s) ds
+AgreeUnderSignedBound s ds =
+    IsSignedBound s.generals s.bound (is_traitor s) → AgreeInList s.generals s.commander s.order (is_traitor s) ds
 
 -- the verdict says whether this bound holds, whether the loyal lieutenants decide alike, and whether they decide the
 -- order of a loyal commander; of that nothing exactly where he is a traitor

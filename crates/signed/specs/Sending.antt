@@ -1,4 +1,5 @@
--- How code holds what was sent (own). No claim rests on this but what `SignedChronicle::sent` lends (`named`, `dispatch_of`):
+-- How code holds what was sent (own). No claim rests on this but what `SignedChronicle::sent` lends (`named`,
+-- `dispatch_of`):
 -- what is sent, Entries.antt and Sent.antt say.
 use Rattle.std.specs.Prelude.{ℕ, suc, ◌≡◌, ◌≤◌, ◌==◌, ◌<◌, ◌-◌, nat_lt, cond, Bool, List, [], ◌∷◌, ◌++◌, map, filter, flat_map, take, drop, All, length, Option, Some, None, slice_get}
 use Rattle.std.specs.Borrow.{Bor}
@@ -59,7 +60,10 @@ pub record HeldChains : Type 0 where
   pub earlier : ℕ
 
 abbrev pub held_of : ℕ → Sent → HeldChains
-held_of g sent = record { chains = flat_map (received_in g) sent; earlier = length (flat_map (received_in g) (take (length sent - 1) sent)) }
+held_of g sent = record {
+  chains = flat_map (received_in g) sent;
+  earlier = length (flat_map (received_in g) (take (length sent - 1) sent));
+}
 
 -- the orders with one more, where it was not among them
 abbrev pub added_also : List ℕ → ℕ → List ℕ
@@ -81,7 +85,8 @@ entered_all relay entries (e ∷ es) = entered_all relay (entered relay entries 
 
 -- what a general is told in the round behind these, and his relay, from what was sent
 abbrev pub context_behind : Scenario → Sent → ℕ → List ℕ
-context_behind s sent g = context_bytes (signed_context_numbers s.generals s.bound s.commander g (suc (length sent)) (held_behind s.generals sent g))
+context_behind s sent g = context_bytes
+    (signed_context_numbers s.generals s.bound s.commander g (suc (length sent)) (held_behind s.generals sent g))
 
 abbrev pub relay_behind : Scenario → Sent → ℕ → Relay
 relay_behind s sent g = signed (shape_of s g (suc (length sent))) (map signer_bits (held_behind s.generals sent g))
@@ -90,15 +95,21 @@ relay_behind s sent g = signed (shape_of s g (suc (length sent))) (map signer_bi
 abbrev pub letter_behind : Scenario → Sent → ℕ → Letter
 letter_behind s sent g =
     faithful_letter_with g (suc (length sent)) (context_behind s sent g)
-    (record { relay = relay_behind s sent g; rows = []; entries = loyal_entries s.generals s.commander s.bound s.order (delivered sent) (suc (length sent)) g })
+    (record {
+      relay = relay_behind s sent g;
+      rows = [];
+      entries = loyal_entries s.generals s.commander s.bound s.order (delivered sent) (suc (length sent)) g;
+    })
 
 -- how the generals begin it
 abbrev pub begins_behind : Scenario → Sent → ℕ → Option (List Insn) → Part
 begins_behind s sent g None = Silent
-begins_behind s sent g (Some program) = Acting (started s.patience program (context_behind s sent g) (relay_behind s sent g))
+begins_behind s sent g (Some program) =
+    Acting (started s.patience program (context_behind s sent g) (relay_behind s sent g))
 
 abbrev pub beginnings_behind : Scenario → Sent → List Part
-beginnings_behind s sent = cond (nat_lt (length sent) (suc s.bound)) (each s.generals (λ g. begins_behind s sent g (program_of s g) ∷ [])) []
+beginnings_behind s sent =
+    cond (nat_lt (length sent) (suc s.bound)) (each s.generals (λ g. begins_behind s sent g (program_of s g) ∷ [])) []
 
 -- of a traitor's letter his accesses, a loyal general's letter, or none
 abbrev pub draft_behind : Scenario → Sent → List Access → ℕ → Option Part → Draft
@@ -128,7 +139,8 @@ entries_drafted _ _ = []
 -- what the generals send by it
 abbrev pub sent_drafted : Scenario → Sent → List Draft → List Part → List (List Dispatch)
 sent_drafted s sent drafts parts =
-    map (λ g. dispatched s.generals s.commander g (held_behind s.generals sent g) (entries_drafted (slice_get drafts g) (slice_get parts g))) (generals s.generals)
+    map (λ g. dispatched s.generals s.commander g (held_behind s.generals sent g)
+    (entries_drafted (slice_get drafts g) (slice_get parts g))) (generals s.generals)
 
 -- some list of events leads to what was sent
 abbrev pub IsSent : Scenario → Sent → Type 0
@@ -138,8 +150,10 @@ IsSent s sent = (events : List Event) × (sent ≡ sent_after s events)
 abbrev pub signatures : ℕ → ℕ → List Signature
 signatures n c = map (λ g. record { general = g; commander = c }) (generals n)
 
--- what is kept of a signed world: some list of events leads here, its board opened as the scenario says, what was sent is kept, and there is a signer for each general
-pub record IsSignedHeld (s : Scenario) (closed : List (List Letter)) (board : RecordedBoard) (opened : ℕ) (parts : List Part) (full : Bool) (sent : Sent) (signers : List Signature) : Type 0 where
+-- what is kept of a signed world: some list of events leads here, its board opened as the scenario says, what was sent
+-- is kept, and there is a signer for each general
+pub record IsSignedHeld (s : Scenario) (closed : List (List Letter)) (board : RecordedBoard) (opened : ℕ)
+    (parts : List Part) (full : Bool) (sent : Sent) (signers : List Signature) : Type 0 where
   pub reached : (events : List Event) × (played s events ≡ world_of s closed board opened parts full)
   pub opening : board.opening ≡ s.board
   pub chains : sent ≡ sent_in s closed

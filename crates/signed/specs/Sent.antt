@@ -1,4 +1,5 @@
--- What was sent in the closed rounds of a signed campaign, by their letters (own; TOPLAS 1982, section 4, algorithm SM(m)).
+-- What was sent in the closed rounds of a signed campaign, by their letters (own; TOPLAS 1982, section 4, algorithm
+-- SM(m)).
 use Rattle.std.specs.Prelude.{ℕ, zero, suc, List, [], ◌∷◌, ◌++◌, map, length, slice_index_or, Option, None, Some}
 use Rattle.label.specs.Labels.{generals}
 use Rattle.round.specs.Scenario.{Scenario}

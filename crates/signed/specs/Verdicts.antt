@@ -1,4 +1,5 @@
--- What the verdict on a signed campaign means (TOPLAS 1982, IC1, IC2 and Theorem 2). The last is the contract of a function of this crate.
+-- What the verdict on a signed campaign means (TOPLAS 1982, IC1, IC2 and Theorem 2). The last is the contract of a
+-- function of this crate.
 use Rattle.std.specs.Prelude.{ℕ, ◌≤◌, ◌≡◌, ◌≢◌, ◌↔◌, true, false, List, length, count_by, Some, None}
 use Rattle.label.specs.Labels.{generals}
 use Rattle.label.specs.Lieutenants.{lieutenants, AgreeInList}

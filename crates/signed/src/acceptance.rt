@@ -26,7 +26,8 @@ pub(crate) fn accepted(sent: &[SentRound], rounds: usize, general: u8) -> ArrayV
 /// With the orders that a round brings.
 fn add_round(orders: &mut ArrayVec<u32, 8>, round: &SentRound, number: usize, general: u8)
     requires { general < 13 }
-    ensures { (seen : List ℕ) → AreFirst orders.old.items seen → AreFirst orders.new.items (added_by number general seen (received_in general round.now)) }
+    ensures { (seen : List ℕ) → AreFirst orders.old.items seen →
+        AreFirst orders.new.items (added_by number general seen (received_in general round.now)) }
 {
     for sending in round.sendings() {
         add_sending(orders, sending, number, general);
@@ -36,7 +37,8 @@ fn add_round(orders: &mut ArrayVec<u32, 8>, round: &SentRound, number: usize, ge
 /// With the orders that one sender's chains bring.
 fn add_sending(orders: &mut ArrayVec<u32, 8>, sending: &Sending, number: usize, general: u8)
     requires { general < 13 }
-    ensures { (seen : List ℕ) → AreFirst orders.old.items seen → AreFirst orders.new.items (added_by number general seen (received general sending.now)) }
+    ensures { (seen : List ℕ) → AreFirst orders.old.items seen →
+        AreFirst orders.new.items (added_by number general seen (received general sending.now)) }
 {
     for (chain, receivers) in sending.chains() {
         if has(*receivers, general) && chain.counts(number, general) {

@@ -46,7 +46,8 @@ fn add_sending<'a>(
     general: u8,
 ) -> Result<(), AllocError>
     requires { general < 13 }
-    ensures { OnOk result (lent chains.new.items ≡ gathered round general (lent chains.old.items) (received general (map dispatch_of sending.now))) }
+    ensures { OnOk result (lent chains.new.items
+        ≡ gathered round general (lent chains.old.items) (received general (map dispatch_of sending.now))) }
 {
     for (chain, receivers) in sending {
         if has(*receivers, general) && chain.counts(round, general) {
@@ -64,7 +65,10 @@ fn add_round<'a>(
     general: u8,
 ) -> Result<(), AllocError>
     requires { general < 13 }
-    ensures { OnOk result (lent chains.new.items ≡ gathered round general (lent chains.old.items) (came chronicle.now.scenario.generals (delivered (sent_in chronicle.now.scenario chronicle.now.letters)) round general)) }
+    ensures { OnOk result (lent chains.new.items
+        ≡ gathered round general (lent chains.old.items)
+        (came chronicle.now.scenario.generals
+        (delivered (sent_in chronicle.now.scenario chronicle.now.letters)) round general)) }
 {
     for sender in 0..chronicle.scenario().generals() {
         add_sending(chains, chronicle.sent(sender, round), round, general)?;
@@ -85,7 +89,9 @@ pub fn bringing_in(
     general: u8,
 ) -> Result<Vec<&Chain>, AllocError>
     requires { general < 13 }
-    ensures { IfOk result (λ chains. lent chains.items ≡ bringing chronicle.now.scenario.generals (delivered (sent_in chronicle.now.scenario chronicle.now.letters)) rounds general) }
+    ensures { IfOk result (λ chains. lent chains.items
+        ≡ bringing chronicle.now.scenario.generals
+        (delivered (sent_in chronicle.now.scenario chronicle.now.letters)) rounds general) }
 {
     let mut chains = Vec::new(alloc);
     for round in 0..rounds {

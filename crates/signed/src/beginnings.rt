@@ -47,7 +47,8 @@ fn beginning(
     requires left { length sent.now ≤ scenario.now.bound }
     requires sent { IsSent scenario.now sent.now }
     requires inside { general < scenario.now.generals }
-    ensures { IfOk result (λ part. part ≡ begins_behind scenario.now sent.now general (program_of scenario.now general)) }
+    ensures { IfOk result (λ part. part
+        ≡ begins_behind scenario.now sent.now general (program_of scenario.now general)) }
 {
     match scenario.seat(general).program() {
         None => Ok(Part::Silent),
@@ -66,7 +67,9 @@ fn activation(
     requires left { length sent.now ≤ scenario.now.bound }
     requires sent { IsSent scenario.now sent.now }
     requires inside { general < scenario.now.generals }
-    ensures { IfOk result (λ running. running ≡ started scenario.now.patience (arc_value program.now) (context_behind scenario.now sent.now general) (relay_behind scenario.now sent.now general)) }
+    ensures { IfOk result (λ running. running
+        ≡ started scenario.now.patience (arc_value program.now) (context_behind scenario.now sent.now general)
+        (relay_behind scenario.now sent.now general)) }
 {
     scenario.recall();
     let held = Held::behind(alloc, sent, general)?;

@@ -11,8 +11,8 @@ use crate::signer::Signer;
 use semantics::Entry;
 use std::alloc::{AllocError, Global};
 
-/// What a general's entries send: each a chain that ends with his signature, to the receivers that the entry names, but for
-/// those who stand on it.
+/// What a general's entries send: each a chain that ends with his signature, to the receivers that the entry names, but
+/// for those who stand on it.
 ///
 /// # Errors
 ///
@@ -26,7 +26,8 @@ pub(crate) fn dispatched(
 ) -> Result<Sending, AllocError>
     requires size { generals ≤ 13 }
     requires few { length entries.now ≤ 8 }
-    ensures { IfOk result (λ sending. sending ≡ dispatched generals signer.now.commander signer.now.general held.now.chains entries.now) }
+    ensures { IfOk result (λ sending. sending
+        ≡ dispatched generals signer.now.commander signer.now.general held.now.chains entries.now) }
 {
     let mut chains = Vec::with_capacity(alloc, entries.len())?;
     for entry in entries {
@@ -44,7 +45,9 @@ fn send(
     entry: Entry,
 ) -> Result<(), AllocError>
     requires size { generals ≤ 13 }
-    ensures sent { OnOk result (map dispatch_of chains.new.items ≡ map dispatch_of chains.old.items ++ sent_by generals (chain_of signer.now.commander signer.now.general held.now.chains entry) (bits_of entry)) }
+    ensures sent { OnOk result
+        (map dispatch_of chains.new.items ≡ map dispatch_of chains.old.items
+        ++ sent_by generals (chain_of signer.now.commander signer.now.general held.now.chains entry) (bits_of entry)) }
     ensures one { OnOk result (vec_len chains.new ≤ vec_len chains.old + 1) }
 {
     match chain_of(signer, held, entry) {

@@ -52,7 +52,8 @@ fn draft(
     requires left { length sent.now ≤ scenario.now.bound }
     requires sent { IsSent scenario.now sent.now }
     requires inside { general < scenario.now.generals }
-    ensures { IfOk result (λ draft. draft ≡ draft_behind scenario.now sent.now accesses.now general (slice_get parts.now general)) }
+    ensures { IfOk result (λ draft. draft
+        ≡ draft_behind scenario.now sent.now accesses.now general (slice_get parts.now general)) }
 {
     match parts.get(usize::from(general)) {
         Some(Part::Acting(_)) => Ok(Draft::Begun(transcript(alloc, accesses, u32::from(general))?)),
@@ -100,7 +101,10 @@ fn sending(
     requires sent { IsSent scenario.now sent.now }
     requires inside { general < scenario.now.generals }
     requires own { signer.now ≡ record { general = general; commander = scenario.now.commander } }
-    ensures { IfOk result (λ sending. sending ≡ dispatched scenario.now.generals scenario.now.commander general (held_behind scenario.now.generals sent.now general) (entries_drafted (slice_get drafts.now general) (slice_get parts.now general))) }
+    ensures { IfOk result (λ sending. sending
+        ≡ dispatched scenario.now.generals scenario.now.commander general
+        (held_behind scenario.now.generals sent.now general)
+        (entries_drafted (slice_get drafts.now general) (slice_get parts.now general))) }
 {
     scenario.recall();
     let held = Held::behind(alloc, sent, general)?;

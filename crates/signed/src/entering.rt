@@ -32,7 +32,9 @@ pub(crate) fn enter(
     requires unentered { outbox.old.entries ≡ [] }
     ensures relay { outbox.new.relay ≡ outbox.old.relay }
     ensures rows { outbox.new.rows ≡ outbox.old.rows }
-    ensures entries { outbox.new.entries ≡ loyal_entries scenario.now.generals scenario.now.commander scenario.now.bound scenario.now.order (delivered sent.now) (suc (length sent.now)) general }
+    ensures entries { outbox.new.entries
+        ≡ loyal_entries scenario.now.generals scenario.now.commander scenario.now.bound scenario.now.order
+        (delivered sent.now) (suc (length sent.now)) general }
 {
     let rounds = sent.len();
     if general != scenario.commander() {
@@ -63,8 +65,10 @@ fn pass_on(
     requires few { length held.now.chains < 65536 }
     ensures relay { outbox.new.relay ≡ outbox.old.relay }
     ensures rows { outbox.new.rows ≡ outbox.old.rows }
-    ensures entries { (seen : List ℕ) → AreFirst before.items seen → length (added_by rounds general seen (drop held.now.earlier held.now.chains)) ≤ 8
-        → outbox.new.entries ≡ entered_all outbox.old.relay outbox.old.entries (passes generals rounds general held.now.earlier seen (drop held.now.earlier held.now.chains)) }
+    ensures entries { (seen : List ℕ) → AreFirst before.items seen →
+        length (added_by rounds general seen (drop held.now.earlier held.now.chains)) ≤ 8
+        → outbox.new.entries ≡ entered_all outbox.old.relay outbox.old.entries
+        (passes generals rounds general held.now.earlier seen (drop held.now.earlier held.now.chains)) }
 {
     let mut orders = before;
     for place in held.earlier()..held.len() {

@@ -116,16 +116,17 @@ impl SignedWorld {
         parts::ahead(&mut self.parts, general, limit)
     }
 
-    /// A loyal general has posted, which is a mark until the round is closed; nothing where no letter of his is awaited.
+    /// A loyal general has posted, which is a mark until the round is closed; nothing where no letter of his is
+    /// awaited.
     pub(crate) fn post(&mut self, general: u32)
         ensures { self.new ≡ happen signed_kind self.old (Post general) }
     {
         parts::mark_posted(&mut self.parts, general);
     }
 
-    /// The end of the round. All memory that it takes is taken before anything changes: the drafts of the letters, room for
-    /// their list, the chains that they send, and the next round's parts, which are told what these chains bring them. Then
-    /// the letters are moved from the parts into the list, which cannot fail.
+    /// The end of the round. All memory that it takes is taken before anything changes: the drafts of the letters, room
+    /// for their list, the chains that they send, and the next round's parts, which are told what these chains bring
+    /// them. Then the letters are moved from the parts into the list, which cannot fail.
     pub(crate) fn close(&mut self) -> Result<(), AllocError>
         requires { length self.old.closed ≤ self.old.scenario.bound }
         ensures done { OnOk result (self.new ≡ happen signed_kind self.old Close) }

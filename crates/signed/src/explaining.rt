@@ -20,7 +20,8 @@ use world::judging::traitors;
 
 /// Adds the generals, each behind a dot.
 fn push_further(lines: &mut String, generals: &[u8]) -> Result<(), AllocError>
-    ensures { OnOk result (string_bytes lines.new ≡ string_bytes lines.old ++ flat_map (λ g. codes "." ++ decimal g) generals.now) }
+    ensures { OnOk result (string_bytes lines.new ≡ string_bytes lines.old
+        ++ flat_map (λ g. codes "." ++ decimal g) generals.now) }
 {
     for general in generals {
         write!(lines, ".{general}")?;
@@ -53,7 +54,8 @@ fn push_accepted(lines: &mut String, chain: &Chain) -> Result<(), AllocError>
 
 /// Adds those of all these.
 fn push_all_accepted(lines: &mut String, chains: &[&Chain]) -> Result<(), AllocError>
-    ensures { OnOk result (string_bytes lines.new ≡ string_bytes lines.old ++ flat_map accepted_line (lent chains.now)) }
+    ensures { OnOk result (string_bytes lines.new ≡ string_bytes lines.old
+        ++ flat_map accepted_line (lent chains.now)) }
 {
     for chain in chains {
         push_accepted(lines, chain)?;
@@ -96,7 +98,8 @@ fn push_choice(
     is_traitor: bool,
     chains: &[&Chain],
 ) -> Result<(), AllocError>
-    ensures { OnOk result (string_bytes lines.new ≡ string_bytes lines.old ++ choice_line general is_traitor (orders (lent chains.now))) }
+    ensures { OnOk result (string_bytes lines.new ≡ string_bytes lines.old
+        ++ choice_line general is_traitor (orders (lent chains.now))) }
 {
     let mark = mark(is_traitor);
     let order = chosen(chains);
@@ -166,7 +169,8 @@ fn alike_line(alike: bool) -> &'static str
 
 /// Adds whether a loyal commander is obeyed.
 fn push_obedience(lines: &mut String, order: u32, obeyed: Option<bool>) -> Result<(), AllocError>
-    ensures { OnOk result (string_bytes lines.new ≡ string_bytes lines.old ++ obedience_line (obedience_of order obeyed)) }
+    ensures { OnOk result (string_bytes lines.new ≡ string_bytes lines.old
+        ++ obedience_line (obedience_of order obeyed)) }
 {
     match obeyed {
         None => lines.push_str("IC2 -: the commander is named as a traitor\n"),
@@ -197,7 +201,9 @@ fn push_verdict(lines: &mut String, scenario: &Scenario, verdict: Verdict) -> Re
 
 /// The lines of all lieutenants, ascending.
 fn all_lieutenants(alloc: Global, chronicle: &SignedChronicle) -> Result<String, AllocError>
-    ensures { IfOk result (λ lines. string_bytes lines ≡ flat_map (acceptance_lines chronicle.now) (lieutenants chronicle.now.scenario.generals chronicle.now.scenario.commander)) }
+    ensures { IfOk result (λ lines. string_bytes lines
+        ≡ flat_map (acceptance_lines chronicle.now)
+        (lieutenants chronicle.now.scenario.generals chronicle.now.scenario.commander)) }
 {
     let mut lines = String::new(alloc);
     let scenario = chronicle.scenario();
@@ -230,9 +236,9 @@ pub fn explain_one_signed(
     Ok(lines)
 }
 
-/// How the lieutenants of a signed campaign come to their decisions, or this general alone to his: for each, ascending, the
-/// orders that he accepts, with the chain that brought him each first, and what he decides of them; then whether there are
-/// few enough traitors, and whether the conditions hold.
+/// How the lieutenants of a signed campaign come to their decisions, or this general alone to his: for each, ascending,
+/// the orders that he accepts, with the chain that brought him each first, and what he decides of them; then whether
+/// there are few enough traitors, and whether the conditions hold.
 ///
 /// # Errors
 ///

@@ -10,8 +10,8 @@ use crate::sets::has;
 use std::alloc::{AllocError, Global};
 use std::marker::Model;
 
-/// The chains that came to a general in earlier rounds, by round, sender and entry, repeats too. They are lent from what
-/// was sent: a chain goes to up to twelve receivers, and there is no copy of one.
+/// The chains that came to a general in earlier rounds, by round, sender and entry, repeats too. They are lent from
+/// what was sent: a chain goes to up to twelve receivers, and there is no copy of one.
 #[derive(Drop)]
 pub struct Held<'a> {
     chains: Vec<&'a Chain>,
@@ -88,7 +88,8 @@ impl<'a> Held<'a> {
 
     /// Of each its order and who signed it.
     pub(crate) fn numbers(&self, alloc: Global) -> Result<Vec<u32>, AllocError>
-        ensures { IfOk result (λ numbers. numbers.items ≡ flat_map (λ ch. ch.order ∷ signer_bits ch ∷ []) self.now.chains) }
+        ensures { IfOk result (λ numbers. numbers.items
+            ≡ flat_map (λ ch. ch.order ∷ signer_bits ch ∷ []) self.now.chains) }
     {
         let mut numbers = Vec::new(alloc);
         for chain in &self.chains {

@@ -13,10 +13,10 @@ use world::Verdict;
 use world::judging::{alike, loyal_decisions, obeyed, traitors};
 
 impl SignedWorld {
-    /// What the lieutenants decide, ascending by number, of the chains so far: the one order that each accepted, of none or
-    /// of several RETREAT, as SM(m) has it, m the bound (TOPLAS 1982). Where all rounds are closed, every loyal general has
-    /// posted in each and at most m are traitors, the loyal ones decide alike, and the order of a loyal commander. Takes no
-    /// memory.
+    /// What the lieutenants decide, ascending by number, of the chains so far: the one order that each accepted, of
+    /// none or of several RETREAT, as SM(m) has it, m the bound (TOPLAS 1982). Where all rounds are closed, every loyal
+    /// general has posted in each and at most m are traitors, the loyal ones decide alike, and the order of a loyal
+    /// commander. Takes no memory.
     pub fn decisions(&self) -> ArrayVec<u32, 12>
         ensures values { result.items ≡ signed_decisions self.now.scenario self.now.closed }
         ensures agree { IsFinished self.now → AgreeUnderSignedBound self.now.scenario result.items }

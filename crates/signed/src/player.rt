@@ -15,8 +15,8 @@ use round::Scenario;
 use std::alloc::{AllocError, Global};
 use world::{Schedule, play_listed, play_named};
 
-/// The chronicle of the scenario's campaign of signed messages by a schedule: in each round its entries one by one, then
-/// the letters of all loyal generals and what is left of the traitors' instructions, ascending by number.
+/// The chronicle of the scenario's campaign of signed messages by a schedule: in each round its entries one by one,
+/// then the letters of all loyal generals and what is left of the traitors' instructions, ascending by number.
 ///
 /// # Errors
 ///
@@ -26,7 +26,8 @@ pub fn play_signed(
     scenario: Scenario,
     schedule: &Schedule,
 ) -> Result<SignedChronicle, AllocError>
-    ensures listed { IfOk result (λ chronicle. chronicle ≡ signed_chronicle_of (played scenario (listed scenario (lines_by schedule.now)))) }
+    ensures listed { IfOk result
+        (λ chronicle. chronicle ≡ signed_chronicle_of (played scenario (listed scenario (lines_by schedule.now)))) }
     ensures complete { IfOk result (λ _. IsComplete signed_kind scenario (listed scenario (lines_by schedule.now))) }
     ensures safe { IfOk result (λ _. AreSafeThroughout scenario (listed scenario (lines_by schedule.now))) }
     ensures letters { IfOk result (λ chronicle. AreWhole scenario chronicle.accesses chronicle.letters) }
@@ -43,8 +44,8 @@ pub fn play_signed(
     }
 }
 
-/// The chronicle of the scenario's campaign of signed messages in which these generals, by round, make their accesses in
-/// this order; a round without names has none, and names beyond the last round give nothing.
+/// The chronicle of the scenario's campaign of signed messages in which these generals, by round, make their accesses
+/// in this order; a round without names has none, and names beyond the last round give nothing.
 ///
 /// # Errors
 ///
@@ -54,8 +55,11 @@ pub fn replay_signed(
     scenario: Scenario,
     names: &[Vec<u8>],
 ) -> Result<SignedChronicle, AllocError>
-    ensures replayed { IfOk result (λ chronicle. chronicle ≡ signed_chronicle_of (played scenario (replayed signed_kind scenario (lists_in names.now)))) }
-    ensures complete { IfOk result (λ _. IsComplete signed_kind scenario (replayed signed_kind scenario (lists_in names.now))) }
+    ensures replayed { IfOk result
+        (λ chronicle. chronicle
+        ≡ signed_chronicle_of (played scenario (replayed signed_kind scenario (lists_in names.now)))) }
+    ensures complete { IfOk result
+        (λ _. IsComplete signed_kind scenario (replayed signed_kind scenario (lists_in names.now))) }
     ensures safe { IfOk result (λ _. AreSafeThroughout scenario (replayed signed_kind scenario (lists_in names.now))) }
     ensures letters { IfOk result (λ chronicle. AreWhole scenario chronicle.accesses chronicle.letters) }
     ensures decisions { IfOk result (λ chronicle. chronicle.decisions ≡ signed_decisions scenario chronicle.letters) }
@@ -92,7 +96,8 @@ fn played_named(
     scenario: Scenario,
     names: &[Vec<u8>],
 ) -> Result<SignedWorld, AllocError>
-    ensures replayed { IfOk result (λ world. world ≡ played scenario (replayed signed_kind scenario (lists_in names.now))) }
+    ensures replayed { IfOk result
+        (λ world. world ≡ played scenario (replayed signed_kind scenario (lists_in names.now))) }
     ensures finished { IfOk result IsFinished }
 {
     scenario.recall();

@@ -38,5 +38,6 @@ impl Model for SignedWorld {
 
     ghost view = { λ w. world_of w.scenario w.closed.items w.board w.opened w.parts.items w.full };
 
-    ghost invariant = { λ w. IsSignedHeld w.scenario w.closed.items w.board w.opened w.parts.items w.full w.sent.items w.signers.items };
+    ghost invariant = { λ w. IsSignedHeld w.scenario w.closed.items w.board w.opened w.parts.items w.full w.sent.items
+        w.signers.items };
 }

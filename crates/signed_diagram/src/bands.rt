@@ -28,7 +28,8 @@ pub(crate) fn put_bands(
     rounds: u8,
 ) -> Result<(), AllocError>
     requires { rounds < 255 }
-    ensures { OnOk result (string_bytes out.new ≡ string_bytes out.old ++ bands generals strokes.now plain.now accesses.now wide rounds) }
+    ensures { OnOk result (string_bytes out.new ≡ string_bytes out.old
+        ++ bands generals strokes.now plain.now accesses.now wide rounds) }
 {
     for before in 0..rounds {
         put_band(out, generals, strokes, plain, accesses, wide, before)?;
@@ -47,7 +48,8 @@ fn put_band(
     before: u8,
 ) -> Result<(), AllocError>
     requires { before < 255 }
-    ensures { OnOk result (string_bytes out.new ≡ string_bytes out.old ++ band generals strokes.now plain.now accesses.now wide before) }
+    ensures { OnOk result (string_bytes out.new ≡ string_bytes out.old
+        ++ band generals strokes.now plain.now accesses.now wide before) }
 {
     let round = u32::from(before) + 1;
     let high = height(generals, plain, accesses, round);
@@ -67,7 +69,8 @@ fn put_inside(
     high: u128,
     round: u32,
 ) -> Result<(), AllocError>
-    ensures { OnOk result (string_bytes out.new ≡ string_bytes out.old ++ inside generals strokes.now accesses.now wide high round) }
+    ensures { OnOk result (string_bytes out.new ≡ string_bytes out.old
+        ++ inside generals strokes.now accesses.now wide high round) }
 {
     put_line(out, "rule", 16, 0, wide, 0)?;
     put_round_text(out, round)?;
@@ -84,7 +87,8 @@ fn put_strokes(
     accesses: &[Access],
     round: u32,
 ) -> Result<(), AllocError>
-    ensures { OnOk result (string_bytes out.new ≡ string_bytes out.old ++ flat_map (drawn generals accesses.now round) strokes.now) }
+    ensures { OnOk result (string_bytes out.new ≡ string_bytes out.old
+        ++ flat_map (drawn generals accesses.now round) strokes.now) }
 {
     let top = fan_top(accesses, round);
     let below = rows_top(generals, accesses, round);
@@ -150,7 +154,8 @@ fn put_stroke_title(out: &mut String, stroke: &ChainStroke) -> Result<(), AllocE
 
 /// Adds what is written of a stroke in its receiver's list.
 fn put_row_text(out: &mut String, stroke: &ChainStroke) -> Result<(), AllocError>
-    ensures { OnOk result (string_bytes out.new ≡ string_bytes out.old ++ text_at (codes "small") 12 4 (row_words stroke.now)) }
+    ensures { OnOk result (string_bytes out.new ≡ string_bytes out.old
+        ++ text_at (codes "small") 12 4 (row_words stroke.now)) }
 {
     put_text_start(out, "small", 12, 4)?;
     put_row_words(out, stroke)?;

@@ -111,7 +111,9 @@ fn begun(
     chronicle: &SignedChronicle,
     general: u8,
 ) -> Result<Vec<SignedOrder>, AllocError>
-    ensures { IfOk result (λ signed. signed.items ≡ cond (general == chronicle.now.scenario.commander) (signed_alone chronicle.now.scenario.order chronicle.now.scenario.commander ∷ []) []) }
+    ensures { IfOk result (λ signed. signed.items
+        ≡ cond (general == chronicle.now.scenario.commander)
+        (signed_alone chronicle.now.scenario.order chronicle.now.scenario.commander ∷ []) []) }
 {
     let scenario = chronicle.scenario();
     let commander = scenario.commander();
@@ -144,7 +146,12 @@ fn later(
     general: u8,
 ) -> Result<Vec<SignedOrder>, AllocError>
     requires { general < 13 }
-    ensures { IfOk result (λ signed. signed.items ≡ cond (general == chronicle.now.scenario.commander) [] (cond (nat_le (suc rounds) chronicle.now.scenario.bound) (map (λ ch. signed_also ch general) (added chronicle.now.scenario.generals (delivered (sent_in chronicle.now.scenario chronicle.now.letters)) rounds general)) [])) }
+    ensures { IfOk result (λ signed. signed.items
+        ≡ cond (general == chronicle.now.scenario.commander) []
+        (cond (nat_le (suc rounds) chronicle.now.scenario.bound)
+        (map (λ ch. signed_also ch general)
+        (added chronicle.now.scenario.generals
+        (delivered (sent_in chronicle.now.scenario chronicle.now.letters)) rounds general)) [])) }
 {
     let scenario = chronicle.scenario();
     if general == scenario.commander() {
@@ -165,7 +172,10 @@ fn prolonged(
 ) -> Result<Vec<SignedOrder>, AllocError>
     requires general { general < 13 }
     requires rounds { rounds < 255 }
-    ensures { IfOk result (λ signed. signed.items ≡ map (λ ch. signed_also ch general) (added chronicle.now.scenario.generals (delivered (sent_in chronicle.now.scenario chronicle.now.letters)) rounds general)) }
+    ensures { IfOk result (λ signed. signed.items
+        ≡ map (λ ch. signed_also ch general)
+        (added chronicle.now.scenario.generals
+        (delivered (sent_in chronicle.now.scenario chronicle.now.letters)) rounds general)) }
 {
     let earlier = bringing_in(alloc, chronicle, rounds, general)?;
     let chains = bringing_in(alloc, chronicle, rounds + 1, general)?;

@@ -77,7 +77,8 @@ fn push_between(
 ) -> Result<(), AllocError>
     requires receiver { receiver < 13 }
     requires general { general < 13 }
-    ensures { OnOk result (list.new.items ≡ list.old.items ++ numbered (between chronicle.now round receiver general) (length list.old.items)) }
+    ensures { OnOk result (list.new.items ≡ list.old.items
+        ++ numbered (between chronicle.now round receiver general) (length list.old.items)) }
 {
     let sent = sent_to(alloc, chronicle, round, general, receiver)?;
     let owed = owed_to(alloc, chronicle, round, general, receiver)?;
@@ -103,7 +104,8 @@ fn push_told(
     sent: &[SignedOrder],
     owed: &[SignedOrder],
 ) -> Result<(), AllocError>
-    ensures { OnOk result (list.new.items ≡ list.old.items ++ numbered (told_between round receiver general sent.now owed.now) (length list.old.items)) }
+    ensures { OnOk result (list.new.items ≡ list.old.items
+        ++ numbered (told_between round receiver general sent.now owed.now) (length list.old.items)) }
 {
     let way = Way {
         round,
@@ -136,7 +138,8 @@ fn push_grouped(
     way: Way,
     chains: &[SignedOrder],
 ) -> Result<(), AllocError>
-    ensures { OnOk result (list.new.items ≡ list.old.items ++ numbered (grouped way chains.now) (length list.old.items)) }
+    ensures { OnOk result (list.new.items ≡ list.old.items
+        ++ numbered (grouped way chains.now) (length list.old.items)) }
 {
     let orders = orders_of(alloc, chains)?;
     for order in &orders {

@@ -74,7 +74,8 @@ fn put_headline(out: &mut String, scenario: &Scenario) -> Result<(), AllocError>
 
 /// Adds the campaign's numbers.
 fn put_campaign_of(out: &mut String, scenario: &Scenario) -> Result<(), AllocError>
-    ensures { OnOk result (string_bytes out.new ≡ string_bytes out.old ++ campaign_words scenario.now.generals scenario.now.bound scenario.now.commander scenario.now.order) }
+    ensures { OnOk result (string_bytes out.new ≡ string_bytes out.old
+        ++ campaign_words scenario.now.generals scenario.now.bound scenario.now.commander scenario.now.order) }
 {
     put_campaign(
         out,

@@ -23,7 +23,8 @@ fn put_signers(out: &mut String, generals: &[u8]) -> Result<(), AllocError>
 
 /// Adds generals, each behind a dot.
 fn put_further_signers(out: &mut String, generals: &[u8]) -> Result<(), AllocError>
-    ensures { OnOk result (string_bytes out.new ≡ string_bytes out.old ++ flat_map (λ g. codes "." ++ decimal g) generals.now) }
+    ensures { OnOk result (string_bytes out.new ≡ string_bytes out.old
+        ++ flat_map (λ g. codes "." ++ decimal g) generals.now) }
 {
     for general in generals {
         write!(out, ".{general}")?;

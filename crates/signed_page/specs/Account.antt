@@ -39,7 +39,8 @@ bound_told false = bound_words false
 -- all sections, of a chronicle whose scenario this text tells, and which was played by this schedule, if by one
 unfoldable pub parts : List ℕ → Option (List (List Repeat)) → Chronicle → List ℕ
 parts text schedule c =
-    scenario_part text ++ schedule_part schedule ++ programs_part c.scenario ++ picture_told (signed_svg c) ++ lieutenants_part c ++ accesses_part c.accesses
+    scenario_part text ++ schedule_part schedule ++ programs_part c.scenario ++ picture_told (signed_svg c)
+    ++ lieutenants_part c ++ accesses_part c.accesses
     ++ chronicle_shown (signed_text c) ++ verdict_told c.verdict (bound_told c.verdict.bound)
 
 abbrev pub signed_title : Scenario → List ℕ

@@ -18,8 +18,8 @@ use std::alloc::{AllocError, Global};
 use trace::{Latch, write_signed};
 use world::Schedule;
 
-/// The signed campaign of a chronicle, whose scenario this text tells, and which was played by this schedule, if by one, as
-/// one page of HTML.
+/// The signed campaign of a chronicle, whose scenario this text tells, and which was played by this schedule, if by
+/// one, as one page of HTML.
 ///
 /// # Errors
 ///
@@ -30,7 +30,8 @@ pub fn signed_page_text(
     schedule: Option<&Schedule>,
     chronicle: &SignedChronicle,
 ) -> Result<String, AllocError>
-    ensures { IfOk result (λ text. string_bytes text ≡ signed_page_text scenario_text.now (option_map (λ s. s.now) schedule.entry) chronicle.now) }
+    ensures { IfOk result (λ text. string_bytes text
+        ≡ signed_page_text scenario_text.now (option_map (λ s. s.now) schedule.entry) chronicle.now) }
 {
     let title = signed_title(alloc, chronicle.scenario())?;
     let mut out = start(alloc, title.as_str())?;
@@ -47,7 +48,8 @@ fn put_parts(
     schedule: Option<&Schedule>,
     chronicle: &SignedChronicle,
 ) -> Result<(), AllocError>
-    ensures { OnOk result (string_bytes out.new ≡ string_bytes out.old ++ parts scenario_text.now (option_map (λ s. s.now) schedule.entry) chronicle.now) }
+    ensures { OnOk result (string_bytes out.new ≡ string_bytes out.old
+        ++ parts scenario_text.now (option_map (λ s. s.now) schedule.entry) chronicle.now) }
 {
     put_scenario(out, scenario_text)?;
     put_schedule(alloc, out, schedule)?;
@@ -93,7 +95,8 @@ fn put_accesses(
 
 /// Adds the verdict.
 fn put_verdict_of(out: &mut String, chronicle: &SignedChronicle) -> Result<(), AllocError>
-    ensures { OnOk result (string_bytes out.new ≡ string_bytes out.old ++ verdict_told chronicle.now.verdict (bound_told chronicle.now.verdict.bound)) }
+    ensures { OnOk result (string_bytes out.new ≡ string_bytes out.old
+        ++ verdict_told chronicle.now.verdict (bound_told chronicle.now.verdict.bound)) }
 {
     put_verdict(out, chronicle.verdict())
 }

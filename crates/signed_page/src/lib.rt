@@ -1,5 +1,5 @@
-//! A campaign of signed messages as a page of HTML: its scenario, the programs, the picture, what each lieutenant accepted,
-//! the chronicle and the verdict.
+//! A campaign of signed messages as a page of HTML: its scenario, the programs, the picture, what each lieutenant
+//! accepted, the chronicle and the verdict.
 #![tactic(auto)]
 
 mod account;

@@ -25,7 +25,8 @@ fn put_each_lieutenant(
     out: &mut String,
     chronicle: &SignedChronicle,
 ) -> Result<(), AllocError>
-    ensures { OnOk result (string_bytes out.new ≡ string_bytes out.old ++ flat_map (lieutenant_part chronicle.now) (range_with_len 0 chronicle.now.scenario.generals)) }
+    ensures { OnOk result (string_bytes out.new ≡ string_bytes out.old
+        ++ flat_map (lieutenant_part chronicle.now) (range_with_len 0 chronicle.now.scenario.generals)) }
 {
     for general in 0..chronicle.scenario().generals() {
         put_lieutenant_of(alloc, out, chronicle, general)?;

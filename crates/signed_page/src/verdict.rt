@@ -10,7 +10,8 @@ use world::Verdict;
 
 /// Adds the verdict, a paragraph for each of its parts.
 pub(crate) fn put_verdict(out: &mut String, verdict: Verdict) -> Result<(), AllocError>
-    ensures { OnOk result (string_bytes out.new ≡ string_bytes out.old ++ verdict_told verdict (bound_told verdict.bound)) }
+    ensures { OnOk result (string_bytes out.new ≡ string_bytes out.old
+        ++ verdict_told verdict (bound_told verdict.bound)) }
 {
     put_verdict_told(out, verdict, bound_told(verdict.bound))
 }

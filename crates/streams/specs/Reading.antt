@@ -11,7 +11,8 @@ AreBytes known bytes = IfSome known (λ all. bytes ≡ all)
 -- all bytes, which are at most so many, or the number of more, with some that begin as they do
 abbrev pub IsWithin : ℕ → Option (List ℕ) → Within → Type 0
 IsWithin most known (Whole bytes) = (length bytes.items ≤ most) × AreBytes known bytes.items
-IsWithin most known (Longer front number) = (most < number) × IfSome known (λ all. (length all ≡ number) × (take most front.items ≡ take most all))
+IsWithin most known (Longer front number) =
+    (most < number) × IfSome known (λ all. (length all ≡ number) × (take most front.items ≡ take most all))
 
 -- all bytes, where they are at most so many, else some with which they begin
 pub record BeginsSo (most : ℕ) (all front : List ℕ) : Type 0 where
@@ -37,7 +38,8 @@ pub record IsLastStart (bytes : List ℕ) (place : ℕ) : Type 0 where
   pub start : IsStart bytes place
   pub last : (k : ℕ) → place < k → k < length bytes → IsFurther bytes k
 
--- a text up to the last place, behind the first, at which no further byte of a character stands: what stands there may be cut
+-- a text up to the last place, behind the first, at which no further byte of a character stands: what stands there may
+-- be cut
 pub record MayBeginText (front : List ℕ) : Type 0 where
   pub place : ℕ
   pub start : IsLastStart front place

@@ -3,8 +3,8 @@ ghost use Rattle.streams.specs.Names.{has_control};
 
 use std::fmt;
 
-/// A file's name as it is told, on one line: as it stands or, where a character of it is a control character (a line feed, an
-/// escape), in quotation marks, with such characters written as in a text of Rust.
+/// A file's name as it is told, on one line: as it stands or, where a character of it is a control character (a line
+/// feed, an escape), in quotation marks, with such characters written as in a text of Rust.
 #[derive(Clone, Copy, Debug)]
 pub struct FileName<'a>(pub &'a str);
 

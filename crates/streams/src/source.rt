@@ -26,7 +26,8 @@ pub trait Source: Drop {
         ensures whole { IfOk result (λ all. IfSome (bytes self) (λ known. all.items ≡ known)) }
         ensures failed { OnErr result (fails self) };
 
-    /// All bytes where there are at most so many. Where there are more, they are counted to their end, and the first alone are kept.
+    /// All bytes where there are at most so many. Where there are more, they are counted to their end, and the first
+    /// alone are kept.
     ///
     /// # Errors
     ///
@@ -35,7 +36,8 @@ pub trait Source: Drop {
         ensures within { IfOk result (IsWithin most (bytes self)) }
         ensures failed { OnErr result (fails self) };
 
-    /// All bytes where there are at most so many. Where there are more, a beginning that is longer than that; what is behind it is not read.
+    /// All bytes where there are at most so many. Where there are more, a beginning that is longer than that; what is
+    /// behind it is not read.
     ///
     /// # Errors
     ///

@@ -3,7 +3,8 @@ ghost use Rattle.std.specs.Prelude.{◌≡◌, ◌↔◌, ◌<◌, ◌≤◌, �
 ghost use Rattle.std.specs.Str.{IsUtf8};
 ghost use Rattle.streams.specs.Reading.{IsLastStart, MayBeginText};
 
-/// Whether bytes behind which others stand may begin a text: up to their last character, which may be cut, they must be one.
+/// Whether bytes behind which others stand may begin a text: up to their last character, which may be cut, they must be
+/// one.
 pub fn may_begin_text(front: &[u8]) -> bool
     ensures begins { IsTrue result ↔ MayBeginText front.now }
     ensures no_text { IsFalse result → (rest : List ℕ) → IsUtf8 (front.now ++ rest) → ⊥ }

@@ -72,8 +72,8 @@ pub fn swapped(order: ByteOrder, size: SwapSize, a: AbsVal) -> Option<AbsVal> {
     absval::swap(order, size, a)
 }
 
-/// Whether eight bytes are known, and which pointer, where a pointer was stored at one place, bytes somewhere in a window
-/// and at another place, and only what the other stack knows too is kept.
+/// Whether eight bytes are known, and which pointer, where a pointer was stored at one place, bytes somewhere in a
+/// window and at another place, and only what the other stack knows too is kept.
 pub fn stored(
     mut stack: AbsStack,
     other: &AbsStack,

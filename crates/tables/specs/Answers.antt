@@ -26,7 +26,8 @@ IsFormOf n m c text =
     (head : ℕ × ℕ × ℕ × Rule) × (numbers_in n m c ≡ Some head) × (is_within head.0 head.1 head.2 ≡ true)
     × (text ≡ form_text head.0 head.1 head.2)
 
--- the words are numbers within the limits of a campaign, and this is its table in which all tell this order, and what the liar tells is open
+-- the words are numbers within the limits of a campaign, and this is its table in which all tell this order, and what
+-- the liar tells is open
 abbrev pub IsFilled : List ℕ → List ℕ → List ℕ → ℕ → Option ℕ → List ℕ → Type 0
 IsFilled n m c order liar text =
     (head : ℕ × ℕ × ℕ × Rule) × (numbers_in n m c ≡ Some head) × (is_within head.0 head.1 head.2 ≡ true)

@@ -22,4 +22,5 @@ messages_at M (z ∷ zs) = told_more z (M z.0 z.1) (messages_at M zs)
 
 -- all that is told, of a campaign with these numbers
 abbrev pub collected : Messages → ℕ → ℕ → ℕ → Rule → MessageTable
-collected M n m c rule = record { generals = n; bound = m; commander = c; rule = rule; messages = messages_at M (places n m c) }
+collected M n m c rule =
+    record { generals = n; bound = m; commander = c; rule = rule; messages = messages_at M (places n m c) }

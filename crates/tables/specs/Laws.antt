@@ -30,4 +30,5 @@ TablesAreRead = (M : Messages) → AreOrders M → (n m c : ℕ) (rule : Rule) �
 -- in a table in which all tell one order each lieutenant decides it
 abbrev pub LoyalTablesDecide : Type 0
 LoyalTablesDecide = (order : ℕ) → order < 2 ^ 32 → (n m c : ℕ) → is_within n m c ≡ true
-    → (t : MessageTable) × (table_told (written (loyal order None) n m c Majority) ≡ Ok t) × ((p : ℕ) → p < n → p ≢ c → decision_of t p ≡ order)
+    → (t : MessageTable) × (table_told (written (loyal order None) n m c Majority) ≡ Ok t)
+    × ((p : ℕ) → p < n → p ≢ c → decision_of t p ≡ order)

@@ -12,4 +12,5 @@ decision_line general order = codes "decision " ++ decimal general ++ codes " " 
 
 -- a line for each lieutenant, ascending
 unfoldable pub decision_lines : MessageTable → List ℕ
-decision_lines table = flat_map (λ general. decision_line general (decision_of table general)) (lieutenants table.generals table.commander)
+decision_lines table =
+    flat_map (λ general. decision_line general (decision_of table general)) (lieutenants table.generals table.commander)

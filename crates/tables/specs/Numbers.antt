@@ -13,4 +13,5 @@ numbers_in n m c = decimal_of n >>= λ a. decimal_of m >>= λ b. decimal_of c >>
 -- they are numbers within the limits of a campaign, of which this is how many generals it has
 abbrev pub HasGenerals : List ℕ → List ℕ → List ℕ → ℕ → Type 0
 HasGenerals n m c generals =
-    (head : ℕ × ℕ × ℕ × Rule) × (numbers_in n m c ≡ Some head) × (is_within head.0 head.1 head.2 ≡ true) × (head.0 ≡ generals)
+    (head : ℕ × ℕ × ℕ × Rule) × (numbers_in n m c ≡ Some head) × (is_within head.0 head.1 head.2 ≡ true)
+    × (head.0 ≡ generals)

@@ -17,11 +17,13 @@ rule_words Median = codes " rule median"
 
 -- the campaign's numbers, and its rule
 abbrev pub first_line : ℕ → ℕ → ℕ → Rule → List ℕ
-first_line n m c rule = codes "generals " ++ decimal n ++ codes " bound " ++ decimal m ++ codes " commander " ++ decimal c ++ rule_words rule ++ codes "\n"
+first_line n m c rule = codes "generals " ++ decimal n ++ codes " bound " ++ decimal m ++ codes " commander "
+    ++ decimal c ++ rule_words rule ++ codes "\n"
 
 -- the line of a label, as it is written, and a receiver: an order, a question mark, or no line where nothing was told
 abbrev pub line_of : List ℕ → ℕ → Mark → List ℕ
-line_of label p (Order order) = codes "tell " ++ label ++ codes " " ++ decimal p ++ codes " " ++ decimal order ++ codes "\n"
+line_of label p (Order order) =
+    codes "tell " ++ label ++ codes " " ++ decimal p ++ codes " " ++ decimal order ++ codes "\n"
 line_of label p Open = codes "tell " ++ label ++ codes " " ++ decimal p ++ codes " ?\n"
 line_of label p Silence = []
 
@@ -36,7 +38,8 @@ lines_from mark n (suc k) w = flat_map (λ j. lines_from mark n k (w ++ j ∷ []
 
 -- the whole, the shorter labels first
 unfoldable pub written : Marking → ℕ → ℕ → ℕ → Rule → List ℕ
-written mark n m c rule = first_line n m c rule ++ flat_map (λ k. lines_from mark n k (c ∷ [])) (range_with_len 0 (m + 1))
+written mark n m c rule =
+    first_line n m c rule ++ flat_map (λ k. lines_from mark n k (c ∷ [])) (range_with_len 0 (m + 1))
 
 -- an order that was told, or that none was
 abbrev pub mark_of : Option ℕ → Mark

@@ -13,8 +13,8 @@ use combine::Rule;
 use std::alloc::Global;
 use text::decimal;
 
-/// The message table of a campaign with these numbers, filled in as loyal generals would to whom the commander gave this
-/// order. What the liar tells, if there is one, is left to fill in.
+/// The message table of a campaign with these numbers, filled in as loyal generals would to whom the commander gave
+/// this order. What the liar tells, if there is one, is left to fill in.
 ///
 /// # Errors
 ///
@@ -27,8 +27,10 @@ pub fn filled(
     order: u32,
     liar: Option<u8>,
 ) -> Result<String, TableError>
-    ensures filled { IfOk result (λ text. IsFilled generals.now bound.now commander.now order liar (string_bytes text)) }
-    ensures refused { IfErr result (λ e. e ≢ Memory → opened (numbers_in generals.now bound.now commander.now) ≡ Err e) }
+    ensures filled { IfOk result
+        (λ text. IsFilled generals.now bound.now commander.now order liar (string_bytes text)) }
+    ensures refused { IfErr result (λ e. e ≢ Memory →
+        opened (numbers_in generals.now bound.now commander.now) ≡ Err e) }
 {
     let (generals, bound, commander) = numbers(generals, bound, commander)?;
     let marks = LoyalMarks { order, liar };
@@ -42,7 +44,8 @@ pub fn filled(
 /// What the first line of a table is refused for that has these numbers.
 pub fn generals_in(generals: &str, bound: &str, commander: &str) -> Result<u8, TableError>
     ensures told { IfOk result (HasGenerals generals.now bound.now commander.now) }
-    ensures refused { IfErr result (λ e. e ≢ Memory → opened (numbers_in generals.now bound.now commander.now) ≡ Err e) }
+    ensures refused { IfErr result (λ e. e ≢ Memory →
+        opened (numbers_in generals.now bound.now commander.now) ≡ Err e) }
 {
     let (generals, _, _) = numbers(generals, bound, commander)?;
     Ok(generals)
@@ -53,7 +56,8 @@ pub fn generals_in(generals: &str, bound: &str, commander: &str) -> Result<u8, T
 fn numbers(generals: &str, bound: &str, commander: &str) -> Result<(u8, u8, u8), TableError>
     ensures told { IfOk result (λ n. numbers_in generals.now bound.now commander.now ≡ Some (n.0, n.1, n.2, Majority)) }
     ensures within { IfOk result (λ n. AreNumbersWithin n.0 n.1 n.2) }
-    ensures refused { IfErr result (λ e. (e ≢ Memory) × (opened (numbers_in generals.now bound.now commander.now) ≡ Err e)) }
+    ensures refused { IfErr result (λ e. (e ≢ Memory)
+        × (opened (numbers_in generals.now bound.now commander.now) ≡ Err e)) }
 {
     let (Some(generals), Some(bound), Some(commander)) = (
         decimal(generals.as_bytes()),

@@ -21,7 +21,8 @@ pub fn formed(
     commander: &str,
 ) -> Result<String, TableError>
     ensures formed { IfOk result (λ text. IsFormOf generals.now bound.now commander.now (string_bytes text)) }
-    ensures refused { IfErr result (λ e. e ≢ Memory → opened (numbers_in generals.now bound.now commander.now) ≡ Err e) }
+    ensures refused { IfErr result (λ e. e ≢ Memory →
+        opened (numbers_in generals.now bound.now commander.now) ≡ Err e) }
 {
     let Some(generals) = decimal(generals.as_bytes()) else {
         return Err(TableError::At(Fault::Line, 1));

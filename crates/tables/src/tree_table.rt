@@ -16,8 +16,8 @@ use label::Label;
 use std::marker::Model;
 use tree::Tree;
 
-/// A message table that is told by lieutenants' trees: it has the messages of their labels, in the order in which it would be
-/// written.
+/// A message table that is told by lieutenants' trees: it has the messages of their labels, in the order in which it
+/// would be written.
 #[derive(Drop)]
 pub struct TreeTable<'a> {
     generals: u8,
@@ -37,7 +37,8 @@ impl<'a> Model for TreeTable<'a> {
 
     ghost view = { λ t. collected (heard t.trees.now) t.generals t.bound t.commander t.rule };
 
-    ghost invariant = { λ t. AreTableTrees t.generals t.bound t.commander (collected (heard t.trees.now) t.generals t.bound t.commander t.rule).messages t.trees.now };
+    ghost invariant = { λ t. AreTableTrees t.generals t.bound t.commander
+        (collected (heard t.trees.now) t.generals t.bound t.commander t.rule).messages t.trees.now };
 }
 
 /// The place of a lieutenant among the lieutenants, ascending.
@@ -62,7 +63,8 @@ impl<'a> TreeTable<'a> {
         rule: Rule,
     ) -> TreeTable<'a>
         requires within { AreNumbersWithin generals bound commander }
-        requires filled { (M : Messages) × (trees.now ≡ map (tree_of generals bound commander M) (lieutenants generals commander)) }
+        requires filled { (M : Messages)
+            × (trees.now ≡ map (tree_of generals bound commander M) (lieutenants generals commander)) }
         ensures { table_told (table_text (heard trees.now) generals bound commander rule) ≡ Ok result }
     {
         recall_orders(trees);

@@ -29,8 +29,10 @@ pub fn table_of(
     rule: Rule,
 ) -> Result<String, AllocError>
     requires { AreNumbersWithin generals bound commander }
-    ensures written { IfOk result (λ text. string_bytes text ≡ table_text (heard trees.now) generals bound commander rule) }
-    ensures read { IfOk result (λ text. (t : MessageTable) × (table_told (string_bytes text) ≡ Ok t) × IsTableOf (heard trees.now) generals bound commander rule t) }
+    ensures written { IfOk result
+        (λ text. string_bytes text ≡ table_text (heard trees.now) generals bound commander rule) }
+    ensures read { IfOk result (λ text. (t : MessageTable) × (table_told (string_bytes text) ≡ Ok t)
+        × IsTableOf (heard trees.now) generals bound commander rule t) }
 {
     recall_orders(trees);
     write(

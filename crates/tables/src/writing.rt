@@ -9,8 +9,8 @@ use combine::Rule;
 use label::Label;
 use std::alloc::{AllocError, Global};
 
-/// The table of a campaign with these numbers and this rule: its first line, and a line for each place that has a mark, the
-/// shorter labels first.
+/// The table of a campaign with these numbers and this rule: its first line, and a line for each place that has a mark,
+/// the shorter labels first.
 ///
 /// # Errors
 ///
@@ -96,7 +96,8 @@ fn push_labels<M: Marks>(
     requires few { generals ≤ 13 }
     requires room { length label.now + more ≤ 13 }
     requires name { name.now ≡ dotted label.now }
-    ensures { OnOk result (string_bytes text.new ≡ string_bytes text.old ++ lines_from (M.marking marks.now) generals more label.now) }
+    ensures { OnOk result (string_bytes text.new ≡ string_bytes text.old
+        ++ lines_from (M.marking marks.now) generals more label.now) }
 {
     if more == 0 {
         return push_receivers(alloc, text, marks, generals, label, name);
@@ -129,7 +130,8 @@ fn push_receivers<M: Marks>(
     name: &str,
 ) -> Result<(), AllocError>
     requires { name.now ≡ dotted label.now }
-    ensures { OnOk result (string_bytes text.new ≡ string_bytes text.old ++ lines_from (M.marking marks.now) generals 0 label.now) }
+    ensures { OnOk result (string_bytes text.new ≡ string_bytes text.old
+        ++ lines_from (M.marking marks.now) generals 0 label.now) }
 {
     for receiver in 0..generals {
         if !label.has(receiver) {

@@ -1,4 +1,5 @@
-//! What a jump tells of the two ranges that it compared, on either edge: rows for each condition, at the ends of what is told.
+//! What a jump tells of the two ranges that it compared, on either edge: rows for each condition, at the ends of what
+//! is told.
 
 use crate::ranges::range;
 use range::edges::refine;

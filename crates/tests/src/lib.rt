@@ -1,4 +1,5 @@
-//! Tests of words, ranges, labels, trees, tables, cells, the board, orders and programs, by values from outside: a crate with tests of its own is proved twice.
+//! Tests of words, ranges, labels, trees, tables, cells, the board, orders and programs, by values from outside: a
+//! crate with tests of its own is proved twice.
 #![tactic(auto)]
 
 #[cfg(test)]

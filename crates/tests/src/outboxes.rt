@@ -55,7 +55,8 @@ fn relays_nothing(rt: HostRuntime) -> Result<(), AllocError> {
     Ok(())
 }
 
-/// General 2 holds a chain of the commander and one that he has signed himself: he passes on the first, once he names it; he signs no order.
+/// General 2 holds a chain of the commander and one that he has signed himself: he passes on the first, once he names
+/// it; he signs no order.
 #[test]
 fn enters_what_can_be_sent(rt: HostRuntime) -> Result<(), AllocError> {
     let shape = Shape {

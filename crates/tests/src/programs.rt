@@ -4,7 +4,8 @@ use insn::{Insn, Operand, Program, Reg};
 use std::test::Fail;
 use word::{Operation, Width};
 
-/// Whether a wide instruction, a narrow one and the exit take the program's 4 units, of which the second starts nothing.
+/// Whether a wide instruction, a narrow one and the exit take the program's 4 units, of which the second starts
+/// nothing.
 fn is_laid_out(program: &Program, wide: Insn, narrow: Insn) -> bool {
     program.len() == 3
         && program.units() == 4

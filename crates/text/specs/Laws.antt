@@ -16,6 +16,9 @@ worth base (d ∷ ds) = d * base ^ length ds + worth base ds
 -- which character is which digit, and what digits are worth together; past 64 bits 2 ^ 64 stands for it
 pub record DigitsAreWorth : Type 0 where
   pub ten : (c d : ℕ) → (digit_in 10 c ≡ Some d) ↔ (slice_get (codes "0123456789") d ≡ Some c)
-  pub sixteen : (c d : ℕ) → (digit_in 16 c ≡ Some d) ↔ ((slice_get (codes "0123456789abcdef") d ≡ Some c) ⊎ (slice_get (codes "0123456789ABCDEF") d ≡ Some c))
-  pub read : (base : ℕ) (text : List ℕ) (n : ℕ) → 0 < base → digits_on base 0 text ≡ Some n → (digits : List ℕ) × AreDigits base text digits × (n ≡ capped (worth base digits))
-  pub written : (base : ℕ) (text digits : List ℕ) → 0 < base → AreDigits base text digits → digits_on base 0 text ≡ Some (capped (worth base digits))
+  pub sixteen : (c d : ℕ) → (digit_in 16 c ≡ Some d)
+      ↔ ((slice_get (codes "0123456789abcdef") d ≡ Some c) ⊎ (slice_get (codes "0123456789ABCDEF") d ≡ Some c))
+  pub read : (base : ℕ) (text : List ℕ) (n : ℕ) → 0 < base → digits_on base 0 text ≡ Some n →
+      (digits : List ℕ) × AreDigits base text digits × (n ≡ capped (worth base digits))
+  pub written : (base : ℕ) (text digits : List ℕ) → 0 < base → AreDigits base text digits →
+      digits_on base 0 text ≡ Some (capped (worth base digits))

@@ -8,7 +8,8 @@ abbrev pub first_failure : List (Option MusterError) → Option MusterError
 first_failure failures = option_flatten (find (λ failure. is_some failure) failures)
 
 -- what was refused stands before what the threads have failed by, and that before the outcome
-abbrev pub ended_as : {T : Type 0} → Option MusterError → Option MusterError → Result T MusterError → Result T MusterError
+abbrev pub ended_as : {T : Type 0} → Option MusterError → Option MusterError → Result T MusterError →
+    Result T MusterError
 ended_as (Some refused) failed outcome = Err refused
 ended_as None (Some failure) outcome = Err failure
 ended_as None None outcome = outcome

@@ -1,4 +1,5 @@
--- What a general is to do in a round (own; TOPLAS 1982, section 3: a loyal general relays what he took, a traitor does as he likes).
+-- What a general is to do in a round (own; TOPLAS 1982, section 3: a loyal general relays what he took, a traitor does
+-- as he likes).
 use Rattle.std.specs.Prelude.{ℕ, ◌≡◌, suc, List, length, Option, None, Some}
 use Rattle.insn.specs.declared.insn.Insn.{Insn}
 use Rattle.round.specs.Scenario.{Scenario, program_of}
@@ -17,7 +18,13 @@ pub record Duty : Type 0 where
 -- a general's in the round behind these
 abbrev pub duty_of : Scenario → List (List Letter) → ℕ → Duty
 duty_of s before g =
-    record { general = g; round = suc (length before); context = context_of s before g; program = program_of s g; patience = s.patience }
+    record {
+      general = g;
+      round = suc (length before);
+      context = context_of s before g;
+      program = program_of s g;
+      patience = s.patience;
+    }
 
 -- a loyal general has told what his context has; a traitor's program was run in it to its end, or to its patience
 abbrev pub IsDoneBy : Option (List Insn) → Duty → Letter → Type 0

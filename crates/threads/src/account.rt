@@ -72,7 +72,8 @@ fn has_context(
     requires general { general < scenario.now.generals }
     ensures context { IfOk result (λ b. (rows : List (List LetterSeen)) → WasTold scenario.now rows told.now
         → IsTrue b ↔ (letter.now.context ≡ context_of scenario.now (take rounds rows) general)) }
-    ensures words { OnOk result ((rows : List (List LetterSeen)) → WasTold scenario.now rows told.now → AreWords scenario.now (take rounds rows) general) }
+    ensures words { OnOk result ((rows : List (List LetterSeen)) → WasTold scenario.now rows told.now →
+        AreWords scenario.now (take rounds rows) general) }
 {
     let context = told.context_after(alloc, scenario, general, rounds)?;
     Ok(letter.context.as_slice() == context.as_slice())
@@ -93,7 +94,8 @@ fn holds_letter(
     requires left { rounds ≤ scenario.now.bound }
     requires general { general < scenario.now.generals }
     ensures { IfOk result (λ b. (rows : List (List LetterSeen)) → WasTold scenario.now rows told.now →
-        IsTrue b ↔ (IsLetterOf scenario.now (take rounds rows) general (program_of scenario.now general) letter.now × (accesses_of general piece.now ≡ letter.now.transcript))) }
+        IsTrue b ↔ (IsLetterOf scenario.now (take rounds rows) general (program_of scenario.now general) letter.now
+        × (accesses_of general piece.now ≡ letter.now.transcript))) }
 {
     letter.recall();
     scenario.recall();
@@ -117,7 +119,8 @@ fn holds_round(
     requires told { (rows : List (List LetterSeen)) × WasTold scenario.now rows told.now }
     requires passed { rounds ≤ told.now.rounds }
     requires left { rounds ≤ scenario.now.bound }
-    ensures { IfOk result (λ b. (rows : List (List LetterSeen)) → WasTold scenario.now rows told.now → IsTrue b ↔ IsAccountedRound scenario.now (take rounds rows) piece.now letters.now) }
+    ensures { IfOk result (λ b. (rows : List (List LetterSeen)) → WasTold scenario.now rows told.now →
+        IsTrue b ↔ IsAccountedRound scenario.now (take rounds rows) piece.now letters.now) }
 {
     let generals = scenario.generals();
     let round = u32::from(rounds) + 1;

@@ -66,7 +66,8 @@ pub(crate) fn found<T: Drop>(found: Option<T>) -> Result<T, MusterError>
     }
 }
 
-/// Keeps the handle of a thread that was started: what went wrong, where one was not or there is no memory for the handle.
+/// Keeps the handle of a thread that was started: what went wrong, where one was not or there is no memory for the
+/// handle.
 pub(crate) fn kept<H: Drop, E: Drop>(
     handles: &mut Vec<H>,
     started: Result<H, E>,

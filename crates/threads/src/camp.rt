@@ -12,8 +12,8 @@ use shared_board::{Room, SharedBoard};
 use std::alloc::{AllocError, Global};
 use std::sync::Wait;
 
-/// What the generals share with one another and with the one who conducts the rounds: the gate and the board, the inboxes in
-/// which they are given their tasks, the post for their letters, and the tally of those who have posted.
+/// What the generals share with one another and with the one who conducts the rounds: the gate and the board, the
+/// inboxes in which they are given their tasks, the post for their letters, and the tally of those who have posted.
 #[derive(Drop)]
 pub(crate) struct Camp<'a, G, J: Room> {
     pub(crate) gate: &'a G,
@@ -39,7 +39,8 @@ impl<'a, G, J: Room> Camp<'a, G, J> {
         ensures inboxes { IfOk result (λ r. length r.0.inboxes.items ≡ generals) }
         ensures own { IfOk result (λ r. AreOwn r.0.inboxes.items) }
         ensures count { IfOk result (λ r. length r.1.items ≡ generals) }
-        ensures posters { IfOk result (λ r. (g : ℕ) (d : PosterSeen) → g < generals → slice_index_or r.1.items g d ≡ poster_seen r.0.post.table g []) }
+        ensures posters { IfOk result (λ r. (g : ℕ) (d : PosterSeen) → g < generals →
+            slice_index_or r.1.items g d ≡ poster_seen r.0.post.table g []) }
         ensures collector { IfOk result (λ r. r.2.table ≡ r.0.post.table) }
         ensures gate { IfOk result (λ r. r.0.gate ≡ gate.entry) }
         ensures board { IfOk result (λ r. r.0.board ≡ board.entry) }

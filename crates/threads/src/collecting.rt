@@ -19,8 +19,8 @@ use std::sync::Wait;
 use std::thread;
 use std::thread::{JoinHandle, Threads};
 
-/// The letters of all rounds, in each round by general, and what they told. Each general acts in a thread of his own through
-/// all rounds, with a stack of so many bytes. All threads that were started have ended when it answers.
+/// The letters of all rounds, in each round by general, and what they told. Each general acts in a thread of his own
+/// through all rounds, with a stack of so many bytes. All threads that were started have ended when it answers.
 ///
 /// # Errors
 ///
@@ -58,7 +58,8 @@ fn through_residents<R: Threads + Wait + Sync, G: Gate + Sync, J: Room + Send + 
 ) -> Result<(Vec<Round>, Told), MusterError>
     requires few { length posters.items ≤ 13 }
     requires witnesses { length posters.items ≤ length witnesses.items }
-    requires posters { (g : ℕ) (d : PosterSeen) → g < length posters.items → slice_index_or posters.items g d ≡ poster_seen camp.now.post.table g [] }
+    requires posters { (g : ℕ) (d : PosterSeen) → g < length posters.items →
+        slice_index_or posters.items g d ≡ poster_seen camp.now.post.table g [] }
     requires inboxes { length posters.items ≤ length camp.now.inboxes.items }
     requires generals { scenario.now.generals ≤ length camp.now.inboxes.items }
     requires own { AreOwn camp.now.inboxes.items }
@@ -74,7 +75,8 @@ fn through_residents<R: Threads + Wait + Sync, G: Gate + Sync, J: Room + Send + 
             requires fresh { handles.items ≡ [] }
             requires few { length posters.items ≤ 13 }
             requires witnesses { length posters.items ≤ length witnesses.items }
-            requires posters { (g : ℕ) (d : PosterSeen) → g < length posters.items → slice_index_or posters.items g d ≡ poster_seen camp.now.post.table g [] }
+            requires posters { (g : ℕ) (d : PosterSeen) → g < length posters.items →
+                slice_index_or posters.items g d ≡ poster_seen camp.now.post.table g [] }
             requires inboxes { length posters.items ≤ length camp.now.inboxes.items }
             requires generals { scenario.now.generals ≤ length camp.now.inboxes.items }
             requires own { AreOwn camp.now.inboxes.items }
@@ -105,8 +107,8 @@ fn through_residents<R: Threads + Wait + Sync, G: Gate + Sync, J: Room + Send + 
     )
 }
 
-/// Conducts the rounds, unless something was refused, then sends the generals home and waits for their threads, which were
-/// started from the highest general on.
+/// Conducts the rounds, unless something was refused, then sends the generals home and waits for their threads, which
+/// were started from the highest general on.
 ///
 /// # Errors
 ///

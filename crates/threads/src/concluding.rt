@@ -23,14 +23,14 @@ use std::thread;
 use std::thread::Threads;
 use world::Chronicle;
 
-/// What the lieutenants decide of the letters of a campaign, ascending by number, where the ledger of the board that served
-/// it accounts for these letters, all of which were told. The letters are compared with the ledger while the decisions are
-/// made: neither needs the other.
+/// What the lieutenants decide of the letters of a campaign, ascending by number, where the ledger of the board that
+/// served it accounts for these letters, all of which were told. The letters are compared with the ledger while the
+/// decisions are made: neither needs the other.
 ///
 /// # Errors
 ///
-/// `Unaccounted` where the board opened with other words than the scenario's, or its ledger does not account for the letters;
-/// `Memory` where memory is refused.
+/// `Unaccounted` where the board opened with other words than the scenario's, or its ledger does not account for the
+/// letters; `Memory` where memory is refused.
 pub(crate) fn judge<R: Threads + Sync>(
     rt: &R,
     alloc: Global,
@@ -44,7 +44,8 @@ pub(crate) fn judge<R: Threads + Sync>(
     ensures legal { OnOk result (IsLegal scenario.now.board board.now.ledger) }
     ensures accounted { OnOk result (AreAccounted scenario.now [] board.now.ledger rows.now) }
     ensures decisions { IfOk result (λ orders. orders.items ≡ decisions scenario.now (messages rows.now)) }
-    ensures unaccounted { IfErr result (λ e. e ≡ Unaccounted → ¬ ((board.now.opening ≡ scenario.now.board) × AreAccounted scenario.now [] board.now.ledger rows.now)) }
+    ensures unaccounted { IfErr result (λ e. e ≡ Unaccounted →
+        ¬ ((board.now.opening ≡ scenario.now.board) × AreAccounted scenario.now [] board.now.ledger rows.now)) }
     ensures memory { IfErr result (λ e. e ≡ Memory → board.now.opening ≡ scenario.now.board) }
     ensures started { IfErr result (λ e. e ≢ Spawn) }
     ensures posted { IfErr result (λ e. e ≢ Post) }
@@ -57,7 +58,8 @@ pub(crate) fn judge<R: Threads + Sync>(
             ensures legal { OnOk result (IsLegal scenario.entry.now.board board.entry.now.ledger) }
             ensures accounted { OnOk result (AreAccounted scenario.entry.now [] board.entry.now.ledger rows.entry.now) }
             ensures unaccounted { IfErr result (λ e. e ≡ Unaccounted
-                → ¬ ((board.entry.now.opening ≡ scenario.entry.now.board) × AreAccounted scenario.entry.now [] board.entry.now.ledger rows.entry.now)) }
+                → ¬ ((board.entry.now.opening ≡ scenario.entry.now.board)
+                × AreAccounted scenario.entry.now [] board.entry.now.ledger rows.entry.now)) }
             ensures opening { OnOk result (board.entry.now.opening ≡ scenario.entry.now.board) }
             ensures memory { IfErr result (λ e. e ≡ Memory → board.entry.now.opening ≡ scenario.entry.now.board) }
             ensures started { IfErr result (λ e. e ≢ Spawn) }
@@ -65,7 +67,8 @@ pub(crate) fn judge<R: Threads + Sync>(
         { account(alloc, scenario, board, rows, told) },
         || -> Result<ArrayVec<u32, 12>, AllocError>
             requires { (before : List (List LetterSeen)) × WasTold scenario.now before told.now }
-            ensures { IfOk result (λ orders. (before : List (List LetterSeen)) → WasTold scenario.entry.now before told.entry.now
+            ensures { IfOk result (λ orders. (before : List (List LetterSeen)) →
+                WasTold scenario.entry.now before told.entry.now
                 → orders.items ≡ decisions scenario.entry.now (messages before)) }
         { decide(rt, alloc, scenario, told) },
     );
@@ -77,8 +80,8 @@ pub(crate) fn judge<R: Threads + Sync>(
 ///
 /// # Errors
 ///
-/// `Unaccounted` where the board opened with other words than the scenario's, or its ledger does not account for the letters;
-/// `Memory` where memory is refused.
+/// `Unaccounted` where the board opened with other words than the scenario's, or its ledger does not account for the
+/// letters; `Memory` where memory is refused.
 fn account(
     alloc: Global,
     scenario: &Scenario,
@@ -91,7 +94,8 @@ fn account(
     ensures legal { OnOk result (IsLegal scenario.now.board board.now.ledger) }
     ensures opening { OnOk result (board.now.opening ≡ scenario.now.board) }
     ensures accounted { OnOk result (AreAccounted scenario.now [] board.now.ledger rows.now) }
-    ensures unaccounted { IfErr result (λ e. e ≡ Unaccounted → ¬ ((board.now.opening ≡ scenario.now.board) × AreAccounted scenario.now [] board.now.ledger rows.now)) }
+    ensures unaccounted { IfErr result (λ e. e ≡ Unaccounted →
+        ¬ ((board.now.opening ≡ scenario.now.board) × AreAccounted scenario.now [] board.now.ledger rows.now)) }
     ensures memory { IfErr result (λ e. e ≡ Memory → board.now.opening ≡ scenario.now.board) }
     ensures started { IfErr result (λ e. e ≢ Spawn) }
     ensures posted { IfErr result (λ e. e ≢ Post) }
@@ -113,7 +117,8 @@ fn decide<R: Threads + Sync>(
     told: &Told,
 ) -> Result<ArrayVec<u32, 12>, AllocError>
     requires { (before : List (List LetterSeen)) × WasTold scenario.now before told.now }
-    ensures { IfOk result (λ orders. (before : List (List LetterSeen)) → WasTold scenario.now before told.now → orders.items ≡ decisions scenario.now (messages before)) }
+    ensures { IfOk result (λ orders. (before : List (List LetterSeen)) → WasTold scenario.now before told.now →
+        orders.items ≡ decisions scenario.now (messages before)) }
 {
     scenario.recall();
     let orders = resolve_all(rt, alloc, told.trees(), &scenario.rule())?;
@@ -132,8 +137,8 @@ fn as_array(orders: &[u32]) -> ArrayVec<u32, 12>
     list
 }
 
-/// The chronicle of a campaign from its accesses, the letters that they account for, by round, and the decisions. It is that
-/// of the replay of the accesses.
+/// The chronicle of a campaign from its accesses, the letters that they account for, by round, and the decisions. It is
+/// that of the replay of the accesses.
 pub(crate) fn conclude(
     scenario: Scenario,
     accesses: Vec<Access>,

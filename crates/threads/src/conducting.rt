@@ -18,8 +18,8 @@ use shared_board::Room;
 use std::alloc::{AllocError, Global};
 use std::sync::Wait;
 
-/// The letters of all rounds, in each round by general, and what they told: the generals of the camp are given their tasks,
-/// and when all have posted their letters, these are taken.
+/// The letters of all rounds, in each round by general, and what they told: the generals of the camp are given their
+/// tasks, and when all have posted their letters, these are taken.
 ///
 /// # Errors
 ///
@@ -72,8 +72,8 @@ fn tasks(alloc: Global, scenario: &Scenario, told: &Told) -> Result<Vec<Task>, A
     Ok(tasks)
 }
 
-/// The letters that are in the post, ascending by general. No more is promised of them here: they are tested where they are
-/// told, and judged at the end.
+/// The letters that are in the post, ascending by general. No more is promised of them here: they are tested where they
+/// are told, and judged at the end.
 fn take_letters<R: Wait>(
     rt: &R,
     alloc: Global,

@@ -11,8 +11,8 @@ use std::sync::Wait;
 
 /// Holds generals before their accesses, for as long as it likes.
 pub trait Gate {
-    /// Called before each taking of the board's lock, and never while the lock is held; `nth` is counted from 0 for that
-    /// general and round.
+    /// Called before each taking of the board's lock, and never while the lock is held; `nth` is counted from 0 for
+    /// that general and round.
     fn before_access(&self, general: u32, round: u32, nth: u64);
 }
 

@@ -25,13 +25,13 @@ use world::Chronicle;
 /// How many bytes of stack a thread gets.
 const STACK: usize = 1 << 20;
 
-/// The scenario's campaign, in which each general acts in a thread of his own through all rounds, and posts his letters.
-/// Before each access of a traitor's program to the board the gate may hold him.
+/// The scenario's campaign, in which each general acts in a thread of his own through all rounds, and posts his
+/// letters. Before each access of a traitor's program to the board the gate may hold him.
 ///
-/// Whatever programs the verifier accepted, whatever the gate does, and in whatever order the generals took the lock: the
-/// chronicle is that of a complete run, the replay of its own accesses. These are one legal history from the scenario's
-/// words on; no activation has trapped (`world::activations_are_safe`, of every complete run) or taken more steps than its
-/// program has instructions (`short`); each lieutenant decides
+/// Whatever programs the verifier accepted, whatever the gate does, and in whatever order the generals took the lock:
+/// the chronicle is that of a complete run, the replay of its own accesses. These are one legal history from the
+/// scenario's words on; no activation has trapped (`world::activations_are_safe`, of every complete run) or taken more
+/// steps than its program has instructions (`short`); each lieutenant decides
 /// what OM(m) gives from the messages recorded; and where the bound holds, all loyal lieutenants decide alike, on the
 /// commander's order if he is loyal (TOPLAS 1982, Theorem 1).
 ///
@@ -41,8 +41,8 @@ const STACK: usize = 1 << 20;
 ///
 /// `Spawn` where a thread could not be started; those that were started are waited for first. `Memory` where memory is
 /// refused, `Post` where a general's letter found the post full: where generals fail, the error of the lowest.
-/// `Unaccounted` where the letters are not those that the ledger accounts for; that with the threads that are started here
-/// neither of the last two happens is not proved.
+/// `Unaccounted` where the letters are not those that the ledger accounts for; that with the threads that are started
+/// here neither of the last two happens is not proved.
 pub fn muster<R: Threads + Wait + Sync, G: Gate + Sync>(
     rt: &R,
     alloc: Global,
@@ -51,10 +51,12 @@ pub fn muster<R: Threads + Wait + Sync, G: Gate + Sync>(
 ) -> Result<Chronicle, MusterError>
     ensures scenario { IfOk result (λ chronicle. chronicle.scenario ≡ scenario) }
     ensures replay { IfOk result (λ chronicle. chronicle ≡ chronicle_of (replay_of scenario chronicle.accesses)) }
-    ensures complete { IfOk result (λ chronicle. IsComplete scenario (replayed scenario (names_in 1 chronicle.accesses (suc scenario.bound)))) }
+    ensures complete { IfOk result
+        (λ chronicle. IsComplete scenario (replayed scenario (names_in 1 chronicle.accesses (suc scenario.bound)))) }
     ensures legal { IfOk result (λ chronicle. IsLegal scenario.board chronicle.accesses) }
     ensures short { IfOk result (λ chronicle. All (λ letters. All IsShort letters) chronicle.letters) }
-    ensures decisions { IfOk result (λ chronicle. chronicle.decisions ≡ decisions scenario (messages chronicle.letters)) }
+    ensures decisions { IfOk result
+        (λ chronicle. chronicle.decisions ≡ decisions scenario (messages chronicle.letters)) }
     ensures agree { IfOk result (λ chronicle. AgreeUnderBound scenario chronicle.decisions) }
     ensures verdict { IfOk result (λ chronicle. IsVerdictOn scenario chronicle.decisions chronicle.verdict) }
     ensures well { IfOk result (λ chronicle. IsWellUnderBound chronicle.verdict) }
@@ -76,10 +78,12 @@ pub fn muster_with<R: Threads + Wait + Sync, G: Gate + Sync>(
 ) -> Result<Chronicle, MusterError>
     ensures scenario { IfOk result (λ chronicle. chronicle.scenario ≡ scenario) }
     ensures replay { IfOk result (λ chronicle. chronicle ≡ chronicle_of (replay_of scenario chronicle.accesses)) }
-    ensures complete { IfOk result (λ chronicle. IsComplete scenario (replayed scenario (names_in 1 chronicle.accesses (suc scenario.bound)))) }
+    ensures complete { IfOk result
+        (λ chronicle. IsComplete scenario (replayed scenario (names_in 1 chronicle.accesses (suc scenario.bound)))) }
     ensures legal { IfOk result (λ chronicle. IsLegal scenario.board chronicle.accesses) }
     ensures short { IfOk result (λ chronicle. All (λ letters. All IsShort letters) chronicle.letters) }
-    ensures decisions { IfOk result (λ chronicle. chronicle.decisions ≡ decisions scenario (messages chronicle.letters)) }
+    ensures decisions { IfOk result
+        (λ chronicle. chronicle.decisions ≡ decisions scenario (messages chronicle.letters)) }
     ensures agree { IfOk result (λ chronicle. AgreeUnderBound scenario chronicle.decisions) }
     ensures verdict { IfOk result (λ chronicle. IsVerdictOn scenario chronicle.decisions chronicle.verdict) }
     ensures well { IfOk result (λ chronicle. IsWellUnderBound chronicle.verdict) }
@@ -104,10 +108,12 @@ fn mustered<R: Threads + Wait + Sync, G: Gate + Sync, J: Room + Send + Sync>(
     requires threads { unshared.parts ≡ suc scenario.generals }
     ensures scenario { IfOk result (λ chronicle. chronicle.scenario ≡ scenario) }
     ensures replay { IfOk result (λ chronicle. chronicle ≡ chronicle_of (replay_of scenario chronicle.accesses)) }
-    ensures complete { IfOk result (λ chronicle. IsComplete scenario (replayed scenario (names_in 1 chronicle.accesses (suc scenario.bound)))) }
+    ensures complete { IfOk result
+        (λ chronicle. IsComplete scenario (replayed scenario (names_in 1 chronicle.accesses (suc scenario.bound)))) }
     ensures legal { IfOk result (λ chronicle. IsLegal scenario.board chronicle.accesses) }
     ensures short { IfOk result (λ chronicle. All (λ letters. All IsShort letters) chronicle.letters) }
-    ensures decisions { IfOk result (λ chronicle. chronicle.decisions ≡ decisions scenario (messages chronicle.letters)) }
+    ensures decisions { IfOk result
+        (λ chronicle. chronicle.decisions ≡ decisions scenario (messages chronicle.letters)) }
     ensures agree { IfOk result (λ chronicle. AgreeUnderBound scenario chronicle.decisions) }
     ensures verdict { IfOk result (λ chronicle. IsVerdictOn scenario chronicle.decisions chronicle.verdict) }
     ensures well { IfOk result (λ chronicle. IsWellUnderBound chronicle.verdict) }
@@ -120,8 +126,8 @@ fn mustered<R: Threads + Wait + Sync, G: Gate + Sync, J: Room + Send + Sync>(
     by_board(rt, alloc, scenario, gate, stack, board, witness, witnesses)
 }
 
-/// The same, by this board and its witnesses, one of whom stays. The accesses of the chronicle are the board's history: it
-/// begins with what he has met.
+/// The same, by this board and its witnesses, one of whom stays. The accesses of the chronicle are the board's history:
+/// it begins with what he has met.
 fn by_board<R: Threads + Wait + Sync, G: Gate + Sync, J: Room + Send + Sync>(
     rt: &R,
     alloc: Global,
@@ -136,10 +142,12 @@ fn by_board<R: Threads + Wait + Sync, G: Gate + Sync, J: Room + Send + Sync>(
     ensures history { IfOk result (λ chronicle. IsPrefix witness.seen chronicle.accesses) }
     ensures scenario { IfOk result (λ chronicle. chronicle.scenario ≡ scenario) }
     ensures replay { IfOk result (λ chronicle. chronicle ≡ chronicle_of (replay_of scenario chronicle.accesses)) }
-    ensures complete { IfOk result (λ chronicle. IsComplete scenario (replayed scenario (names_in 1 chronicle.accesses (suc scenario.bound)))) }
+    ensures complete { IfOk result
+        (λ chronicle. IsComplete scenario (replayed scenario (names_in 1 chronicle.accesses (suc scenario.bound)))) }
     ensures legal { IfOk result (λ chronicle. IsLegal scenario.board chronicle.accesses) }
     ensures short { IfOk result (λ chronicle. All (λ letters. All IsShort letters) chronicle.letters) }
-    ensures decisions { IfOk result (λ chronicle. chronicle.decisions ≡ decisions scenario (messages chronicle.letters)) }
+    ensures decisions { IfOk result
+        (λ chronicle. chronicle.decisions ≡ decisions scenario (messages chronicle.letters)) }
     ensures agree { IfOk result (λ chronicle. AgreeUnderBound scenario chronicle.decisions) }
     ensures verdict { IfOk result (λ chronicle. IsVerdictOn scenario chronicle.decisions chronicle.verdict) }
     ensures well { IfOk result (λ chronicle. IsWellUnderBound chronicle.verdict) }

@@ -102,7 +102,8 @@ impl<'a, G: Gate, J: Room> Resident<'a, G, J> {
         requires general { poster.general ≡ self.now.general }
         ensures post { IfOk result (λ r. r.0.table ≡ post.now.table) }
         ensures general { IfOk result (λ r. r.0.general ≡ self.now.general) }
-        ensures done { IfOk result (λ r. (letter : LetterSeen) × IsDone task letter × (r.0.posted ≡ poster.posted ++ letter ∷ [])) }
+        ensures done { IfOk result (λ r. (letter : LetterSeen) × IsDone task letter
+            × (r.0.posted ≡ poster.posted ++ letter ∷ [])) }
         ensures theirs { task.general ≢ self.now.general → result ≡ Err Unaccounted }
         ensures own { IfErr result (λ e. e ≡ Unaccounted → task.general ≢ self.now.general) }
         ensures started { IfErr result (λ e. e ≢ Spawn) }
@@ -113,8 +114,8 @@ impl<'a, G: Gate, J: Room> Resident<'a, G, J> {
         Ok((poster, me))
     }
 
-    /// His letter for a task. The accesses that it tells are among those that the board has served, as they were asked and
-    /// answered there.
+    /// His letter for a task. The accesses that it tells are among those that the board has served, as they were asked
+    /// and answered there.
     ///
     /// # Errors
     ///

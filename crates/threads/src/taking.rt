@@ -11,7 +11,8 @@ use std::alloc::{AllocError, Global};
 /// The index of the first letter of a general in a round.
 fn index_of(letters: &[Letter], general: u32, round: u32) -> Option<usize>
     ensures within { IfSome result (λ i. i < length letters.now) }
-    ensures found { MatchOption result (letter_by general round letters.now ≡ None) (λ i. letter_by general round letters.now ≡ slice_get letters.now i) }
+    ensures found { MatchOption result (letter_by general round letters.now ≡ None)
+        (λ i. letter_by general round letters.now ≡ slice_get letters.now i) }
     ensures left { IfSome result (λ i. left_by general round letters.now ≡ remove letters.now i) }
 {
     for i in 0..letters.len() {
@@ -65,7 +66,8 @@ pub(crate) fn arrange(
     rounds: u32,
 ) -> Result<Option<Vec<Round>>, AllocError>
     ensures grid { IfOk result (λ o. MatchOption o (¬ IsGrid generals rounds letters.items)
-        (λ rows. IsGrid generals rounds letters.items × (rows.items ≡ each rounds (λ r. letters_by generals (suc r) letters.items ∷ [])))) }
+        (λ rows. IsGrid generals rounds letters.items
+        × (rows.items ≡ each rounds (λ r. letters_by generals (suc r) letters.items ∷ [])))) }
     ensures count { IfOk result (λ o. IfSome o (λ rows. length rows.items ≡ rounds)) }
 {
     let mut left = letters;

@@ -68,7 +68,8 @@ impl Tally {
         self.changed.notify_one();
     }
 
-    /// Waits until all generals have posted their letters of the round, and begins the next; false where one has failed.
+    /// Waits until all generals have posted their letters of the round, and begins the next; false where one has
+    /// failed.
     pub(crate) fn all_posted<R: Wait>(&self, rt: &R) -> bool {
         let mut count = self.changed.wait_while(
             rt,

@@ -8,7 +8,8 @@ use round::{Letter, Scenario, Seat, Server, Told, live, loyal_letter};
 use std::alloc::{AllocError, Global};
 use std::marker::Model;
 
-/// A general's task in a round: to run his program, or, where he is loyal, to relay what he was told. It is seen as his duty.
+/// A general's task in a round: to run his program, or, where he is loyal, to relay what he was told. It is seen as his
+/// duty.
 #[derive(Drop)]
 pub(crate) struct Task {
     program: Seat,
@@ -34,7 +35,8 @@ impl Model for Task {
       patience = t.patience;
     } };
 
-    ghost invariant = { λ t. (length t.context.items ≡ 4096) × IsToldTo t.general t.round t.context.items × IsShape (shape_told t.general t.round t.context.items) };
+    ghost invariant = { λ t. (length t.context.items ≡ 4096) × IsToldTo t.general t.round t.context.items
+        × IsShape (shape_told t.general t.round t.context.items) };
 }
 
 impl Task {
@@ -52,7 +54,8 @@ impl Task {
         requires told { (before : List (List LetterSeen)) × WasTold scenario.now before told.now }
         requires left { told.now.rounds ≤ scenario.now.bound }
         requires general { general < scenario.now.generals }
-        ensures duty { IfOk result (λ task. (before : List (List LetterSeen)) → WasTold scenario.now before told.now → task ≡ duty_of scenario.now before general) }
+        ensures duty { IfOk result (λ task. (before : List (List LetterSeen)) → WasTold scenario.now before told.now →
+            task ≡ duty_of scenario.now before general) }
         ensures general { IfOk result (λ task. task.general ≡ general) }
     {
         scenario.recall();

@@ -1,4 +1,5 @@
--- The text that a campaign has in place of one that is not sound: that of the replay of the accesses that the text tells (own).
+-- The text that a campaign has in place of one that is not sound: that of the replay of the accesses that the text
+-- tells (own).
 use Rattle.std.specs.Prelude.{ℕ, List, Option, Some, None}
 use Rattle.round.specs.Scenario.{Scenario}
 use Rattle.world.specs.Chronicle.{Chronicle}

@@ -21,7 +21,8 @@ first_version Majority = Some First
 first_version Median = None
 
 abbrev pub line_version : Rule → List ℕ → Option Version
-line_version rule line = if bytes_eq line (codes "chronicle 2") then Some Second else if bytes_eq line (codes "chronicle 1") then first_version rule else None
+line_version rule line = if bytes_eq line (codes "chronicle 2") then Some Second
+    else if bytes_eq line (codes "chronicle 1") then first_version rule else None
 
 abbrev pub lines_version : Rule → List (List ℕ) → Option Version
 lines_version rule [] = None

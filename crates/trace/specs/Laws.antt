@@ -14,7 +14,8 @@ use Rattle.trace.specs.Names.{names_of, chronicle_told}
 
 -- the names that the text tells are those of its accesses, round by round
 abbrev pub NamesAreTold : Type 0
-NamesAreTold = (v : Version) (c : Chronicle) → All (λ a. a.general < 13) c.accesses → names_of (text_in v c) ≡ names_in 1 c.accesses (length c.letters)
+NamesAreTold = (v : Version) (c : Chronicle) → All (λ a. a.general < 13) c.accesses →
+    names_of (text_in v c) ≡ names_in 1 c.accesses (length c.letters)
 
 -- the versions in which a campaign may be told: the second always, the first where the rule is the majority
 abbrev pub Admits : Rule → Version → Type 0

@@ -21,7 +21,11 @@ number_within least most part = decimal_of part >>= λ n. if nat_le least n && n
 -- an entry: `G`, or `G*K` for K entries of general G
 abbrev pub entry_of : List (List ℕ) → Option Repeat
 entry_of (g ∷ []) = number_within 0 12 g >>= λ general. Some (record { general = general; times = 1 })
-entry_of (g ∷ k ∷ []) = number_within 0 12 g >>= λ general. number_within 1 4096 k >>= λ times. Some (record { general = general; times = times })
+entry_of (g ∷ k ∷ []) = number_within 0 12 g >>= λ general. number_within 1 4096 k >>= λ times. Some (record {
+  general =
+      general;
+  times = times;
+})
 entry_of _ = None
 
 -- the entries of some parts
@@ -35,13 +39,15 @@ line_told [] = Some []
 line_told (c ∷ cs) = entries_told [] (pieces space (c ∷ cs))
 
 -- the lines from this one on, behind those before, or the first that is none: a sixth one is none
-abbrev pub with_line_told : ℕ → Option (List Repeat) → (List Repeat → Result (List (List Repeat)) TraceError) → Result (List (List Repeat)) TraceError
+abbrev pub with_line_told : ℕ → Option (List Repeat) → (List Repeat → Result (List (List Repeat)) TraceError) →
+    Result (List (List Repeat)) TraceError
 with_line_told number None rest = Err (At Line number)
 with_line_told number (Some entries) rest = if nat_lt 5 number then Err (At Line number) else rest entries
 
 abbrev pub schedule_lines_told : List (List Repeat) → ℕ → List (List ℕ) → Result (List (List Repeat)) TraceError
 schedule_lines_told before number [] = Ok before
-schedule_lines_told before number (line ∷ lines) = with_line_told number (line_told line) (λ entries. schedule_lines_told (before ++ entries ∷ []) (suc number) lines)
+schedule_lines_told before number (line ∷ lines) =
+    with_line_told number (line_told line) (λ entries. schedule_lines_told (before ++ entries ∷ []) (suc number) lines)
 
 -- the schedule that a text of at most 1,048,576 bytes tells, or the first line that tells none
 unfoldable pub schedule_told : List ℕ → Result (List (List Repeat)) TraceError

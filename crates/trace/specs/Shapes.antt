@@ -26,7 +26,8 @@ are_joined word = list_all is_number (pieces dot word)
 abbrev pub are_receivers : Word → Bool
 are_receivers word = is_dash word || are_joined word
 
--- whether a word is what a word of a shape stands for: N for a number, P for a number or a dash, A for yes or no, B for these or a dash, S for numbers joined by dots, R for these or a dash, any other for itself
+-- whether a word is what a word of a shape stands for: N for a number, P for a number or a dash, A for yes or no, B for
+-- these or a dash, S for numbers joined by dots, R for these or a dash, any other for itself
 unfoldable pub stands_for : Word → Word → Bool
 stands_for kind word =
     if bytes_eq kind (codes "N") then is_number word
@@ -112,10 +113,13 @@ is_end words =
 
 -- a line of one of the shapes
 unfoldable pub is_shaped : List ℕ → Bool
-is_shaped line = let words = pieces space line in is_version words || is_campaign words || is_told words || is_access words || is_end words
+is_shaped line = let words = pieces space line in
+    is_version words || is_campaign words || is_told words || is_access words || is_end words
 
--- the first line, counted from this number, that has no shape or no LF behind it, where nothing stands behind the last LF; an empty text has a first line
+-- the first line, counted from this number, that has no shape or no LF behind it, where nothing stands behind the last
+-- LF; an empty text has a first line
 abbrev pub unshaped_from : ℕ → List (List ℕ) → Option ℕ
 unshaped_from number [] = None
 unshaped_from number (line ∷ []) = if length line == 0 && nat_lt 1 number then None else Some number
-unshaped_from number (line ∷ next ∷ lines) = if is_shaped line then unshaped_from (suc number) (next ∷ lines) else Some number
+unshaped_from number (line ∷ next ∷ lines) =
+    if is_shaped line then unshaped_from (suc number) (next ∷ lines) else Some number

@@ -12,7 +12,8 @@ use Rattle.trace.specs.SignedText.{signed_text}
 
 -- the names that the text tells are those of its accesses, round by round
 abbrev pub SignedNamesAreTold : Type 0
-SignedNamesAreTold = (c : Chronicle) → All (λ a. a.general < 13) c.accesses → names_of (signed_text c) ≡ names_in 1 c.accesses (length c.letters)
+SignedNamesAreTold = (c : Chronicle) → All (λ a. a.general < 13) c.accesses →
+    names_of (signed_text c) ≡ names_in 1 c.accesses (length c.letters)
 
 -- the text of a complete run is that of the replay of its own accesses
 abbrev pub SignedTextsAreReplays : Type 0

@@ -2,9 +2,10 @@
 use Rattle.std.specs.Prelude.{◌≡◌, ℕ, Bool, true, false, List, [], ◌++◌, Option}
 use Rattle.std.specs.Io.KnownBytes.{Appends}
 
--- a sink that held `old` (`before`: it had failed) was given the text; now it holds `new` (`after`: it has failed). `front` went out: all of
--- the text where it has not failed, nothing of it where it had failed before
-pub record Wrote (old : Option (List ℕ)) (before : Bool) (text : List ℕ) (new : Option (List ℕ)) (after : Bool) : Type 0 where
+-- a sink that held `old` (`before`: it had failed) was given the text; now it holds `new` (`after`: it has failed).
+-- `front` went out: all of the text where it has not failed, nothing of it where it had failed before
+pub record Wrote (old : Option (List ℕ)) (before : Bool) (text : List ℕ) (new : Option (List ℕ))
+    (after : Bool) : Type 0 where
   pub front : List ℕ
   pub rest : List ℕ
   pub parts : text ≡ front ++ rest

@@ -90,7 +90,8 @@ yes_no_none None = codes "-"
 yes_no_none (Some b) = yes_no b
 
 abbrev pub verdict_line : Verdict → Line
-verdict_line v = codes "verdict" ∷ codes "alike" ∷ yes_no v.alike ∷ codes "obeyed" ∷ yes_no_none v.obeyed ∷ codes "bound" ∷ yes_no v.bound ∷ []
+verdict_line v = codes "verdict" ∷ codes "alike" ∷ yes_no v.alike ∷ codes "obeyed" ∷ yes_no_none v.obeyed ∷
+    codes "bound" ∷ yes_no v.bound ∷ []
 
 -- a campaign without a patience, by the majority, is told in the first version, any other in the second
 abbrev pub version_by : Option ℕ → Rule → Version
@@ -113,7 +114,8 @@ abbrev pub version_line : Version → Line
 version_line v = codes "chronicle" ∷ version_word v ∷ []
 
 abbrev pub campaign_words : ℕ → ℕ → ℕ → ℕ → Line
-campaign_words n m c order = codes "generals" ∷ decimal n ∷ codes "bound" ∷ decimal m ∷ codes "commander" ∷ decimal c ∷ codes "order" ∷ decimal order ∷ []
+campaign_words n m c order = codes "generals" ∷ decimal n ∷ codes "bound" ∷ decimal m ∷ codes "commander" ∷ decimal c ∷
+    codes "order" ∷ decimal order ∷ []
 
 -- what a version tells behind the order
 abbrev pub further_words : Version → Option ℕ → Rule → List Word
@@ -121,13 +123,16 @@ further_words First patience rule = []
 further_words Second patience rule = codes "patience" ∷ place patience ∷ codes "rule" ∷ rule_word rule ∷ []
 
 abbrev pub head_lines : Version → Scenario → List Line
-head_lines v s = version_line v ∷ (campaign_words s.generals s.bound s.commander s.order ++ further_words v s.patience s.rule) ∷ []
+head_lines v s =
+    version_line v ∷ (campaign_words s.generals s.bound s.commander s.order ++ further_words v s.patience s.rule) ∷ []
 
 -- a chronicle behind these lines: its rounds, the decisions and the verdict
 abbrev pub lines_behind : List Line → (ℕ → Letter → List Line) → Chronicle → List Line
 lines_behind head told c =
     head
-    ++ (rounds_told told c.accesses 1 c.letters ++ (decision_lines c.scenario (lieutenants c.scenario.generals c.scenario.commander) c.decisions ++ verdict_line c.verdict ∷ []))
+    ++ (rounds_told told c.accesses 1 c.letters
+    ++ (decision_lines c.scenario (lieutenants c.scenario.generals c.scenario.commander) c.decisions
+    ++ verdict_line c.verdict ∷ []))
 
 unfoldable pub lines_in : Version → Chronicle → List Line
 lines_in v c = lines_behind (head_lines v c.scenario) (λ _. letter_lines) c

@@ -34,8 +34,8 @@ fn text_again(
     }
 }
 
-/// The text of the chronicle of the campaign in which the generals make their accesses in the order that this text tells, in
-/// the version that it names.
+/// The text of the chronicle of the campaign in which the generals make their accesses in the order that this text
+/// tells, in the version that it names.
 ///
 /// # Errors
 ///

@@ -76,8 +76,8 @@ fn difference(text: &[u8], version: Version, chronicle: &Chronicle) -> Option<us
     comparison.difference()
 }
 
-/// The audit of a text: the verdict of the campaign, if the text is the chronicle of one of the scenario's, in a version
-/// that its rule admits.
+/// The audit of a text: the verdict of the campaign, if the text is the chronicle of one of the scenario's, in a
+/// version that its rule admits.
 ///
 /// # Errors
 ///
@@ -94,12 +94,13 @@ pub fn check(alloc: Global, scenario: &Scenario, text: &str) -> Result<Verdict, 
 
 /// The same audit: the chronicle itself.
 ///
-/// The accesses are replayed in the order that the text tells, and the chronicle of that replay is compared with the text.
+/// The accesses are replayed in the order that the text tells, and the chronicle of that replay is compared with the
+/// text.
 ///
 /// # Errors
 ///
-/// `Line` with the first line of no shape, or without its LF; where there is none, `Scenario` or `Differs` with the line
-/// of the first difference, `Scenario` in the first two lines. `Memory` where memory is refused.
+/// `Line` with the first line of no shape, or without its LF; where there is none, `Scenario` or `Differs` with the
+/// line of the first difference, `Scenario` in the first two lines. `Memory` where memory is refused.
 pub fn sound_chronicle(
     alloc: Global,
     scenario: &Scenario,

@@ -12,7 +12,8 @@ use signed::Chain;
 
 /// Generals, each behind a dot.
 fn put_joined<S: Sink>(sink: &mut S, generals: &[u8])
-    ensures { Wrote (S.contents sink.old) (S.has_failed sink.old) (flat_map (λ g. 46 ∷ decimal g) generals.now) (S.contents sink.new) (S.has_failed sink.new) }
+    ensures { Wrote (S.contents sink.old) (S.has_failed sink.old) (flat_map (λ g. 46 ∷ decimal g) generals.now)
+        (S.contents sink.new) (S.has_failed sink.new) }
 {
     for general in generals {
         put_behind(sink, b'.', *general as u64);
@@ -21,7 +22,8 @@ fn put_joined<S: Sink>(sink: &mut S, generals: &[u8])
 
 /// Generals joined by dots, or a dash for none, behind a space.
 fn put_dotted<S: Sink>(sink: &mut S, generals: &[u8])
-    ensures { Wrote (S.contents sink.old) (S.has_failed sink.old) (32 ∷ dotted generals.now) (S.contents sink.new) (S.has_failed sink.new) }
+    ensures { Wrote (S.contents sink.old) (S.has_failed sink.old) (32 ∷ dotted generals.now) (S.contents sink.new)
+        (S.has_failed sink.new) }
 {
     match generals {
         [] => put_all(sink, b" -"),
@@ -34,7 +36,8 @@ fn put_dotted<S: Sink>(sink: &mut S, generals: &[u8])
 
 /// The generals among these bits joined by dots, or a dash for none, behind a space.
 fn put_receivers<S: Sink>(sink: &mut S, receivers: u16)
-    ensures { Wrote (S.contents sink.old) (S.has_failed sink.old) (32 ∷ dotted (named receivers)) (S.contents sink.new) (S.has_failed sink.new) }
+    ensures { Wrote (S.contents sink.old) (S.has_failed sink.old) (32 ∷ dotted (named receivers)) (S.contents sink.new)
+        (S.has_failed sink.new) }
 {
     let generals = named(receivers);
     put_dotted(sink, generals.as_slice());
@@ -42,7 +45,8 @@ fn put_receivers<S: Sink>(sink: &mut S, receivers: u16)
 
 /// The line of a chain, with its receivers.
 fn put_chain<S: Sink>(sink: &mut S, chain: &Chain, receivers: u16)
-    ensures { Wrote (S.contents sink.old) (S.has_failed sink.old) (text (chain_line (dispatch_of (chain.now, receivers)) ∷ [])) (S.contents sink.new) (S.has_failed sink.new) }
+    ensures { Wrote (S.contents sink.old) (S.has_failed sink.old)
+        (text (chain_line (dispatch_of (chain.now, receivers)) ∷ [])) (S.contents sink.new) (S.has_failed sink.new) }
 {
     put_headed(sink, b"chain", chain.order() as u64);
     put_dotted(sink, chain.signers());
@@ -53,7 +57,8 @@ fn put_chain<S: Sink>(sink: &mut S, chain: &Chain, receivers: u16)
 
 /// The lines of chains, each with its receivers, in their order.
 pub fn put_chains<S: Sink>(sink: &mut S, chains: &[(Chain, u16)])
-    ensures { Wrote (S.contents sink.old) (S.has_failed sink.old) (text (map chain_line (map dispatch_of chains.now))) (S.contents sink.new) (S.has_failed sink.new) }
+    ensures { Wrote (S.contents sink.old) (S.has_failed sink.old) (text (map chain_line (map dispatch_of chains.now)))
+        (S.contents sink.new) (S.has_failed sink.new) }
 {
     for (chain, receivers) in chains {
         put_chain(sink, chain, *receivers);

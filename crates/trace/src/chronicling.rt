@@ -33,14 +33,17 @@ pub(crate) fn put_campaign_of<S: Sink>(sink: &mut S, scenario: &Scenario)
 
 /// What the version tells behind the numbers.
 fn put_further_of<S: Sink>(sink: &mut S, version: Version, scenario: &Scenario)
-    ensures { Wrote (S.contents sink.old) (S.has_failed sink.old) (further (further_words version scenario.now.patience scenario.now.rule)) (S.contents sink.new) (S.has_failed sink.new) }
+    ensures { Wrote (S.contents sink.old) (S.has_failed sink.old)
+        (further (further_words version scenario.now.patience scenario.now.rule)) (S.contents sink.new)
+        (S.has_failed sink.new) }
 {
     put_further(sink, version, scenario.patience(), scenario.rule());
 }
 
 /// The first two lines: the version and the campaign.
 fn put_head<S: Sink>(sink: &mut S, version: Version, scenario: &Scenario)
-    ensures { Wrote (S.contents sink.old) (S.has_failed sink.old) (text (head_lines version scenario.now)) (S.contents sink.new) (S.has_failed sink.new) }
+    ensures { Wrote (S.contents sink.old) (S.has_failed sink.old) (text (head_lines version scenario.now))
+        (S.contents sink.new) (S.has_failed sink.new) }
 {
     put_version(sink, version);
     put_campaign_of(sink, scenario);
@@ -50,7 +53,8 @@ fn put_head<S: Sink>(sink: &mut S, version: Version, scenario: &Scenario)
 
 /// The lines of a chronicle, in this version.
 pub(crate) fn put_chronicle<S: Sink>(sink: &mut S, version: Version, chronicle: &Chronicle)
-    ensures { Wrote (S.contents sink.old) (S.has_failed sink.old) (text_in version chronicle.now) (S.contents sink.new) (S.has_failed sink.new) }
+    ensures { Wrote (S.contents sink.old) (S.has_failed sink.old) (text_in version chronicle.now) (S.contents sink.new)
+        (S.has_failed sink.new) }
 {
     put_head(sink, version, chronicle.scenario());
     put_rounds(sink, chronicle.accesses(), chronicle.letters());
@@ -60,7 +64,8 @@ pub(crate) fn put_chronicle<S: Sink>(sink: &mut S, version: Version, chronicle: 
 
 /// The lines of a chronicle, in the version of its campaign.
 fn put_whole<S: Sink>(sink: &mut S, chronicle: &Chronicle)
-    ensures { Wrote (S.contents sink.old) (S.has_failed sink.old) (chronicle_text chronicle.now) (S.contents sink.new) (S.has_failed sink.new) }
+    ensures { Wrote (S.contents sink.old) (S.has_failed sink.old) (chronicle_text chronicle.now) (S.contents sink.new)
+        (S.has_failed sink.new) }
 {
     let scenario = chronicle.scenario();
     let version = version_by(scenario.patience(), scenario.rule());
@@ -83,10 +88,12 @@ pub(crate) fn write_in<S: Sink>(
 ///
 /// # Errors
 ///
-/// `Write` exactly where the sink has then failed: a beginning of the text went out, nothing where it had failed before.
+/// `Write` exactly where the sink has then failed: a beginning of the text went out, nothing where it had failed
+/// before.
 pub fn write_chronicle<S: Sink>(chronicle: &Chronicle, sink: &mut S) -> Result<(), TraceError>
     ensures written { OnOk result (Appends (S.contents sink.old) (S.contents sink.new) (chronicle_text chronicle.now)) }
-    ensures beginning { Wrote (S.contents sink.old) (S.has_failed sink.old) (chronicle_text chronicle.now) (S.contents sink.new) (S.has_failed sink.new) }
+    ensures beginning { Wrote (S.contents sink.old) (S.has_failed sink.old) (chronicle_text chronicle.now)
+        (S.contents sink.new) (S.has_failed sink.new) }
     ensures fault { IfErr result (λ e. e ≡ unwritten) }
     ensures exactly { is_err result ≡ S.has_failed sink.new }
 {
@@ -100,8 +107,10 @@ pub fn write_chronicle<S: Sink>(chronicle: &Chronicle, sink: &mut S) -> Result<(
 ///
 /// `Write` exactly where the sink has then failed: a beginning of the line went out.
 pub fn write_verdict<S: Sink>(verdict: Verdict, sink: &mut S) -> Result<(), TraceError>
-    ensures written { OnOk result (Appends (S.contents sink.old) (S.contents sink.new) (text (verdict_line verdict ∷ []))) }
-    ensures beginning { Wrote (S.contents sink.old) (S.has_failed sink.old) (text (verdict_line verdict ∷ [])) (S.contents sink.new) (S.has_failed sink.new) }
+    ensures written { OnOk result
+        (Appends (S.contents sink.old) (S.contents sink.new) (text (verdict_line verdict ∷ []))) }
+    ensures beginning { Wrote (S.contents sink.old) (S.has_failed sink.old) (text (verdict_line verdict ∷ []))
+        (S.contents sink.new) (S.has_failed sink.new) }
     ensures fault { IfErr result (λ e. e ≡ unwritten) }
     ensures exactly { is_err result ≡ S.has_failed sink.new }
 {

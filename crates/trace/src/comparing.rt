@@ -35,7 +35,8 @@ impl<'a> Comparison<'a> {
     /// The place of the first difference, none where it has taken all of the text and nothing else.
     pub fn difference(&self) -> Option<usize>
         ensures none { IfNone result ((self.now.other ≡ None) × (self.now.same ≡ length self.now.text.now)) }
-        ensures some { IfSome result (λ place. (place ≡ self.now.same) × (self.now.other ≡ None → place < length self.now.text.now)) }
+        ensures some { IfSome result (λ place. (place ≡ self.now.same)
+            × (self.now.other ≡ None → place < length self.now.text.now)) }
     {
         if self.other.is_none() && self.same == self.text.len() {
             None

@@ -7,7 +7,8 @@ use itoa::write_digits;
 use outbox::Row;
 use std::marker::Model;
 
-/// The bytes of a line so far, at most 160. A label's row has fewer: its rank and each of at most 13 orders take 11 bytes at most.
+/// The bytes of a line so far, at most 160. A label's row has fewer: its rank and each of at most 13 orders take 11
+/// bytes at most.
 #[derive(Drop)]
 pub struct LineBuffer {
     bytes: [u8; 160],

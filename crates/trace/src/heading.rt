@@ -11,7 +11,8 @@ use combine::Rule;
 
 /// The line of the version.
 pub fn put_version<S: Sink>(sink: &mut S, version: Version)
-    ensures { Wrote (S.contents sink.old) (S.has_failed sink.old) (text (version_line version ∷ [])) (S.contents sink.new) (S.has_failed sink.new) }
+    ensures { Wrote (S.contents sink.old) (S.has_failed sink.old) (text (version_line version ∷ []))
+        (S.contents sink.new) (S.has_failed sink.new) }
 {
     match version {
         Version::First => put_all(sink, b"chronicle 1\n"),
@@ -21,7 +22,8 @@ pub fn put_version<S: Sink>(sink: &mut S, version: Version)
 
 /// The campaign's numbers, which begin the second line.
 pub fn put_campaign<S: Sink>(sink: &mut S, generals: u32, bound: u32, commander: u32, order: u32)
-    ensures { Wrote (S.contents sink.old) (S.has_failed sink.old) (spaced (campaign_words generals bound commander order)) (S.contents sink.new) (S.has_failed sink.new) }
+    ensures { Wrote (S.contents sink.old) (S.has_failed sink.old)
+        (spaced (campaign_words generals bound commander order)) (S.contents sink.new) (S.has_failed sink.new) }
 {
     put_headed(sink, b"generals", generals as u64);
     put_headed(sink, b" bound", bound as u64);
@@ -31,7 +33,8 @@ pub fn put_campaign<S: Sink>(sink: &mut S, generals: u32, bound: u32, commander:
 
 /// The rule's word, behind a space.
 fn put_rule<S: Sink>(sink: &mut S, rule: Rule)
-    ensures { Wrote (S.contents sink.old) (S.has_failed sink.old) (32 ∷ rule_word rule) (S.contents sink.new) (S.has_failed sink.new) }
+    ensures { Wrote (S.contents sink.old) (S.has_failed sink.old) (32 ∷ rule_word rule) (S.contents sink.new)
+        (S.has_failed sink.new) }
 {
     match rule {
         Rule::Majority => put_all(sink, b" majority"),
@@ -41,7 +44,8 @@ fn put_rule<S: Sink>(sink: &mut S, rule: Rule)
 
 /// The patience and the rule.
 fn put_conditions<S: Sink>(sink: &mut S, patience: Option<u32>, rule: Rule)
-    ensures { Wrote (S.contents sink.old) (S.has_failed sink.old) (further (further_words Version.Second patience rule)) (S.contents sink.new) (S.has_failed sink.new) }
+    ensures { Wrote (S.contents sink.old) (S.has_failed sink.old) (further (further_words Version.Second patience rule))
+        (S.contents sink.new) (S.has_failed sink.new) }
 {
     put_all(sink, b" patience");
     put_order(sink, patience);
@@ -51,7 +55,8 @@ fn put_conditions<S: Sink>(sink: &mut S, patience: Option<u32>, rule: Rule)
 
 /// What a version tells behind the numbers.
 pub fn put_further<S: Sink>(sink: &mut S, version: Version, patience: Option<u32>, rule: Rule)
-    ensures { Wrote (S.contents sink.old) (S.has_failed sink.old) (further (further_words version patience rule)) (S.contents sink.new) (S.has_failed sink.new) }
+    ensures { Wrote (S.contents sink.old) (S.has_failed sink.old) (further (further_words version patience rule))
+        (S.contents sink.new) (S.has_failed sink.new) }
 {
     match version {
         Version::First => {}

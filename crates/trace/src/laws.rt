@@ -7,7 +7,8 @@ pub fn names_are_told()
     ensures { NamesAreTold }
 {}
 
-/// The texts that an audit finds sound, by a replay of the accesses that they tell, are exactly the texts of complete runs.
+/// The texts that an audit finds sound, by a replay of the accesses that they tell, are exactly the texts of complete
+/// runs.
 pub fn sound_texts_are_runs()
     ensures { SoundTextsAreRuns }
 {}

@@ -16,7 +16,8 @@ use round::{Letter, Round, Scenario};
 
 /// The lines of an outbox's rows, by rank.
 fn put_rows<S: Sink>(sink: &mut S, outbox: &Outbox)
-    ensures { Wrote (S.contents sink.old) (S.has_failed sink.old) (text (row_lines 0 outbox.now.rows)) (S.contents sink.new) (S.has_failed sink.new) }
+    ensures { Wrote (S.contents sink.old) (S.has_failed sink.old) (text (row_lines 0 outbox.now.rows))
+        (S.contents sink.new) (S.has_failed sink.new) }
 {
     let mut line = LineBuffer::new();
     for rank in 0..outbox.labels() {
@@ -50,7 +51,8 @@ pub(crate) fn steps_of(letter: &Letter) -> Option<u32>
 
 /// The lines of a letter.
 fn put_letter<S: Sink>(sink: &mut S, letter: &Letter)
-    ensures { Wrote (S.contents sink.old) (S.has_failed sink.old) (text (letter_lines letter.now)) (S.contents sink.new) (S.has_failed sink.new) }
+    ensures { Wrote (S.contents sink.old) (S.has_failed sink.old) (text (letter_lines letter.now)) (S.contents sink.new)
+        (S.has_failed sink.new) }
 {
     put_author(sink, general_of(letter), steps_of(letter));
     put_rows(sink, outbox_of(letter));
@@ -58,7 +60,8 @@ fn put_letter<S: Sink>(sink: &mut S, letter: &Letter)
 
 /// The lines of a round's letters, in their order.
 fn put_letters<S: Sink>(sink: &mut S, letters: &[Letter])
-    ensures { Wrote (S.contents sink.old) (S.has_failed sink.old) (text (flat_map letter_lines letters.now)) (S.contents sink.new) (S.has_failed sink.new) }
+    ensures { Wrote (S.contents sink.old) (S.has_failed sink.old) (text (flat_map letter_lines letters.now))
+        (S.contents sink.new) (S.has_failed sink.new) }
 {
     for letter in letters {
         put_letter(sink, letter);
@@ -67,7 +70,8 @@ fn put_letters<S: Sink>(sink: &mut S, letters: &[Letter])
 
 /// The lines of a round: its own, its accesses and its letters.
 fn put_one<S: Sink>(sink: &mut S, round: u64, accesses: &[Access], letters: &[Letter])
-    ensures { Wrote (S.contents sink.old) (S.has_failed sink.old) (text (one_round round accesses.now letters.now)) (S.contents sink.new) (S.has_failed sink.new) }
+    ensures { Wrote (S.contents sink.old) (S.has_failed sink.old) (text (one_round round accesses.now letters.now))
+        (S.contents sink.new) (S.has_failed sink.new) }
 {
     put_round(sink, round);
     put_accesses(sink, round, accesses);
@@ -84,7 +88,8 @@ pub(crate) fn letters_of(rounds: &[Round], number: usize) -> &[Letter]
 
 /// The lines of the rounds from the first on: of each its own, its accesses and its letters.
 pub fn put_rounds<S: Sink>(sink: &mut S, accesses: &[Access], rounds: &[Round])
-    ensures { Wrote (S.contents sink.old) (S.has_failed sink.old) (text (round_lines 1 accesses.now rounds.now)) (S.contents sink.new) (S.has_failed sink.new) }
+    ensures { Wrote (S.contents sink.old) (S.has_failed sink.old) (text (round_lines 1 accesses.now rounds.now))
+        (S.contents sink.new) (S.has_failed sink.new) }
 {
     for number in 0..rounds.len() {
         put_one(
@@ -106,7 +111,8 @@ fn decision_at(decisions: &[u32], place: usize) -> Option<u32>
 /// The line of a lieutenant's decision, where he has one.
 fn put_decided<S: Sink>(sink: &mut S, scenario: &Scenario, general: u8, decision: Option<u32>)
     requires { general < scenario.now.generals }
-    ensures { Wrote (S.contents sink.old) (S.has_failed sink.old) (text (decided_lines scenario.now general decision)) (S.contents sink.new) (S.has_failed sink.new) }
+    ensures { Wrote (S.contents sink.old) (S.has_failed sink.old) (text (decided_lines scenario.now general decision))
+        (S.contents sink.new) (S.has_failed sink.new) }
 {
     match decision {
         Some(decision) => {

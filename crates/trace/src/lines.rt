@@ -15,7 +15,8 @@ use world::Verdict;
 
 /// Numbers, each behind a space.
 fn put_numbers<S: Sink>(sink: &mut S, numbers: &[u64])
-    ensures { Wrote (S.contents sink.old) (S.has_failed sink.old) (further (map decimal numbers.now)) (S.contents sink.new) (S.has_failed sink.new) }
+    ensures { Wrote (S.contents sink.old) (S.has_failed sink.old) (further (map decimal numbers.now))
+        (S.contents sink.new) (S.has_failed sink.new) }
 {
     for number in numbers {
         put_next(sink, *number);
@@ -24,7 +25,8 @@ fn put_numbers<S: Sink>(sink: &mut S, numbers: &[u64])
 
 /// A word and numbers, each behind a space.
 fn put_words<S: Sink>(sink: &mut S, word: &[u8], numbers: &[u64])
-    ensures { Wrote (S.contents sink.old) (S.has_failed sink.old) (further (word.now ∷ map decimal numbers.now)) (S.contents sink.new) (S.has_failed sink.new) }
+    ensures { Wrote (S.contents sink.old) (S.has_failed sink.old) (further (word.now ∷ map decimal numbers.now))
+        (S.contents sink.new) (S.has_failed sink.new) }
 {
     put_all(sink, b" ");
     put_all(sink, word);
@@ -33,7 +35,8 @@ fn put_words<S: Sink>(sink: &mut S, word: &[u8], numbers: &[u64])
 
 /// What was asked.
 fn put_question<S: Sink>(sink: &mut S, request: &Request)
-    ensures { Wrote (S.contents sink.old) (S.has_failed sink.old) (further (question request.now)) (S.contents sink.new) (S.has_failed sink.new) }
+    ensures { Wrote (S.contents sink.old) (S.has_failed sink.old) (further (question request.now)) (S.contents sink.new)
+        (S.has_failed sink.new) }
 {
     match *request {
         Request::Get { slot } => put_words(sink, b"get", &[slot.number() as u64]),
@@ -54,7 +57,8 @@ fn put_question<S: Sink>(sink: &mut S, request: &Request)
 
 /// The words of a reply, each behind a space.
 fn put_reply<S: Sink>(sink: &mut S, reply: &Reply)
-    ensures { Wrote (S.contents sink.old) (S.has_failed sink.old) (further (map decimal (words_in reply.now))) (S.contents sink.new) (S.has_failed sink.new) }
+    ensures { Wrote (S.contents sink.old) (S.has_failed sink.old) (further (map decimal (words_in reply.now)))
+        (S.contents sink.new) (S.has_failed sink.new) }
 {
     match reply {
         Reply::Word(word) => put_next(sink, *word),
@@ -64,7 +68,8 @@ fn put_reply<S: Sink>(sink: &mut S, reply: &Reply)
 
 /// The line of an access.
 pub fn put_access<S: Sink>(sink: &mut S, access: &Access)
-    ensures { Wrote (S.contents sink.old) (S.has_failed sink.old) (text (access_line access.now ∷ [])) (S.contents sink.new) (S.has_failed sink.new) }
+    ensures { Wrote (S.contents sink.old) (S.has_failed sink.old) (text (access_line access.now ∷ []))
+        (S.contents sink.new) (S.has_failed sink.new) }
 {
     put_headed(sink, b"access", access.general as u64);
     put_question(sink, &access.request);
@@ -75,7 +80,9 @@ pub fn put_access<S: Sink>(sink: &mut S, access: &Access)
 
 /// The line of an access, where it is one of this round.
 fn put_access_in<S: Sink>(sink: &mut S, round: u64, access: &Access)
-    ensures { Wrote (S.contents sink.old) (S.has_failed sink.old) (text (map access_line (filter (λ a. a.round == round) (access.now ∷ [])))) (S.contents sink.new) (S.has_failed sink.new) }
+    ensures { Wrote (S.contents sink.old) (S.has_failed sink.old)
+        (text (map access_line (filter (λ a. a.round == round) (access.now ∷ [])))) (S.contents sink.new)
+        (S.has_failed sink.new) }
 {
     if u64::from(access.round) == round {
         put_access(sink, access);
@@ -84,7 +91,9 @@ fn put_access_in<S: Sink>(sink: &mut S, round: u64, access: &Access)
 
 /// The lines of the accesses of a round, in their order.
 pub fn put_accesses<S: Sink>(sink: &mut S, round: u64, accesses: &[Access])
-    ensures { Wrote (S.contents sink.old) (S.has_failed sink.old) (text (map access_line (filter (λ a. a.round == round) accesses.now))) (S.contents sink.new) (S.has_failed sink.new) }
+    ensures { Wrote (S.contents sink.old) (S.has_failed sink.old)
+        (text (map access_line (filter (λ a. a.round == round) accesses.now))) (S.contents sink.new)
+        (S.has_failed sink.new) }
 {
     for access in accesses {
         put_access_in(sink, round, access);
@@ -93,7 +102,8 @@ pub fn put_accesses<S: Sink>(sink: &mut S, round: u64, accesses: &[Access])
 
 /// The line of a round.
 pub fn put_round<S: Sink>(sink: &mut S, round: u64)
-    ensures { Wrote (S.contents sink.old) (S.has_failed sink.old) (text (round_line round ∷ [])) (S.contents sink.new) (S.has_failed sink.new) }
+    ensures { Wrote (S.contents sink.old) (S.has_failed sink.old) (text (round_line round ∷ [])) (S.contents sink.new)
+        (S.has_failed sink.new) }
 {
     put_headed(sink, b"round", round);
     put_all(sink, b"\n");
@@ -101,7 +111,8 @@ pub fn put_round<S: Sink>(sink: &mut S, round: u64)
 
 /// An order, or a dash for nothing, behind a space.
 pub fn put_order<S: Sink>(sink: &mut S, order: Option<u32>)
-    ensures { Wrote (S.contents sink.old) (S.has_failed sink.old) (32 ∷ place order) (S.contents sink.new) (S.has_failed sink.new) }
+    ensures { Wrote (S.contents sink.old) (S.has_failed sink.old) (32 ∷ place order) (S.contents sink.new)
+        (S.has_failed sink.new) }
 {
     match order {
         Some(order) => put_next(sink, order as u64),
@@ -109,8 +120,8 @@ pub fn put_order<S: Sink>(sink: &mut S, order: Option<u32>)
     }
 }
 
-/// Adds what the receivers of a label were told, by its rank: orders, or dashes for nothing, each behind a space. They are
-/// 13 at most, of 11 bytes each: 143 bytes.
+/// Adds what the receivers of a label were told, by its rank: orders, or dashes for nothing, each behind a space. They
+/// are 13 at most, of 11 bytes each: 143 bytes.
 fn add_orders(line: &mut LineBuffer, outbox: &Outbox, rank: u32)
     requires rank { rank < length outbox.now.rows }
     requires room { length line.old + 143 ≤ 160 }
@@ -139,7 +150,9 @@ fn compose_row(line: &mut LineBuffer, outbox: &Outbox, rank: u32)
 /// The line of a label's row, put together in this one.
 pub fn put_row<S: Sink>(sink: &mut S, line: &mut LineBuffer, outbox: &Outbox, rank: u32)
     requires { rank < length outbox.now.rows }
-    ensures { Wrote (S.contents sink.old) (S.has_failed sink.old) (text (row_line rank (slice_index_or outbox.now.rows rank []) ∷ [])) (S.contents sink.new) (S.has_failed sink.new) }
+    ensures { Wrote (S.contents sink.old) (S.has_failed sink.old)
+        (text (row_line rank (slice_index_or outbox.now.rows rank []) ∷ [])) (S.contents sink.new)
+        (S.has_failed sink.new) }
 {
     compose_row(line, outbox, rank);
     put_all(sink, line.as_slice());
@@ -147,7 +160,8 @@ pub fn put_row<S: Sink>(sink: &mut S, line: &mut LineBuffer, outbox: &Outbox, ra
 
 /// That a letter is a loyal general's, or the steps that its traitor took.
 fn put_kind<S: Sink>(sink: &mut S, steps: Option<u32>)
-    ensures { Wrote (S.contents sink.old) (S.has_failed sink.old) (further (kind steps)) (S.contents sink.new) (S.has_failed sink.new) }
+    ensures { Wrote (S.contents sink.old) (S.has_failed sink.old) (further (kind steps)) (S.contents sink.new)
+        (S.has_failed sink.new) }
 {
     match steps {
         None => put_all(sink, b" loyal"),
@@ -157,7 +171,8 @@ fn put_kind<S: Sink>(sink: &mut S, steps: Option<u32>)
 
 /// The first line of a letter: a loyal general's, or a traitor's with the steps that he took.
 pub fn put_author<S: Sink>(sink: &mut S, general: u32, steps: Option<u32>)
-    ensures { Wrote (S.contents sink.old) (S.has_failed sink.old) (text (author_line general steps ∷ [])) (S.contents sink.new) (S.has_failed sink.new) }
+    ensures { Wrote (S.contents sink.old) (S.has_failed sink.old) (text (author_line general steps ∷ []))
+        (S.contents sink.new) (S.has_failed sink.new) }
 {
     put_headed(sink, b"letter", general as u64);
     put_kind(sink, steps);
@@ -166,7 +181,8 @@ pub fn put_author<S: Sink>(sink: &mut S, general: u32, steps: Option<u32>)
 
 /// What marks a traitor's decision.
 fn put_mark<S: Sink>(sink: &mut S, is_traitor: bool)
-    ensures { Wrote (S.contents sink.old) (S.has_failed sink.old) (further (mark is_traitor)) (S.contents sink.new) (S.has_failed sink.new) }
+    ensures { Wrote (S.contents sink.old) (S.has_failed sink.old) (further (mark is_traitor)) (S.contents sink.new)
+        (S.has_failed sink.new) }
 {
     if is_traitor {
         put_all(sink, b" traitor");
@@ -175,7 +191,8 @@ fn put_mark<S: Sink>(sink: &mut S, is_traitor: bool)
 
 /// The line of a lieutenant's decision.
 pub fn put_decision<S: Sink>(sink: &mut S, general: u32, is_traitor: bool, decision: u32)
-    ensures { Wrote (S.contents sink.old) (S.has_failed sink.old) (text (decision_line general is_traitor decision ∷ [])) (S.contents sink.new) (S.has_failed sink.new) }
+    ensures { Wrote (S.contents sink.old) (S.has_failed sink.old)
+        (text (decision_line general is_traitor decision ∷ [])) (S.contents sink.new) (S.has_failed sink.new) }
 {
     put_headed(sink, b"decision", general as u64);
     put_mark(sink, is_traitor);
@@ -185,7 +202,8 @@ pub fn put_decision<S: Sink>(sink: &mut S, general: u32, is_traitor: bool, decis
 
 /// Yes or no, behind a space.
 fn put_yes_no<S: Sink>(sink: &mut S, is_so: bool)
-    ensures { Wrote (S.contents sink.old) (S.has_failed sink.old) (32 ∷ yes_no is_so) (S.contents sink.new) (S.has_failed sink.new) }
+    ensures { Wrote (S.contents sink.old) (S.has_failed sink.old) (32 ∷ yes_no is_so) (S.contents sink.new)
+        (S.has_failed sink.new) }
 {
     if is_so {
         put_all(sink, b" yes");
@@ -196,7 +214,8 @@ fn put_yes_no<S: Sink>(sink: &mut S, is_so: bool)
 
 /// Yes, no, or a dash, behind a space.
 fn put_yes_no_none<S: Sink>(sink: &mut S, is_so: Option<bool>)
-    ensures { Wrote (S.contents sink.old) (S.has_failed sink.old) (32 ∷ yes_no_none is_so) (S.contents sink.new) (S.has_failed sink.new) }
+    ensures { Wrote (S.contents sink.old) (S.has_failed sink.old) (32 ∷ yes_no_none is_so) (S.contents sink.new)
+        (S.has_failed sink.new) }
 {
     match is_so {
         Some(is_so) => put_yes_no(sink, is_so),
@@ -206,7 +225,8 @@ fn put_yes_no_none<S: Sink>(sink: &mut S, is_so: Option<bool>)
 
 /// The line of the verdict.
 pub fn put_verdict<S: Sink>(sink: &mut S, verdict: Verdict)
-    ensures { Wrote (S.contents sink.old) (S.has_failed sink.old) (text (verdict_line verdict ∷ [])) (S.contents sink.new) (S.has_failed sink.new) }
+    ensures { Wrote (S.contents sink.old) (S.has_failed sink.old) (text (verdict_line verdict ∷ []))
+        (S.contents sink.new) (S.has_failed sink.new) }
 {
     put_all(sink, b"verdict alike");
     put_yes_no(sink, verdict.alike);

@@ -58,8 +58,8 @@ fn said(line: &[u8]) -> Mark
     }
 }
 
-/// The generals of a text's accesses, in order: first those before the line of a round, then those behind each such line.
-/// There are at most so many lists, and no more is read than they need.
+/// The generals of a text's accesses, in order: first those before the line of a round, then those behind each such
+/// line. There are at most so many lists, and no more is read than they need.
 ///
 /// # Errors
 ///
@@ -67,7 +67,8 @@ fn said(line: &[u8]) -> Mark
 #[tactic(auto, using(crate::proofs::MarkLemmas::few_lists))]
 pub fn names(alloc: Global, text: &[u8], most: usize) -> Result<Vec<Vec<u8>>, AllocError>
     requires { 0 < most }
-    ensures { IfOk result (λ lists. lists_in lists.items ≡ take most (all_names (named (map (pieces space) (pieces feed text.now))))) }
+    ensures { IfOk result (λ lists. lists_in lists.items
+        ≡ take most (all_names (named (map (pieces space) (pieces feed text.now))))) }
 {
     let mut rounds = Vec::new(alloc);
     let mut names = Vec::new(alloc);

@@ -50,15 +50,17 @@ fn signed_difference(text: &[u8], chronicle: &SignedChronicle) -> Option<usize>
     comparison.difference()
 }
 
-/// The audit of a signed campaign's text: the verdict of the campaign, if the text is the chronicle of one of the scenario's.
+/// The audit of a signed campaign's text: the verdict of the campaign, if the text is the chronicle of one of the
+/// scenario's.
 ///
-/// The accesses are replayed in the order that the text tells, and the chronicle of that replay is compared with the text.
+/// The accesses are replayed in the order that the text tells, and the chronicle of that replay is compared with the
+/// text.
 ///
 /// # Errors
 ///
-/// `Line` with the first line of no shape, or without its LF; where there is none, `Scenario` or `Differs` with the line
-/// of the first difference, `Scenario` in the first two lines; the first one differs where its version is another. `Memory`
-/// where memory is refused.
+/// `Line` with the first line of no shape, or without its LF; where there is none, `Scenario` or `Differs` with the
+/// line of the first difference, `Scenario` in the first two lines; the first one differs where its version is another.
+/// `Memory` where memory is refused.
 pub fn check_signed(alloc: Global, scenario: &Scenario, text: &str) -> Result<Verdict, TraceError>
     ensures sound { IfOk result (λ v. IsSoundSignedText scenario.now text.now) }
     ensures verdict { IfOk result (λ v. v ≡ (signed_chronicle_told scenario.now text.now).verdict) }

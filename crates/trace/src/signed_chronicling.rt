@@ -18,7 +18,8 @@ use signed::SignedChronicle;
 
 /// The first two lines: the version and the campaign.
 fn put_signed_head<S: Sink>(sink: &mut S, scenario: &Scenario)
-    ensures { Wrote (S.contents sink.old) (S.has_failed sink.old) (text (head_lines scenario.now)) (S.contents sink.new) (S.has_failed sink.new) }
+    ensures { Wrote (S.contents sink.old) (S.has_failed sink.old) (text (head_lines scenario.now)) (S.contents sink.new)
+        (S.has_failed sink.new) }
 {
     put_all(sink, b"chronicle 3\nsigned ");
     put_campaign_of(sink, scenario);
@@ -29,7 +30,8 @@ fn put_signed_head<S: Sink>(sink: &mut S, scenario: &Scenario)
 
 /// The lines of a signed campaign's chronicle.
 pub(crate) fn put_signed<S: Sink>(sink: &mut S, chronicle: &SignedChronicle)
-    ensures { Wrote (S.contents sink.old) (S.has_failed sink.old) (signed_text chronicle.now) (S.contents sink.new) (S.has_failed sink.new) }
+    ensures { Wrote (S.contents sink.old) (S.has_failed sink.old) (signed_text chronicle.now) (S.contents sink.new)
+        (S.has_failed sink.new) }
 {
     put_signed_head(sink, chronicle.scenario());
     put_signed_rounds(sink, chronicle);
@@ -41,10 +43,12 @@ pub(crate) fn put_signed<S: Sink>(sink: &mut S, chronicle: &SignedChronicle)
 ///
 /// # Errors
 ///
-/// `Write` exactly where the sink has then failed: a beginning of the text went out, nothing where it had failed before.
+/// `Write` exactly where the sink has then failed: a beginning of the text went out, nothing where it had failed
+/// before.
 pub fn write_signed<S: Sink>(chronicle: &SignedChronicle, sink: &mut S) -> Result<(), TraceError>
     ensures written { OnOk result (Appends (S.contents sink.old) (S.contents sink.new) (signed_text chronicle.now)) }
-    ensures beginning { Wrote (S.contents sink.old) (S.has_failed sink.old) (signed_text chronicle.now) (S.contents sink.new) (S.has_failed sink.new) }
+    ensures beginning { Wrote (S.contents sink.old) (S.has_failed sink.old) (signed_text chronicle.now)
+        (S.contents sink.new) (S.has_failed sink.new) }
     ensures fault { IfErr result (λ e. e ≡ unwritten) }
     ensures exactly { is_err result ≡ S.has_failed sink.new }
 {

@@ -25,7 +25,8 @@ fn number_of(letter: &Letter) -> u8
 
 /// The chains that a letter sent in a round, each with its receivers.
 fn sent_by<'a>(chronicle: &'a SignedChronicle, round: usize, letter: &Letter) -> &'a [(Chain, u16)]
-    ensures { map dispatch_of result.now ≡ sent_by (sent_in chronicle.now.scenario chronicle.now.letters) round letter.now.general }
+    ensures { map dispatch_of result.now
+        ≡ sent_by (sent_in chronicle.now.scenario chronicle.now.letters) round letter.now.general }
 {
     chronicle.sent(number_of(letter), round)
 }
@@ -54,7 +55,8 @@ fn put_letters<S: Sink>(sink: &mut S, chronicle: &SignedChronicle, round: usize,
 /// The lines of a round: its own, its accesses and these letters.
 fn put_one<S: Sink>(sink: &mut S, chronicle: &SignedChronicle, round: usize, letters: &[Letter])
     ensures { Wrote (S.contents sink.old) (S.has_failed sink.old)
-        (text (round_told (letter_lines (sent_in chronicle.now.scenario chronicle.now.letters) round) round chronicle.now.accesses letters.now))
+        (text (round_told (letter_lines
+        (sent_in chronicle.now.scenario chronicle.now.letters) round) round chronicle.now.accesses letters.now))
         (S.contents sink.new) (S.has_failed sink.new) }
 {
     put_round(sink, round as u64);
@@ -65,7 +67,8 @@ fn put_one<S: Sink>(sink: &mut S, chronicle: &SignedChronicle, round: usize, let
 /// The lines of the rounds from the first on: of each its own, its accesses and its letters.
 pub fn put_signed_rounds<S: Sink>(sink: &mut S, chronicle: &SignedChronicle)
     ensures { Wrote (S.contents sink.old) (S.has_failed sink.old)
-        (text (rounds_told (letter_lines (sent_in chronicle.now.scenario chronicle.now.letters)) chronicle.now.accesses 1 chronicle.now.letters))
+        (text (rounds_told (letter_lines
+        (sent_in chronicle.now.scenario chronicle.now.letters)) chronicle.now.accesses 1 chronicle.now.letters))
         (S.contents sink.new) (S.has_failed sink.new) }
 {
     let rounds = chronicle.letters();

@@ -17,7 +17,8 @@ pub trait Sink {
     /// Takes a beginning of the piece, at least one byte, and says how many; or takes none, and has failed.
     /// An empty piece changes nothing. What has failed has failed for good.
     fn put(&mut self, piece: &[u8]) -> Option<usize>
-        ensures taken { IfSome result (λ n. (n ≤ length piece.now) × Appends (contents self.old) (contents self.new) (take n piece.now)) }
+        ensures taken { IfSome result (λ n. (n ≤ length piece.now)
+            × Appends (contents self.old) (contents self.new) (take n piece.now)) }
         ensures kept { IfNone result (Keeps (contents self.old) (contents self.new)) }
         ensures some { 0 < length piece.now → IfSome result (λ n. 0 < n) }
         ensures failed { 0 < length piece.now → has_failed self.new ≡ is_none result }

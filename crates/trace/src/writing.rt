@@ -8,7 +8,8 @@ use itoa::write_digits;
 
 /// Writes a piece.
 pub fn put_all<S: Sink>(sink: &mut S, piece: &[u8])
-    ensures { Wrote (S.contents sink.old) (S.has_failed sink.old) piece.now (S.contents sink.new) (S.has_failed sink.new) }
+    ensures { Wrote (S.contents sink.old) (S.has_failed sink.old) piece.now (S.contents sink.new)
+        (S.has_failed sink.new) }
 {
     if sink.failed() {
         return;
@@ -24,7 +25,8 @@ pub fn put_all<S: Sink>(sink: &mut S, piece: &[u8])
 
 /// Writes a sign and a number.
 pub fn put_behind<S: Sink>(sink: &mut S, sign: u8, number: u64)
-    ensures { Wrote (S.contents sink.old) (S.has_failed sink.old) (sign ∷ decimal number) (S.contents sink.new) (S.has_failed sink.new) }
+    ensures { Wrote (S.contents sink.old) (S.has_failed sink.old) (sign ∷ decimal number) (S.contents sink.new)
+        (S.has_failed sink.new) }
 {
     let mut digits = [sign; 21];
     let start = write_digits(number, &mut digits, 21);
@@ -34,14 +36,16 @@ pub fn put_behind<S: Sink>(sink: &mut S, sign: u8, number: u64)
 
 /// Writes a space and a number.
 pub fn put_next<S: Sink>(sink: &mut S, number: u64)
-    ensures { Wrote (S.contents sink.old) (S.has_failed sink.old) (32 ∷ decimal number) (S.contents sink.new) (S.has_failed sink.new) }
+    ensures { Wrote (S.contents sink.old) (S.has_failed sink.old) (32 ∷ decimal number) (S.contents sink.new)
+        (S.has_failed sink.new) }
 {
     put_behind(sink, b' ', number);
 }
 
 /// Writes a line's beginning and a number.
 pub fn put_headed<S: Sink>(sink: &mut S, head: &[u8], number: u64)
-    ensures { Wrote (S.contents sink.old) (S.has_failed sink.old) (head.now ++ 32 ∷ decimal number) (S.contents sink.new) (S.has_failed sink.new) }
+    ensures { Wrote (S.contents sink.old) (S.has_failed sink.old) (head.now ++ 32 ∷ decimal number)
+        (S.contents sink.new) (S.has_failed sink.new) }
 {
     put_all(sink, head);
     put_next(sink, number);

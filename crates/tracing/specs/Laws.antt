@@ -1,4 +1,5 @@
--- What a trace tells is a trial; and the reasons of calls that put nothing hold. Each statement is the contract of a function of this crate.
+-- What a trace tells is a trial; and the reasons of calls that put nothing hold. Each statement is the contract of a
+-- function of this crate.
 use Rattle.std.specs.Prelude.{ℕ, ◌≡◌, ◌≢◌, ◌<◌, ◌++◌, true, List, [], ◌∷◌, Some, codes, decimal, flat_map, length, slice_get}
 use Rattle.insn.specs.declared.insn.Insn.{Insn}
 use Rattle.insn.specs.Program.{instruction_at}
@@ -14,7 +15,8 @@ use Rattle.trial.specs.Trial.{Ending, trial_on}
 use Rattle.tracing.specs.Lines.{before_told}
 use Rattle.tracing.specs.Trace.{trace_on}
 
--- the outcome leads to this state, and leaves the board, which had the first words and answers a request at once, the second
+-- the outcome leads to this state, and leaves the board, which had the first words and answers a request at once, the
+-- second
 abbrev pub LeadsTo : List ℕ → List ℕ → State → Outcome → Type 0
 LeadsTo words left t (Next u) = (t ≡ u) × (left ≡ words)
 LeadsTo words left t (Ask request u) = (t ≡ resumed request (reply words request) u) × (left ≡ next words request)
@@ -40,7 +42,8 @@ AreLinesOf program r0 s (t ∷ ts) (line ∷ lines) = Tells program s line × Ar
 AreLinesOf program r0 s later lines = ⊥
 
 -- the text has a line for each step of the run that ended so, of the state before it
-pub record IsTraceOf (words : List ℕ) (program : List Insn) (context : List ℕ) (relay : Relay) (e : Ending) (text : List ℕ) : Type 0 where
+pub record IsTraceOf (words : List ℕ) (program : List Insn) (context : List ℕ) (relay : Relay) (e : Ending)
+    (text : List ℕ) : Type 0 where
   pub later : List State
   pub run : IsRun program context relay words (entry (empty_outbox relay)) later e
   pub lines : List (List ℕ)
@@ -52,16 +55,21 @@ pub record IsTraceOf (words : List ℕ) (program : List Insn) (context : List �
 abbrev pub TracesAreTrials : Type 0
 TracesAreTrials =
     (words : List ℕ) (program : List Insn) (context : List ℕ) (relay : Relay) (e : Ending)
-    → trial_on words program context relay ≡ Some e → IsTraceOf words program context relay e (trace_on words program context relay)
+    → trial_on words program context relay ≡ Some e →
+    IsTraceOf words program context relay e (trace_on words program context relay)
 
--- where a call sets no place though this label is relayed: a receiver who is another general stands on it; and of orders for its row, where
--- there are some, nobody hears
+-- where a call sets no place though this label is relayed: a receiver who is another general stands on it; and of
+-- orders for its row, where there are some, nobody hears
 pub record ReasonsHold : Type 0 where
-  pub place : (r : Relay) (rank receiver order : ℕ) (label : List ℕ) → slice_get (relayed r) rank ≡ Some label → places_set r (at_place rank receiver order) ≡ 0
+  pub place : (r : Relay) (rank receiver order : ℕ) (label : List ℕ) → slice_get (relayed r) rank ≡ Some label →
+      places_set r (at_place rank receiver order) ≡ 0
       → receiver < r.shape.generals → receiver ≢ r.shape.general → on label receiver ≡ true
-  pub row : (r : Relay) (rank : ℕ) (orders label : List ℕ) → slice_get (relayed r) rank ≡ Some label → places_set r (along_row rank orders) ≡ 0
+  pub row : (r : Relay) (rank : ℕ) (orders label : List ℕ) → slice_get (relayed r) rank ≡ Some label →
+      places_set r (along_row rank orders) ≡ 0
       → length orders ≢ 0 → receivers r.shape label ≡ []
-  pub same : (r : Relay) (receiver order rank : ℕ) (label : List ℕ) → slice_get (relayed r) rank ≡ Some label → places_set r (at_receiver receiver order) ≡ 0
+  pub same : (r : Relay) (receiver order rank : ℕ) (label : List ℕ) → slice_get (relayed r) rank ≡ Some label →
+      places_set r (at_receiver receiver order) ≡ 0
       → receiver < r.shape.generals → receiver ≢ r.shape.general → on label receiver ≡ true
-  pub taken : (r : Relay) (context : List ℕ) (receiver rank : ℕ) (label : List ℕ) → slice_get (relayed r) rank ≡ Some label → places_set r (as_taken context receiver) ≡ 0
+  pub taken : (r : Relay) (context : List ℕ) (receiver rank : ℕ) (label : List ℕ) →
+      slice_get (relayed r) rank ≡ Some label → places_set r (as_taken context receiver) ≡ 0
       → receiver < r.shape.generals → receiver ≢ r.shape.general → on label receiver ≡ true

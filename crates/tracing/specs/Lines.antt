@@ -17,7 +17,8 @@ read_told registers None = []
 read_told registers (Some r) = codes " ; " ++ register_told registers r
 
 abbrev pub reads_told : List Value → List (Option ℕ) → List ℕ
-reads_told registers (first ∷ second ∷ third ∷ []) = read_told registers first ++ read_told registers second ++ read_told registers third
+reads_told registers (first ∷ second ∷ third ∷ []) =
+    read_told registers first ++ read_told registers second ++ read_told registers third
 reads_told registers _ = []
 
 -- where it stores, if it does
@@ -27,7 +28,8 @@ stored_told registers i = []
 
 -- `UNIT INSTRUCTION`, the registers that it reads, and where it stores
 abbrev pub before_told : ℕ → List Value → Insn → List ℕ
-before_told unit registers i = decimal unit ++ codes " " ++ insn_text i ++ reads_told registers (read_by i) ++ stored_told registers i
+before_told unit registers i =
+    decimal unit ++ codes " " ++ insn_text i ++ reads_told registers (read_by i) ++ stored_told registers i
 
 -- ---- behind it
 
@@ -56,7 +58,8 @@ after_told unit registers Exit = []
 -- the word of the board that it asked for, before and after
 abbrev pub word_told : ℕ → List ℕ → List ℕ → List ℕ
 word_told slot words left =
-    codes " ; word " ++ decimal slot ++ codes " " ++ decimal (slice_index words slot) ++ codes " to " ++ decimal (slice_index left slot)
+    codes " ; word " ++ decimal slot ++ codes " " ++ decimal (slice_index words slot) ++ codes " to "
+    ++ decimal (slice_index left slot)
 
 -- those of so many words in a row
 unfoldable pub words_told : ℕ → ℕ → List ℕ → List ℕ → List ℕ

@@ -39,7 +39,8 @@ passed_over sender receiver such =
 
 abbrev pub unheard : Shape → ℕ → List ℕ → List ℕ
 unheard shape receiver such =
-    if nat_lt receiver shape.generals then passed_over shape.general receiver such else codes "there is no general " ++ decimal receiver
+    if nat_lt receiver shape.generals then passed_over shape.general receiver such
+    else codes "there is no general " ++ decimal receiver
 
 -- of send: no label of that rank, or a receiver to whom that label does not go
 abbrev pub no_place : Relay → ℕ → ℕ → Option (List ℕ) → List ℕ
@@ -49,11 +50,13 @@ no_place r rank receiver (Some label) = unheard r.shape receiver (codes "the lab
 -- of send_row: no label of that rank, no order, or a label that goes to nobody
 abbrev pub no_row : Relay → ℕ → ℕ → Option (List ℕ) → List ℕ
 no_row r rank orders None = past rank (length (relayed r))
-no_row r rank orders (Some label) = if orders == 0 then codes "no orders were given" else codes "nobody hears of the label " ++ dotted label
+no_row r rank orders (Some label) =
+    if orders == 0 then codes "no orders were given" else codes "nobody hears of the label " ++ dotted label
 
 -- of sway and honest, with so many labels: none of them, or a receiver to whom none goes
 abbrev pub no_label : Shape → ℕ → ℕ → List ℕ
-no_label shape receiver labels = if labels == 0 then codes "nothing is relayed in this round" else unheard shape receiver (codes "every label")
+no_label shape receiver labels =
+    if labels == 0 then codes "nothing is relayed in this round" else unheard shape receiver (codes "every label")
 
 -- ---- a call
 
@@ -68,7 +71,13 @@ number_at s r = number_in (value_at s.registers r)
 -- the call of a helper that an instruction is, with the numbers in r1, r2 and r3
 abbrev pub call_by : State → Option Helper → Option Call
 call_by s None = None
-call_by s (Some helper) = Some (record { unit = s.unit; helper = helper; first = number_at s 1; second = number_at s 2; third = number_at s 3 })
+call_by s (Some helper) = Some (record {
+  unit = s.unit;
+  helper = helper;
+  first = number_at s 1;
+  second = number_at s 2;
+  third = number_at s 3;
+})
 
 abbrev pub call_at : State → Insn → Option Call
 call_at s (insn.Call number) = call_by s (helper_of number)
@@ -107,7 +116,8 @@ unfoldable pub unit_told : List (String Global) → ℕ → List ℕ
 unit_told places unit = decimal unit ++ in_brackets (place_of (slice_get places unit))
 
 abbrev pub note_of : List (String Global) → Relay → Call → List ℕ
-note_of places r call = codes "note: at " ++ unit_told places call.unit ++ codes ", " ++ name_of call.helper ++ codes " puts nothing: " ++ reason_of r call ++ codes "\n"
+note_of places r call = codes "note: at " ++ unit_told places call.unit ++ codes ", " ++ name_of call.helper
+    ++ codes " puts nothing: " ++ reason_of r call ++ codes "\n"
 
 -- the places that a call chooses, of those helpers that put orders
 abbrev pub chosen : List ℕ → State → Helper → Option (Result Choice Cause)
@@ -154,13 +164,17 @@ followed rest words (Exit r0 t) = []
 followed rest words (Trap cause) = []
 
 abbrev pub slips_at : List (String Global) → List Insn → List ℕ → Relay → Rest → List ℕ → State → List ℕ
-slips_at places program context r rest words s = slip_at places context r s (instruction_at program s.unit) ++ followed rest words (step program context r s)
+slips_at places program context r rest words s =
+    slip_at places context r s (instruction_at program s.unit) ++ followed rest words (step program context r s)
 
 -- those of at most so many steps from a state on, with a board of these words
 unfoldable pub slips_from : List (String Global) → List Insn → List ℕ → Relay → ℕ → List ℕ → State → List ℕ
 slips_from places program context r zero words s = []
-slips_from places program context r (suc k) words s = slips_at places program context r (λ left t. slips_from places program context r k left t) words s
+slips_from places program context r (suc k) words s =
+    slips_at places program context r (λ left t. slips_from places program context r k left t) words s
 
--- those of the whole run, with a board of these words, of a program with these places of its units: within as many steps as it has instructions
+-- those of the whole run, with a board of these words, of a program with these places of its units: within as many
+-- steps as it has instructions
 abbrev pub slips_on : List (String Global) → List ℕ → List Insn → List ℕ → Relay → List ℕ
-slips_on places words program context r = slips_from places program context r (length program) words (entry (empty_outbox r))
+slips_on places words program context r =
+    slips_from places program context r (length program) words (entry (empty_outbox r))

@@ -16,11 +16,13 @@ Rest = List ℕ → State → List ℕ
 
 -- the line of an instruction, by what its step leads to, and the lines behind it; the board answers a request at once
 abbrev pub line_of : Rest → List ℕ → State → Insn → Outcome → List ℕ
-line_of rest words s i (Next t) = before_told s.unit s.registers i ++ (after_told t.unit t.registers i ++ (codes "\n" ++ rest words t))
+line_of rest words s i (Next t) =
+    before_told s.unit s.registers i ++ (after_told t.unit t.registers i ++ (codes "\n" ++ rest words t))
 line_of rest words s i (Ask request t) =
     before_told s.unit s.registers i
     ++ (after_told (resumed request (reply words request) t).unit (resumed request (reply words request) t).registers i
-    ++ (request_told request words (next words request) ++ (codes "\n" ++ rest (next words request) (resumed request (reply words request) t))))
+    ++ (request_told request words (next words request)
+    ++ (codes "\n" ++ rest (next words request) (resumed request (reply words request) t))))
 line_of rest words s i (Exit r0 t) = before_told s.unit s.registers i ++ codes "\n"
 line_of rest words s i (Trap cause) = []
 
@@ -30,13 +32,16 @@ told rest words s (Some i) outcome = line_of rest words s i outcome
 
 -- the line of the instruction that stands there, and those behind it
 abbrev pub told_at : List Insn → List ℕ → Relay → Rest → List ℕ → State → List ℕ
-told_at program context relay rest words s = told rest words s (instruction_at program s.unit) (step program context relay s)
+told_at program context relay rest words s =
+    told rest words s (instruction_at program s.unit) (step program context relay s)
 
 -- the lines of at most so many steps from a state on, with a board of these words
 unfoldable pub lines_from : List Insn → List ℕ → Relay → ℕ → List ℕ → State → List ℕ
 lines_from program context relay zero words s = []
-lines_from program context relay (suc k) words s = told_at program context relay (λ left t. lines_from program context relay k left t) words s
+lines_from program context relay (suc k) words s =
+    told_at program context relay (λ left t. lines_from program context relay k left t) words s
 
 -- the lines of the whole run, with a board of these words: within as many steps as the program has instructions
 abbrev pub trace_on : List ℕ → List Insn → List ℕ → Relay → List ℕ
-trace_on words program context relay = lines_from program context relay (length program) words (entry (empty_outbox relay))
+trace_on words program context relay =
+    lines_from program context relay (length program) words (entry (empty_outbox relay))

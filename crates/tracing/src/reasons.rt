@@ -106,7 +106,8 @@ fn put_no_place(
     rank: u64,
     receiver: u64,
 ) -> Result<(), AllocError>
-    ensures { OnOk result (string_bytes out.new ≡ string_bytes out.old ++ no_place outbox.now.relay rank receiver (slice_get (relayed outbox.now.relay) rank)) }
+    ensures { OnOk result (string_bytes out.new ≡ string_bytes out.old
+        ++ no_place outbox.now.relay rank receiver (slice_get (relayed outbox.now.relay) rank)) }
 {
     let labels = outbox.labels();
     if rank >= u64::from(labels) {
@@ -125,7 +126,8 @@ fn put_no_row(
     rank: u64,
     orders: u64,
 ) -> Result<(), AllocError>
-    ensures { OnOk result (string_bytes out.new ≡ string_bytes out.old ++ no_row outbox.now.relay rank orders (slice_get (relayed outbox.now.relay) rank)) }
+    ensures { OnOk result (string_bytes out.new ≡ string_bytes out.old
+        ++ no_row outbox.now.relay rank orders (slice_get (relayed outbox.now.relay) rank)) }
 {
     let labels = outbox.labels();
     if rank >= u64::from(labels) {
@@ -140,7 +142,8 @@ fn put_no_row(
 
 /// Adds why `sway` and `honest` put nothing for a receiver.
 fn put_no_label(out: &mut String, outbox: &Outbox, receiver: u64) -> Result<(), AllocError>
-    ensures { OnOk result (string_bytes out.new ≡ string_bytes out.old ++ no_label outbox.now.relay.shape receiver (length (relayed outbox.now.relay))) }
+    ensures { OnOk result (string_bytes out.new ≡ string_bytes out.old
+        ++ no_label outbox.now.relay.shape receiver (length (relayed outbox.now.relay))) }
 {
     if outbox.labels() == 0 {
         return out.push_str("nothing is relayed in this round");
@@ -187,7 +190,8 @@ fn put_passed_over(
 /// The label of that rank that is relayed, as it is written.
 fn label_text(alloc: Global, outbox: &Outbox, rank: u32) -> Result<String, AllocError>
     requires { rank < length (relayed outbox.now.relay) }
-    ensures { IfOk result (λ text. (label : List ℕ) → slice_get (relayed outbox.now.relay) rank ≡ Some label → string_bytes text ≡ dotted label) }
+    ensures { IfOk result (λ text. (label : List ℕ) → slice_get (relayed outbox.now.relay) rank ≡ Some label →
+        string_bytes text ≡ dotted label) }
 {
     relay_text(alloc, outbox.shape(), rank)
 }
@@ -196,7 +200,8 @@ fn label_text(alloc: Global, outbox: &Outbox, rank: u32) -> Result<String, Alloc
 fn relay_text(alloc: Global, shape: Shape, rank: u32) -> Result<String, AllocError>
     requires shape { IsShape shape }
     requires within { rank < length (relay shape) }
-    ensures { IfOk result (λ text. (label : List ℕ) → slice_get (relay shape) rank ≡ Some label → string_bytes text ≡ dotted label) }
+    ensures { IfOk result (λ text. (label : List ℕ) → slice_get (relay shape) rank ≡ Some label →
+        string_bytes text ≡ dotted label) }
 {
     if shape.general == shape.commander {
         return dotted(alloc, &[]);

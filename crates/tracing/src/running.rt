@@ -20,8 +20,8 @@ use semantics::Request;
 use std::alloc::{AllocError, Global};
 use verify::Verified;
 
-/// The run of a program to its exit, in this context and with an outbox of this relay, told step by step. The board that
-/// it asks is its own, and begins with these words.
+/// The run of a program to its exit, in this context and with an outbox of this relay, told step by step. The board
+/// that it asks is its own, and begins with these words.
 ///
 /// # Errors
 ///
@@ -66,12 +66,15 @@ fn turn(
     requires few { length verified.now ≤ 4096 }
     ensures relay { activation.new.relay ≡ activation.old.relay }
     ensures on { IfOk result (λ ended. ended ≡ false → IsOfRun verified.now context.now activation.new) }
-    ensures counted { IfOk result (λ ended. ended ≡ false → activation.new.state.steps ≡ activation.old.state.steps + 1) }
+    ensures counted { IfOk result (λ ended. ended ≡ false →
+        activation.new.state.steps ≡ activation.old.state.steps + 1) }
     ensures told { IfOk result (λ ended. ended ≡ false → (rest : Rest) →
-        string_bytes out.old ++ told_at verified.now context.now activation.old.relay rest board.old.words activation.old.state
+        string_bytes out.old ++ told_at verified.now context.now activation.old.relay rest board.old.words
+        activation.old.state
         ≡ string_bytes out.new ++ rest board.new.words activation.new.state) }
     ensures ended { IfOk result (λ ended. ended ≡ true → (rest : Rest) →
-        string_bytes out.old ++ told_at verified.now context.now activation.old.relay rest board.old.words activation.old.state
+        string_bytes out.old ++ told_at verified.now context.now activation.old.relay rest board.old.words
+        activation.old.state
         ≡ string_bytes out.new) }
 {
     let Some(insn) = verified.program().at(activation.unit()) else {
@@ -106,7 +109,8 @@ fn serve(
     board: &mut Board,
 ) -> Result<(), AllocError>
     ensures relay { activation.new.relay ≡ activation.old.relay }
-    ensures state { OnOk result (activation.new.state ≡ resumed request (reply board.old.words request) activation.old.state) }
+    ensures state { OnOk result
+        (activation.new.state ≡ resumed request (reply board.old.words request) activation.old.state) }
     ensures words { OnOk result (board.new.words ≡ next board.old.words request) }
     ensures of_run { OnOk result ((program : List InsnValue) (context : List ℕ) →
         IsAskOfRun program context request activation.old → IsOfRun program context activation.new) }

@@ -22,9 +22,10 @@ use semantics::{Request, Value};
 use std::alloc::{AllocError, Global};
 use verify::Verified;
 
-/// A line for each call of `send`, `send_row`, `sway` or `honest` that puts nothing, with the reason, of the run of a program
-/// to its exit, in this context and with an outbox of this relay. The board that it asks is its own, and begins with these
-/// words. With its unit stands a call's place in the text that the program was written in, where `places` has it for the unit.
+/// A line for each call of `send`, `send_row`, `sway` or `honest` that puts nothing, with the reason, of the run of a
+/// program to its exit, in this context and with an outbox of this relay. The board that it asks is its own, and begins
+/// with these words. With its unit stands a call's place in the text that the program was written in, where `places`
+/// has it for the unit.
 ///
 /// # Errors
 ///
@@ -38,7 +39,8 @@ pub fn slips(
     places: &[String],
 ) -> Result<String, AllocError>
     requires { IsShape shape }
-    ensures { IfOk result (λ text. string_bytes text ≡ slips_on places.now words verified.now context.now (oral shape)) }
+    ensures { IfOk result (λ text. string_bytes text
+        ≡ slips_on places.now words verified.now context.now (oral shape)) }
 {
     let mut text = String::new(alloc);
     let mut board = Board::new(alloc, words);
@@ -74,12 +76,15 @@ fn go_on(
     ensures fewer { activation.old.state.steps < length verified.now }
     ensures relay { activation.new.relay ≡ activation.old.relay }
     ensures on { IfOk result (λ ended. ended ≡ false → IsOfRun verified.now context.now activation.new) }
-    ensures counted { IfOk result (λ ended. ended ≡ false → activation.new.state.steps ≡ activation.old.state.steps + 1) }
+    ensures counted { IfOk result (λ ended. ended ≡ false →
+        activation.new.state.steps ≡ activation.old.state.steps + 1) }
     ensures told { IfOk result (λ ended. ended ≡ false → (rest : Rest) →
-        string_bytes out.old ++ slips_at places.now verified.now context.now activation.old.relay rest board.old.words activation.old.state
+        string_bytes out.old ++ slips_at places.now verified.now context.now activation.old.relay rest board.old.words
+        activation.old.state
         ≡ string_bytes out.new ++ rest board.new.words activation.new.state) }
     ensures ended { IfOk result (λ ended. ended ≡ true → (rest : Rest) →
-        string_bytes out.old ++ slips_at places.now verified.now context.now activation.old.relay rest board.old.words activation.old.state
+        string_bytes out.old ++ slips_at places.now verified.now context.now activation.old.relay rest board.old.words
+        activation.old.state
         ≡ string_bytes out.new) }
 {
     let program = verified.program();
@@ -110,7 +115,8 @@ fn answer(
     board: &mut Board,
 ) -> Result<(), AllocError>
     ensures relay { activation.new.relay ≡ activation.old.relay }
-    ensures state { OnOk result (activation.new.state ≡ resumed request (reply board.old.words request) activation.old.state) }
+    ensures state { OnOk result
+        (activation.new.state ≡ resumed request (reply board.old.words request) activation.old.state) }
     ensures words { OnOk result (board.new.words ≡ next board.old.words request) }
     ensures of_run { OnOk result ((program : List InsnValue) (context : List ℕ) →
         IsAskOfRun program context request activation.old → IsOfRun program context activation.new) }
@@ -174,7 +180,8 @@ fn put_slip(
     activation: &Activation,
     call: Option<Call>,
 ) -> Result<(), AllocError>
-    ensures { OnOk result (string_bytes out.new ≡ string_bytes out.old ++ where_said places.now activation.now.relay (number_at activation.now.state 0) call) }
+    ensures { OnOk result (string_bytes out.new ≡ string_bytes out.old
+        ++ where_said places.now activation.now.relay (number_at activation.now.state 0) call) }
 {
     let Some(call) = call else {
         return Ok(());

@@ -13,7 +13,8 @@ use std::alloc::AllocError;
 
 /// Adds a register and what it holds.
 fn put_register(out: &mut String, activation: &Activation, register: Reg) -> Result<(), AllocError>
-    ensures { OnOk result (string_bytes out.new ≡ string_bytes out.old ++ register_told activation.now.state.registers register) }
+    ensures { OnOk result (string_bytes out.new ≡ string_bytes out.old
+        ++ register_told activation.now.state.registers register) }
 {
     let held = Held(activation.value(register));
     let number = register.number();
@@ -26,7 +27,8 @@ fn put_read(
     activation: &Activation,
     register: Option<Reg>,
 ) -> Result<(), AllocError>
-    ensures { OnOk result (string_bytes out.new ≡ string_bytes out.old ++ read_told activation.now.state.registers register) }
+    ensures { OnOk result (string_bytes out.new ≡ string_bytes out.old
+        ++ read_told activation.now.state.registers register) }
 {
     let Some(register) = register else {
         return Ok(());
@@ -37,7 +39,8 @@ fn put_read(
 
 /// Adds the registers that are read.
 fn put_reads(out: &mut String, activation: &Activation, read: Registers) -> Result<(), AllocError>
-    ensures { OnOk result (string_bytes out.new ≡ string_bytes out.old ++ reads_told activation.now.state.registers read) }
+    ensures { OnOk result (string_bytes out.new ≡ string_bytes out.old
+        ++ reads_told activation.now.state.registers read) }
 {
     let [first, second, third] = read;
     put_read(out, activation, first)?;
@@ -59,7 +62,8 @@ fn put_place(out: &mut String, base: Value, offset: i16) -> Result<(), AllocErro
 
 /// Adds where an instruction stores, if it does.
 fn put_stored(out: &mut String, activation: &Activation, insn: &Insn) -> Result<(), AllocError>
-    ensures { OnOk result (string_bytes out.new ≡ string_bytes out.old ++ stored_told activation.now.state.registers insn.now) }
+    ensures { OnOk result (string_bytes out.new ≡ string_bytes out.old
+        ++ stored_told activation.now.state.registers insn.now) }
 {
     match insn {
         Insn::Store { base, offset, .. } => put_place(out, activation.value(*base), *offset),
@@ -69,7 +73,8 @@ fn put_stored(out: &mut String, activation: &Activation, insn: &Insn) -> Result<
 
 /// Adds what is told before a step: the unit, its instruction, the registers that it reads, and where it stores.
 pub fn put_before(out: &mut String, activation: &Activation, insn: &Insn) -> Result<(), AllocError>
-    ensures { OnOk result (string_bytes out.new ≡ string_bytes out.old ++ before_told activation.now.state.unit activation.now.state.registers insn.now) }
+    ensures { OnOk result (string_bytes out.new ≡ string_bytes out.old
+        ++ before_told activation.now.state.unit activation.now.state.registers insn.now) }
 {
     let unit = activation.unit();
     write!(out, "{unit} ")?;
@@ -80,7 +85,8 @@ pub fn put_before(out: &mut String, activation: &Activation, insn: &Insn) -> Res
 
 /// Adds a register that was written.
 fn put_wrote(out: &mut String, activation: &Activation, register: Reg) -> Result<(), AllocError>
-    ensures { OnOk result (string_bytes out.new ≡ string_bytes out.old ++ wrote activation.now.state.registers register) }
+    ensures { OnOk result (string_bytes out.new ≡ string_bytes out.old
+        ++ wrote activation.now.state.registers register) }
 {
     out.push_str(" -> ")?;
     put_register(out, activation, register)
@@ -96,7 +102,8 @@ fn put_went(out: &mut String, activation: &Activation) -> Result<(), AllocError>
 
 /// Adds what is told behind a step: the register that it wrote, or where it led.
 pub fn put_after(out: &mut String, activation: &Activation, insn: &Insn) -> Result<(), AllocError>
-    ensures { OnOk result (string_bytes out.new ≡ string_bytes out.old ++ after_told activation.now.state.unit activation.now.state.registers insn.now) }
+    ensures { OnOk result (string_bytes out.new ≡ string_bytes out.old
+        ++ after_told activation.now.state.unit activation.now.state.registers insn.now) }
 {
     match insn {
         Insn::Arithmetic { dst, .. } => put_wrote(out, activation, *dst),

@@ -8,7 +8,13 @@ use Rattle.tree.specs.LieutenantTree.{LieutenantTree, IsFilled}
 
 -- the fields as a contract sees them
 abbrev pub kept : Space → ℕ → List (Vec (Option ℕ) Global) → LieutenantTree
-kept s m ls = record { generals = s.generals; bound = m; commander = s.commander; general = s.general; levels = map (λ l. l.items) ls }
+kept s m ls = record {
+  generals = s.generals;
+  bound = m;
+  commander = s.commander;
+  general = s.general;
+  levels = map (λ l. l.items) ls;
+}
 
 -- a campaign, and some messages that fill it
 pub record IsFilledBySome (s : Space) (m : ℕ) (ls : List (Vec (Option ℕ) Global)) : Type 0 where

@@ -49,7 +49,8 @@ impl Tree {
         requires general { general < generals }
         requires lieutenant { general ≢ commander }
         requires bound { bound < 13 }
-        ensures numbers { IfOk result (λ t. (t.generals ≡ generals) × (t.bound ≡ bound) × (t.commander ≡ commander) × (t.general ≡ general)) }
+        ensures numbers { IfOk result (λ t. (t.generals ≡ generals) × (t.bound ≡ bound) × (t.commander ≡ commander)
+            × (t.general ≡ general)) }
         ensures silent { IfOk result (λ t. IsFilled t silence) }
     {
         let space = Space {
@@ -89,7 +90,8 @@ impl Tree {
 
     /// What was filled in for the label; nothing for one that has no place in the tree.
     pub fn value(&self, label: &Label) -> Option<u32>
-        ensures told { (M : Messages) → IsFilled self.now M → IsPlace self.now label.now → result ≡ M label.now self.now.general }
+        ensures told { (M : Messages) → IsFilled self.now M → IsPlace self.now label.now →
+            result ≡ M label.now self.now.general }
         ensures strange { ¬ IsPlace self.now label.now → result ≡ None }
     {
         let size = label.len();
@@ -107,7 +109,8 @@ impl Tree {
         requires some { 0 < size }
         requires short { size ≤ self.now.bound + 1 }
         ensures value { result.now ≡ level_of self.now size }
-        ensures told { (M : Messages) → IsFilled self.now M → result.now ≡ level_told self.now.generals self.now.commander self.now.general M size }
+        ensures told { (M : Messages) → IsFilled self.now M →
+            result.now ≡ level_told self.now.generals self.now.commander self.now.general M size }
         ensures long { length result.now ≡ length (labels self.now.generals self.now.commander self.now.general size) }
     {
         self.levels[(size - 1) as usize].as_slice()
@@ -158,7 +161,8 @@ impl Tree {
         requires callable { (place : ℕ) → place < count → F.pre value place }
         ensures filled { (values : List (Option ℕ)) × AreAnswers (F.post value) count values
             × ((M : Messages) → IsFilled self.old M
-            → IsFilled self.new (told_run M (drop first (labels self.old.generals self.old.commander self.old.general size)) values)) }
+            → IsFilled self.new
+            (told_run M (drop first (labels self.old.generals self.old.commander self.old.general size)) values)) }
         ensures same { SameCampaign self.old self.new }
     {
         write_run(
@@ -207,7 +211,8 @@ fn write_run<F: Fn(usize) -> Option<u32>>(
 )
     requires within { first + count ≤ length row.old }
     requires callable { (place : ℕ) → place < count → F.pre value place }
-    ensures { (values : List (Option ℕ)) × AreAnswers (F.post value) count values × (row.new ≡ run_written first values row.old) }
+    ensures { (values : List (Option ℕ)) × AreAnswers (F.post value) count values
+        × (row.new ≡ run_written first values row.old) }
 {
     for place in 0..count {
         row[first + place] = value(place);

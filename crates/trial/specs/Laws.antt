@@ -15,8 +15,10 @@ use Rattle.round.specs.Contexts.{context_of, took}
 use Rattle.trial.specs.Setting.{Setting, IsTold, context_in}
 use Rattle.trial.specs.Trial.{Ending, trial_on}
 
--- a general's run of the program, by just these accesses, which are a legal history of a board of these words and leave those, has come to where its step is this exit
-pub record IsGeneralsRun (words : List ℕ) (program : List Insn) (context : List ℕ) (relay : Relay) (e : Ending) : Type 0 where
+-- a general's run of the program, by just these accesses, which are a legal history of a board of these words and leave
+-- those, has come to where its step is this exit
+pub record IsGeneralsRun (words : List ℕ) (program : List Insn) (context : List ℕ) (relay : Relay)
+    (e : Ending) : Type 0 where
   pub ledger : List Access
   pub last : Activation
   pub way : IsOnWay relay.shape.general relay.shape.round (started None program context relay) last ledger
@@ -34,7 +36,8 @@ TrialsAreRuns =
 abbrev pub TrialsEnd : Type 0
 TrialsEnd =
     (words : List ℕ) (program : List Insn) (context : List ℕ) (relay : Relay)
-    → IsBoard words → IsSound program → IsContext context → IsRelay relay → IsSome (trial_on words program context relay)
+    → IsBoard words → IsSound program → IsContext context → IsRelay relay →
+    IsSome (trial_on words program context relay)
 
 -- the setting of a general in the round behind these, with a board of these words
 abbrev pub setting_of : Scenario → List (List Letter) → ℕ → List ℕ → Setting
@@ -46,4 +49,5 @@ setting_of s before g words =
 pub record ContextsAreSettings : Type 0 where
   pub possible : (s : Scenario) (before : List (List Letter)) (g : ℕ) (words : List ℕ)
       → IsScenario s → g < s.generals → length before ≤ s.bound → IsTold (setting_of s before g words)
-  pub same : (s : Scenario) (before : List (List Letter)) (g : ℕ) (words : List ℕ) → context_of s before g ≡ context_in (setting_of s before g words)
+  pub same : (s : Scenario) (before : List (List Letter)) (g : ℕ) (words : List ℕ) →
+      context_of s before g ≡ context_in (setting_of s before g words)

@@ -26,7 +26,8 @@ put_line rank receiver (Some order) =
 
 -- what the outbox tells of the label of that rank, by receiver
 unfoldable pub label_lines : Contents → ℕ → List ℕ → List ℕ
-label_lines outbox rank label = flat_map (λ p. put_line rank p (tells outbox label p)) (receivers outbox.relay.shape label)
+label_lines outbox rank label =
+    flat_map (λ p. put_line rank p (tells outbox label p)) (receivers outbox.relay.shape label)
 
 -- and of all labels that are relayed, by rank
 unfoldable pub put_lines : Contents → List ℕ
@@ -34,7 +35,8 @@ put_lines outbox = flat_map (λ l. label_lines outbox l.0 l.1) (enumerate_from 0
 
 -- a word of the board, where it is not what it was before
 abbrev pub word_line : ℕ → ℕ → ℕ → List ℕ
-word_line before index word = if word == before then [] else codes "word " ++ decimal index ++ codes " " ++ decimal word ++ codes "\n"
+word_line before index word =
+    if word == before then [] else codes "word " ++ decimal index ++ codes " " ++ decimal word ++ codes "\n"
 
 -- those of a board that began with these words
 unfoldable pub word_lines : List ℕ → List ℕ → List ℕ
@@ -44,4 +46,8 @@ word_lines opening words = flat_map (λ w. word_line (slice_index opening w.0) w
 abbrev pub trial_lines : List Insn → Setting → Ending → List ℕ
 trial_lines program setting e =
     first_lines (length program) (length (slots_of program)) e.r0 e.state.steps
-    ++ put_lines (record { relay = oral setting.shape; rows = e.state.outbox; entries = e.state.entries }) ++ word_lines setting.board e.words
+    ++ put_lines (record {
+      relay = oral setting.shape;
+      rows = e.state.outbox;
+      entries = e.state.entries;
+    }) ++ word_lines setting.board e.words

@@ -16,4 +16,5 @@ text_of Board = codes "board"
 abbrev pub is_key : List ℕ → Bool
 is_key k =
     bytes_eq k (codes "generals") || (bytes_eq k (codes "bound") || (bytes_eq k (codes "commander") ||
-    (bytes_eq k (codes "general") || (bytes_eq k (codes "round") || (bytes_eq k (codes "taken") || bytes_eq k (codes "board"))))))
+    (bytes_eq k (codes "general")
+    || (bytes_eq k (codes "round") || (bytes_eq k (codes "taken") || bytes_eq k (codes "board"))))))

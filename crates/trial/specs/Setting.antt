@@ -5,8 +5,8 @@ use Rattle.label.specs.declared.shape.Shape.{Shape}
 use Rattle.label.specs.Relay.{IsShape, relay}
 use Rattle.round.specs.Contexts.{context_bytes, context_numbers}
 
--- whose relay it is, the campaign's bound, the order that the general took for each label that he relays, by rank, and the words of the
--- board at first
+-- whose relay it is, the campaign's bound, the order that the general took for each label that he relays, by rank, and
+-- the words of the board at first
 pub record Setting : Type 0 where
   pub shape : Shape
   pub bound : ℕ
@@ -21,7 +21,8 @@ pub record IsTold (s : Setting) : Type 0 where
   pub enough : s.bound + 2 ≤ s.shape.generals
   pub each : length s.taken ≡ length (relay s.shape)
 
--- where a program is checked: the last of 4 generals in the first round under the first, who relays nothing, and one traitor at most;
+-- where a program is checked: the last of 4 generals in the first round under the first, who relays nothing, and one
+-- traitor at most;
 -- the board begins with zeros
 abbrev pub bench : Setting
 bench = record {

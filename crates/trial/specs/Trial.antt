@@ -28,7 +28,8 @@ served rest words (Trap cause) = None
 -- how it ends within k steps from a state, with a board of these words
 unfoldable pub ending : List Insn → List ℕ → Relay → ℕ → List ℕ → State → Option Ending
 ending program context relay zero words s = None
-ending program context relay (suc k) words s = served (λ left t. ending program context relay k left t) words (step program context relay s)
+ending program context relay (suc k) words s =
+    served (λ left t. ending program context relay k left t) words (step program context relay s)
 
 -- how it ends from its entry, within as many steps as it has instructions, with a board of these words
 abbrev pub trial_on : List ℕ → List Insn → List ℕ → Relay → Option Ending

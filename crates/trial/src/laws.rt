@@ -11,8 +11,8 @@ pub fn trials_are_runs()
     ensures { TrialsAreRuns }
 {}
 
-/// What a general is told in a campaign is what he is told in a setting: that of his relay, the campaign's bound, and the
-/// orders that he took.
+/// What a general is told in a campaign is what he is told in a setting: that of his relay, the campaign's bound, and
+/// the orders that he took.
 pub fn contexts_are_settings()
     ensures { ContextsAreSettings }
 {}

@@ -13,7 +13,8 @@ use std::alloc::{AllocError, Global};
 use verify::Verified;
 
 /// Runs a program in a setting: what is printed of it. How large the program is, what it exited with and after how many
-/// steps, what it put, by the rank of the label and the receiver, and the words of the board that are not what they were.
+/// steps, what it put, by the rank of the label and the receiver, and the words of the board that are not what they
+/// were.
 ///
 /// # Errors
 ///
@@ -34,7 +35,11 @@ fn lines(
 ) -> Result<String, AllocError>
     ensures { IfOk result (λ text. string_bytes text ≡
         first_lines (length program.now) (length (slots_of program.now)) exited.now.r0 exited.now.activation.state.steps
-        ++ put_lines (record { relay = exited.now.activation.relay; rows = exited.now.activation.state.outbox; entries = exited.now.activation.state.entries })
+        ++ put_lines (record {
+          relay = exited.now.activation.relay;
+          rows = exited.now.activation.state.outbox;
+          entries = exited.now.activation.state.entries;
+        })
         ++ word_lines opening.now exited.now.board.words) }
 {
     let mut text = first_lines(
@@ -84,7 +89,8 @@ fn push_label(
     rank: u32,
 ) -> Result<(), AllocError>
     requires { rank < length outbox.now.rows }
-    ensures { OnOk result ((label : List ℕ) → slice_get (relayed outbox.now.relay) rank ≡ Some label → string_bytes text.new ≡ string_bytes text.old ++ label_lines outbox.now rank label) }
+    ensures { OnOk result ((label : List ℕ) → slice_get (relayed outbox.now.relay) rank ≡ Some label →
+        string_bytes text.new ≡ string_bytes text.old ++ label_lines outbox.now rank label) }
 {
     let _shape = outbox.shape();
     for receiver in outbox.receivers(rank) {

@@ -13,7 +13,8 @@ use toml::Value;
 /// The orders of a list, and 0 for the labels of further ranks.
 fn listed(alloc: Global, labels: u32, values: &[Value]) -> Result<Vec<u32>, SettingError>
     requires { length values.now ≤ labels }
-    ensures gives { Gives (λ orders. orders.items) result (over set_order 0 (replicate labels 0) (items_view values.now)) }
+    ensures gives { Gives (λ orders. orders.items) result
+        (over set_order 0 (replicate labels 0) (items_view values.now)) }
     ensures long { IfOk result (λ orders. length orders.items ≡ labels) }
 {
     let mut orders = vec![in alloc; 0; labels as usize]?;

@@ -76,8 +76,8 @@ fn unparsed(is_memory: bool) -> SettingError
 ///
 /// # Errors
 ///
-/// The first fault, with its place: that the text is no TOML, then an unknown key (the least by bytes), then `generals`,
-/// `bound`, `commander`, `general`, `round`, `taken` and `board`.
+/// The first fault, with its place: that the text is no TOML, then an unknown key (the least by bytes), then
+/// `generals`, `bound`, `commander`, `general`, `round`, `taken` and `board`.
 pub fn read(alloc: Global, text: &str) -> Result<Setting, SettingError>
     ensures { Reads (parse_document text.now) result }
 {

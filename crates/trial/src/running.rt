@@ -33,7 +33,12 @@ pub struct Exited {
 ///
 /// `AllocError` where the memory for the context, the outbox or an access is refused.
 pub fn run_in(alloc: Global, verified: &Verified, setting: &Setting) -> Result<Exited, AllocError>
-    ensures ending { IfOk result (λ e. trial_in setting.now verified.now ≡ Some (record { r0 = e.r0; state = e.activation.state; words = e.board.words })) }
+    ensures ending { IfOk result
+        (λ e. trial_in setting.now verified.now ≡ Some (record {
+          r0 = e.r0;
+          state = e.activation.state;
+          words = e.board.words;
+        })) }
     ensures relay { IfOk result (λ e. e.activation.relay ≡ oral setting.now.shape) }
     ensures board { IfOk result (λ e. IsOfOne setting.now.shape setting.now.board e.board) }
 {
@@ -42,7 +47,8 @@ pub fn run_in(alloc: Global, verified: &Verified, setting: &Setting) -> Result<E
     run(alloc, verified, &context, setting.shape(), setting.board())
 }
 
-/// Runs a program to its exit, in this context and with an outbox of this relay, with a board that begins with these words.
+/// Runs a program to its exit, in this context and with an outbox of this relay, with a board that begins with these
+/// words.
 fn run(
     alloc: Global,
     verified: &Verified,
@@ -51,7 +57,12 @@ fn run(
     words: [u64; 64],
 ) -> Result<Exited, AllocError>
     requires { IsShape shape }
-    ensures ending { IfOk result (λ e. trial_on words verified.now context.now (oral shape) ≡ Some (record { r0 = e.r0; state = e.activation.state; words = e.board.words })) }
+    ensures ending { IfOk result
+        (λ e. trial_on words verified.now context.now (oral shape) ≡ Some (record {
+          r0 = e.r0;
+          state = e.activation.state;
+          words = e.board.words;
+        })) }
     ensures relay { IfOk result (λ e. e.activation.relay ≡ oral shape) }
     ensures board { IfOk result (λ e. IsOfOne shape words e.board) }
 {
@@ -80,7 +91,12 @@ pub fn run_on(
     requires relay { activation.old.relay ≡ oral shape }
     requires started { activation.old.state ≡ entry (empty_outbox (oral shape)) }
     requires of_run { IsOfRun verified.now context.now activation.old }
-    ensures ending { IfOk result (λ r0. trial_on board.old.words verified.now context.now (oral shape) ≡ Some (record { r0 = r0; state = activation.new.state; words = board.new.words })) }
+    ensures ending { IfOk result
+        (λ r0. trial_on board.old.words verified.now context.now (oral shape) ≡ Some (record {
+          r0 = r0;
+          state = activation.new.state;
+          words = board.new.words;
+        })) }
     ensures relay { activation.new.relay ≡ oral shape }
     ensures board { IfOk result (λ r0. ServesOne shape board.old board.new) }
 {

@@ -8,8 +8,8 @@ use mem::Context;
 use std::alloc::{AllocError, Global};
 use std::marker::Model;
 
-/// What a program is tried in: whose relay it is, the campaign's bound, the order that the general took for each label that
-/// he relays, by rank, and the words of the board at first.
+/// What a program is tried in: whose relay it is, the campaign's bound, the order that the general took for each label
+/// that he relays, by rank, and the words of the board at first.
 #[derive(Debug, Drop)]
 pub struct Setting {
     shape: Shape,
@@ -29,8 +29,8 @@ impl Model for Setting {
 }
 
 impl Setting {
-    /// The setting of a general's relay in a campaign with this bound, with an order for each label that he relays, and a
-    /// board of these words.
+    /// The setting of a general's relay in a campaign with this bound, with an order for each label that he relays, and
+    /// a board of these words.
     pub(crate) fn new(shape: Shape, bound: u32, taken: Vec<u32>, board: [u64; 64]) -> Setting
         requires shape { IsShape shape }
         requires rounds { shape.round ≤ bound + 1 }
@@ -47,7 +47,8 @@ impl Setting {
         }
     }
 
-    /// Where a program is checked: the last of 4 generals in the first round, where he relays nothing, with a board of zeros.
+    /// Where a program is checked: the last of 4 generals in the first round, where he relays nothing, with a board of
+    /// zeros.
     pub fn bench(alloc: Global) -> Setting
         ensures { result ≡ bench }
     {
@@ -91,8 +92,8 @@ impl Setting {
             round,
         } = self.shape;
         let taken = self.taken.as_slice();
-        // The eight numbers with which a context begins (`context_numbers` of `round`): behind the round how many labels are
-        // relayed, how many receivers each has, and 0, as orders are oral.
+        // The eight numbers with which a context begins (`context_numbers` of `round`): behind the round how many
+        // labels are relayed, how many receivers each has, and 0, as orders are oral.
         let header = [
             generals,
             self.bound,

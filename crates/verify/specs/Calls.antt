@@ -51,7 +51,8 @@ taken_reason (Some argument) value = argument_reason (bound_of argument) value
 -- the first reason of the registers from r on
 abbrev pub arguments_reason : List (Option Argument) → ℕ → List AbsVal → Option Reason
 arguments_reason [] r known = None
-arguments_reason (argument ∷ arguments) r known = option_or (taken_reason argument (known_at known r)) (arguments_reason arguments (r + 1) known)
+arguments_reason (argument ∷ arguments) r known =
+    option_or (taken_reason argument (known_at known r)) (arguments_reason arguments (r + 1) known)
 
 -- it is a number below the bound
 abbrev pub IsBelow : ℕ → AbsVal → Type 0
@@ -78,12 +79,14 @@ source_reason known region (Some window) = unset_in known region window
 -- the words that are copied stand on the board, and find room on the stack
 abbrev pub copy_reason : AbsVal → AbsVal → AbsVal → Option Reason
 copy_reason (Number slots) (Pointer region offsets) (Number counts) =
-    option_or (reason_if (nat_lt board_words (greatest slots + greatest counts)) reason.Argument) (write_refused region (window_from region offsets (8 * greatest counts)))
+    option_or (reason_if (nat_lt board_words (greatest slots + greatest counts)) reason.Argument)
+    (write_refused region (window_from region offsets (8 * greatest counts)))
 copy_reason _ _ _ = None
 
 -- the orders that are sent are there
 abbrev pub row_reason : Known → AbsVal → AbsVal → Option Reason
-row_reason known (Pointer region offsets) (Number counts) = source_reason known region (window_from region offsets (4 * greatest counts))
+row_reason known (Pointer region offsets) (Number counts) =
+    source_reason known region (window_from region offsets (4 * greatest counts))
 row_reason known _ _ = None
 
 abbrev pub window_reason : Helper → AbsState → Option Reason
@@ -95,7 +98,8 @@ window_reason _ a = None
 
 abbrev pub helper_reason : Option Helper → AbsState → Option Reason
 helper_reason None a = Some reason.Helper
-helper_reason (Some helper) a = option_or (arguments_reason (arguments_of helper) 1 a.registers) (window_reason helper a)
+helper_reason (Some helper) a =
+    option_or (arguments_reason (arguments_of helper) 1 a.registers) (window_reason helper a)
 
 -- why a call of the number is refused: the number, then the arguments in their order, then the window
 abbrev pub call_reason : AbsState → ℤ → Option Reason

@@ -19,10 +19,14 @@ IsStraight Exit = ⊥
 IsStraight _ = Unit {0}
 
 abbrev pub straight_reason : Insn → AbsState → Option Reason
-straight_reason (Arithmetic w operation dst operand) a = first_reason (arithmetic_checks a.registers w operation dst operand)
-straight_reason (Negate w dst) a = first_reason (made_checks dst (known_at a.registers dst) (negated_known w (known_at a.registers dst)))
-straight_reason (SignExtend w part dst src) a = first_reason (made_checks dst (known_at a.registers src) (extended_known w part (known_at a.registers src)))
-straight_reason (Swap order size dst) a = first_reason (made_checks dst (known_at a.registers dst) (swapped_known order size (known_at a.registers dst)))
+straight_reason (Arithmetic w operation dst operand) a =
+    first_reason (arithmetic_checks a.registers w operation dst operand)
+straight_reason (Negate w dst) a =
+    first_reason (made_checks dst (known_at a.registers dst) (negated_known w (known_at a.registers dst)))
+straight_reason (SignExtend w part dst src) a =
+    first_reason (made_checks dst (known_at a.registers src) (extended_known w part (known_at a.registers src)))
+straight_reason (Swap order size dst) a =
+    first_reason (made_checks dst (known_at a.registers dst) (swapped_known order size (known_at a.registers dst)))
 straight_reason (LoadImmediate dst number) a = first_reason (write_checks dst)
 straight_reason (Load size dst base offset) a = load_reason a size dst base offset
 straight_reason (LoadSigned part dst base offset) a = signed_load_reason a part dst base offset
@@ -32,6 +36,7 @@ straight_reason _ a = None
 
 -- why an instruction may not run, if so
 abbrev pub reason_of : Insn → AbsState → Option Reason
-reason_of (Branch w condition dst operand distance) a = first_reason (compare_checks (known_at a.registers dst) (operand_known a.registers operand))
+reason_of (Branch w condition dst operand distance) a =
+    first_reason (compare_checks (known_at a.registers dst) (operand_known a.registers operand))
 reason_of Exit a = first_reason (exit_checks (known_at a.registers 0))
 reason_of i a = straight_reason i a

@@ -8,7 +8,8 @@ use Rattle.verify.specs.declared.state.AbsState.{AbsState}
 use Rattle.verify.specs.Structure.{structural_fault}
 use Rattle.verify.specs.Judgement.{reached_at, passed_to, judged}
 
--- what the pass knows as it comes to a unit: the outer None where it does not come there, for a fault at an earlier unit; the inner None where no path leads there
+-- what the pass knows as it comes to a unit: the outer None where it does not come there, for a fault at an earlier
+-- unit; the inner None where no path leads there
 abbrev pub known_on_the_pass : List Insn → ℕ → Option (Option AbsState)
 known_on_the_pass program unit = option_map (λ reached. reached_at reached unit) (result_ok (passed_to program unit))
 
@@ -16,7 +17,8 @@ known_on_the_pass program unit = option_map (λ reached. reached_at reached unit
 abbrev pub known_before : List Insn → ℕ → Option (Option AbsState)
 known_before program unit = if is_none (structural_fault program) then known_on_the_pass program unit else None
 
--- these states and this fault, if there is one, are what the verifier knows of a program: at each unit what the pass knows as it comes there, and the first fault
+-- these states and this fault, if there is one, are what the verifier knows of a program: at each unit what the pass
+-- knows as it comes there, and the first fault
 pub record IsSurvey (program : List Insn) (states : List (Option AbsState)) (fault : Option VerifyError) : Type 0 where
   pub known : (unit : ℕ) → unit < length (slots_of program) → slice_get states unit ≡ known_before program unit
   pub room : length states ≤ length (slots_of program)

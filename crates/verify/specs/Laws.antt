@@ -11,12 +11,16 @@ use Rattle.semantics.specs.Plain.{IsPlain}
 use Rattle.semantics.specs.Run.{IsSound}
 use Rattle.verify.specs.Judgement.{judged}
 
--- the pass over a program without a structural fault agrees with what is judged: none has both an end to which the pass comes and a first fault, and none has two first faults
+-- the pass over a program without a structural fault agrees with what is judged: none has both an end to which the pass
+-- comes and a first fault, and none has two first faults
 pub record PassesAgree : Type 0 where
   pub through : (program : List Insn) → structural_fault program ≡ None → ComesThrough program → judged program ≡ None
-  pub stopped : (program : List Insn) (fault : VerifyError) → structural_fault program ≡ None → IsFirstFault program fault → judged program ≡ Some fault
-  pub not_both : (program : List Insn) (fault : VerifyError) → structural_fault program ≡ None → ComesThrough program → IsFirstFault program fault → ⊥
-  pub not_two : (program : List Insn) (fault other : VerifyError) → structural_fault program ≡ None → IsFirstFault program fault → IsFirstFault program other → fault ≡ other
+  pub stopped : (program : List Insn) (fault : VerifyError) → structural_fault program ≡ None →
+      IsFirstFault program fault → judged program ≡ Some fault
+  pub not_both : (program : List Insn) (fault : VerifyError) → structural_fault program ≡ None → ComesThrough program →
+      IsFirstFault program fault → ⊥
+  pub not_two : (program : List Insn) (fault other : VerifyError) → structural_fault program ≡ None →
+      IsFirstFault program fault → IsFirstFault program other → fault ≡ other
 
 -- the function finds no fault in a plain program of well-formed instructions
 abbrev pub PlainIsAccepted : Type 0
@@ -24,4 +28,5 @@ PlainIsAccepted = (program : List Insn) → AllByRecursion IsInsn program → Is
 
 -- a program of well-formed instructions that takes a unit or more, and in which the function finds no fault, is sound
 abbrev pub AcceptedIsSound : Type 0
-AcceptedIsSound = (program : List Insn) → AllByRecursion IsInsn program → 0 < length (slots_of program) → judged program ≡ None → IsSound program
+AcceptedIsSound = (program : List Insn) → AllByRecursion IsInsn program → 0 < length (slots_of program) →
+    judged program ≡ None → IsSound program

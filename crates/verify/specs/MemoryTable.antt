@@ -42,7 +42,8 @@ unset_in known Stack w = if all_bytes known.bytes w.place w.size then None else 
 
 -- the pointer whose pieces 0 to 7 stand from the place on
 abbrev pub spilled_at : Known → ℕ → Option AbsVal
-spilled_at known place = option_map (λ p. Pointer p.0 (p.1, p.1)) (pointer_of (place % 8) (spill_at known.spills (place / 8)))
+spilled_at known place =
+    option_map (λ p. Pointer p.0 (p.1, p.1)) (pointer_of (place % 8) (spill_at known.spills (place / 8)))
 
 -- eight bytes at one address, where the window is no wider than they are, find a pointer
 abbrev pub spilled : Known → Size → Window → Option AbsVal
@@ -85,7 +86,8 @@ signed_load_given known part (Number n) distance = Err PointerUse
 signed_load_given known part (Pointer region at) distance =
     signed_from known region (window_known region at.0 at.1 distance (part_bytes part))
 
--- ---- stores: the base is a pointer, a pointer is stored whole, no context is written, and the window lies in the stack
+-- ---- stores: the base is a pointer, a pointer is stored whole, no context is written, and the window lies in the
+-- stack
 
 -- a pointer is stored as eight bytes, with one offset, at one address
 abbrev pub is_storable : Size → ℤ × ℤ → ℤ × ℤ → Bool
@@ -101,14 +103,16 @@ write_refused Stack (Some w) = None
 
 abbrev pub pointer_refused : Size → Region → ℤ × ℤ → ℤ → ℤ × ℤ → Option Reason
 pointer_refused size region at distance stored =
-    if is_storable size at stored then write_refused region (window_known region at.0 at.1 distance 8) else Some PointerUse
+    if is_storable size at stored then write_refused region (window_known region at.0 at.1 distance 8)
+    else Some PointerUse
 
 -- why a value may not be stored, if so
 abbrev pub store_refused : Size → AbsVal → ℤ → AbsVal → Option Reason
 store_refused size Unset distance value = Some PointerUse
 store_refused size (Number n) distance value = Some PointerUse
 store_refused size (Pointer region at) distance Unset = Some reason.Unset
-store_refused size (Pointer region at) distance (Number n) = write_refused region (window_known region at.0 at.1 distance (bytes_of size))
+store_refused size (Pointer region at) distance (Number n) =
+    write_refused region (window_known region at.0 at.1 distance (bytes_of size))
 store_refused size (Pointer region at) distance (Pointer other stored) = pointer_refused size region at distance stored
 
 -- ---- the instructions' checks in their order: what is read is set, r10 is not written, and then these
@@ -123,11 +127,13 @@ frame_or dst next = if dst == 10 then Some FrameWrite else next
 
 abbrev pub load_reason : AbsState → Size → ℕ → ℕ → ℤ → Option Reason
 load_reason state size dst base offset =
-    unset_or (known_at state.registers base) (frame_or dst (result_err (load_given state.stack size (known_at state.registers base) offset)))
+    unset_or (known_at state.registers base)
+    (frame_or dst (result_err (load_given state.stack size (known_at state.registers base) offset)))
 
 abbrev pub signed_load_reason : AbsState → Narrow → ℕ → ℕ → ℤ → Option Reason
 signed_load_reason state part dst base offset =
-    unset_or (known_at state.registers base) (frame_or dst (result_err (signed_load_given state.stack part (known_at state.registers base) offset)))
+    unset_or (known_at state.registers base)
+    (frame_or dst (result_err (signed_load_given state.stack part (known_at state.registers base) offset)))
 
 abbrev pub store_reason : AbsState → Size → ℕ → ℤ → Operand → Option Reason
 store_reason state size base offset source =

@@ -1,4 +1,5 @@
--- The pass over a whole program, by the function of Judgement: whether it comes to the end, the first instruction that may not run, and what the code answers beside it (own).
+-- The pass over a whole program, by the function of Judgement: whether it comes to the end, the first instruction that
+-- may not run, and what the code answers beside it (own).
 use Rattle.std.specs.Prelude.{ℕ, ◌≡◌, List, Option, Some, None, Box, Result, Ok, Err, length}
 use Rattle.std.specs.declared.alloc.Global.{Global}
 use Rattle.insn.specs.declared.insn.Insn.{Insn}

@@ -37,14 +37,16 @@ made_checks dst value made = (is_unset value, reason.Unset) ∷ (dst == 10, Fram
 abbrev pub arithmetic_checks : List AbsVal → Width → Operation → ℕ → Operand → List Check
 arithmetic_checks known w operation dst operand =
     (is_unset (first_known known operation dst), reason.Unset)
-    ∷ made_checks dst (operand_known known operand) (computed w operation (first_known known operation dst) (operand_known known operand))
+    ∷ made_checks dst (operand_known known operand)
+    (computed w operation (first_known known operation dst) (operand_known known operand))
 
 abbrev pub write_checks : ℕ → List Check
 write_checks dst = (dst == 10, FrameWrite) ∷ []
 
 -- both values are set, and numbers
 abbrev pub compare_checks : AbsVal → AbsVal → List Check
-compare_checks a b = (is_unset a, reason.Unset) ∷ (is_unset b, reason.Unset) ∷ (is_pointer a, PointerUse) ∷ (is_pointer b, PointerUse) ∷ []
+compare_checks a b = (is_unset a, reason.Unset) ∷ (is_unset b, reason.Unset) ∷ (is_pointer a, PointerUse) ∷
+    (is_pointer b, PointerUse) ∷ []
 
 -- r0 is a number
 abbrev pub exit_checks : AbsVal → List Check

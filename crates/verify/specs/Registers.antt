@@ -43,19 +43,22 @@ joined_all known other = table 11 (λ r. joined (known_at known r) (known_at oth
 
 -- numbers are refined, others stay
 abbrev pub refined_known : Width → Condition → Bool → AbsVal → AbsVal → Option (AbsVal × AbsVal)
-refined_known w condition way (Number m) (Number n) = option_map (λ e. (Number e.0, Number e.1)) (refined w condition way m n)
+refined_known w condition way (Number m) (Number n) =
+    option_map (λ e. (Number e.0, Number e.1)) (refined w condition way m n)
 refined_known w condition way a b = Some (a, b)
 
 -- a register is compared with a number, of which the jump's width is used
 abbrev pub number_edge : Width → Condition → Bool → List AbsVal → ℕ → ℕ → Option (List AbsVal)
 number_edge w condition way known dst n =
-    option_map (λ e. slice_set known dst e.0) (refined_known w condition way (known_at known dst) (Number (single (taken w n))))
+    option_map (λ e. slice_set known dst e.0)
+    (refined_known w condition way (known_at known dst) (Number (single (taken w n))))
 
 -- a register is compared with another; of itself it tells nothing
 abbrev pub register_edge : Width → Condition → Bool → List AbsVal → ℕ → ℕ → Option (List AbsVal)
 register_edge w condition way known dst src =
     if dst == src then Some known
-    else option_map (λ e. slice_set (slice_set known dst e.0) src e.1) (refined_known w condition way (known_at known dst) (known_at known src))
+    else option_map (λ e. slice_set (slice_set known dst e.0) src e.1)
+    (refined_known w condition way (known_at known dst) (known_at known src))
 
 abbrev pub edge_by : Width → Condition → Bool → List AbsVal → ℕ → Operand → Option (List AbsVal)
 edge_by w condition way known dst (Register src) = register_edge w condition way known dst src

@@ -31,7 +31,8 @@ target_checks program unit (pos target) =
 abbrev pub jump_checks : List Insn → ℕ → Insn → List Check
 jump_checks program unit (Jump distance) = target_checks program unit (pos (unit + 1) +ℤ distance)
 jump_checks program unit (LongJump distance) = target_checks program unit (pos (unit + 1) +ℤ distance)
-jump_checks program unit (Branch width condition dst operand distance) = target_checks program unit (pos (unit + 1) +ℤ distance)
+jump_checks program unit (Branch width condition dst operand distance) =
+    target_checks program unit (pos (unit + 1) +ℤ distance)
 jump_checks program unit _ = []
 
 -- the checks of the instructions from a unit on, in their order
@@ -49,7 +50,8 @@ last_checks unit [] = []
 last_checks unit (i ∷ []) = (if is_exit i then false else true, At LastNotExit unit) ∷ []
 last_checks unit (i ∷ j ∷ is) = last_checks (unit + units_of i) (j ∷ is)
 
--- the structural fault of a program: the first of its instructions' faults in their order, and behind them that the last is not the exit
+-- the structural fault of a program: the first of its instructions' faults in their order, and behind them that the
+-- last is not the exit
 abbrev pub structural_fault : List Insn → Option VerifyError
 structural_fault program = first_fault (checks_from program 0 program ++ last_checks 0 program)
 

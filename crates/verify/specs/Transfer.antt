@@ -1,4 +1,5 @@
--- The transfer functions: what an instruction leaves of what is known, and what is known along each edge that leads on (own).
+-- The transfer functions: what an instruction leaves of what is known, and what is known along each edge that leads on
+-- (own).
 use Rattle.std.specs.Prelude.{ℕ, ℤ, pos, ◌+◌, ◌*◌, ◌+ℤ◌, ◌==◌, Bool, true, false, if◌then◌else◌, List, [], ◌∷◌, ◌++◌, Option, Some, None, Result, option_map, slice_set}
 use Rattle.std.specs.Result.{result_ok}
 use Rattle.insn.specs.declared.insn.Insn.{Insn}
@@ -44,8 +45,10 @@ pointer_stored region offset None known = known
 pointer_stored region offset (Some w) known = put_pointer w.place region offset known
 
 abbrev pub stored : Size → AbsVal → ℤ → AbsVal → Known → Known
-stored size (Pointer region at) distance (Number n) known = number_stored (bytes_of size) (window_known region at.0 at.1 distance (bytes_of size)) known
-stored size (Pointer region at) distance (Pointer other kept) known = pointer_stored other kept.0 (window_known region at.0 at.1 distance 8) known
+stored size (Pointer region at) distance (Number n) known =
+    number_stored (bytes_of size) (window_known region at.0 at.1 distance (bytes_of size)) known
+stored size (Pointer region at) distance (Pointer other kept) known =
+    pointer_stored other kept.0 (window_known region at.0 at.1 distance 8) known
 stored size base distance value known = known
 
 -- ---- calls
@@ -57,7 +60,8 @@ written true (Some w) known = put_bytes w.place w.size known
 written false (Some w) known = spread_bytes w.place w.size known
 
 abbrev pub copied : AbsVal → AbsVal → Known → Known
-copied (Pointer region offsets) (Number counts) known = written (is_certain offsets counts) (window_from region offsets (8 * greatest counts)) known
+copied (Pointer region offsets) (Number counts) known =
+    written (is_certain offsets counts) (window_from region offsets (8 * greatest counts)) known
 copied target counts known = known
 
 -- of the helpers, the one that copies words of the board writes to the stack
@@ -67,7 +71,8 @@ stack_behind helper a = a.stack
 
 abbrev pub called : Option Helper → AbsState → AbsState
 called None a = a
-called (Some helper) a = record { registers = known_behind (within (returned_range helper)) a.registers; stack = stack_behind helper a }
+called (Some helper) a =
+    record { registers = known_behind (within (returned_range helper)) a.registers; stack = stack_behind helper a }
 
 -- ---- instructions
 
@@ -79,10 +84,15 @@ transfer (Negate w dst) a = assigned a dst (negated_known w (known_at a.register
 transfer (SignExtend w part dst src) a = assigned a dst (extended_known w part (known_at a.registers src))
 transfer (Swap order size dst) a = assigned a dst (swapped_known order size (known_at a.registers dst))
 transfer (LoadImmediate dst number) a = assigned a dst (Some (Number (single number)))
-transfer (Load size dst base offset) a = assigned a dst (result_ok (load_given a.stack size (known_at a.registers base) offset))
-transfer (LoadSigned part dst base offset) a = assigned a dst (result_ok (signed_load_given a.stack part (known_at a.registers base) offset))
+transfer (Load size dst base offset) a =
+    assigned a dst (result_ok (load_given a.stack size (known_at a.registers base) offset))
+transfer (LoadSigned part dst base offset) a =
+    assigned a dst (result_ok (signed_load_given a.stack part (known_at a.registers base) offset))
 transfer (Store size base offset source) a =
-    record { registers = a.registers; stack = stored size (known_at a.registers base) offset (operand_known a.registers source) a.stack }
+    record {
+      registers = a.registers;
+      stack = stored size (known_at a.registers base) offset (operand_known a.registers source) a.stack;
+    }
 transfer (Call number) a = called (helper_of number) a
 transfer i a = a
 
@@ -92,7 +102,8 @@ stepped i a = unless (straight_reason i a) (transfer i a)
 
 -- what a conditional jump tells where it is taken, or is not: nothing where that cannot be
 abbrev pub narrowed : Comparison → Bool → AbsState → Option AbsState
-narrowed c taken a = option_map (λ known. record { registers = known; stack = a.stack }) (edge_known c taken a.registers)
+narrowed c taken a =
+    option_map (λ known. record { registers = known; stack = a.stack }) (edge_known c taken a.registers)
 
 -- a unit, and what is known along an edge that leads there
 abbrev pub Edge : Type 0
@@ -102,12 +113,19 @@ abbrev pub edge_to : ℤ → Option AbsState → List Edge
 edge_to unit None = []
 edge_to unit (Some a) = (unit, a) ∷ []
 
--- the edges that lead on from an instruction at a unit: a jump counts units from the following one (RFC 9669, section 4.3)
+-- the edges that lead on from an instruction at a unit: a jump counts units from the following one (RFC 9669, section
+-- 4.3)
 abbrev pub edges : Insn → ℕ → AbsState → List Edge
 edges (Jump distance) unit a = (pos (unit + 1) +ℤ distance, a) ∷ []
 edges (LongJump distance) unit a = (pos (unit + 1) +ℤ distance, a) ∷ []
 edges (Branch w condition dst operand distance) unit a =
-    edge_to (pos (unit + 1)) (narrowed (record { width = w; condition = condition; dst = dst; operand = operand }) false a)
-    ++ edge_to (pos (unit + 1) +ℤ distance) (narrowed (record { width = w; condition = condition; dst = dst; operand = operand }) true a)
+    edge_to (pos (unit + 1)) (narrowed (record {
+      width = w;
+      condition = condition;
+      dst = dst;
+      operand = operand;
+    }) false a)
+    ++ edge_to (pos (unit + 1) +ℤ distance)
+    (narrowed (record { width = w; condition = condition; dst = dst; operand = operand }) true a)
 edges Exit unit a = []
 edges i unit a = (pos (unit + units_of i), transfer i a) ∷ []

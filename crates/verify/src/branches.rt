@@ -62,8 +62,11 @@ fn refine_by_number(
     number: i32,
 ) -> bool
     requires { first.now ≡ known_at registers.old dst }
-    ensures followed { result ≡ is_some (number_edge compared.0 compared.1 taken registers.old dst (cast_unsigned w64 number)) }
-    ensures left { registers.new ≡ unwrap_or (number_edge compared.0 compared.1 taken registers.old dst (cast_unsigned w64 number)) registers.old }
+    ensures followed { result ≡ is_some
+        (number_edge compared.0 compared.1 taken registers.old dst (cast_unsigned w64 number)) }
+    ensures left { registers.new
+        ≡ unwrap_or (number_edge compared.0 compared.1 taken registers.old dst
+        (cast_unsigned w64 number)) registers.old }
 {
     let second = AbsVal::Number(NumberSet::exactly(used_number(compared.0, number)));
     let Some((first, _)) = refine_values(compared.0, compared.1, taken, *first, second) else {
@@ -85,7 +88,8 @@ fn refine_registers(
 ) -> bool
     requires { first.now ≡ known_at registers.old dst }
     ensures followed { result ≡ is_some (register_edge compared.0 compared.1 taken registers.old dst src) }
-    ensures left { registers.new ≡ unwrap_or (register_edge compared.0 compared.1 taken registers.old dst src) registers.old }
+    ensures left { registers.new
+        ≡ unwrap_or (register_edge compared.0 compared.1 taken registers.old dst src) registers.old }
 {
     if dst.number() == src.number() {
         return true;

@@ -101,7 +101,9 @@ fn is_certain(offsets: Offsets, counts: NumberSet) -> bool
 /// Words are written at an offset of the stack, so many of 8 bytes each.
 fn write_words(stack: &mut AbsStack, offsets: Offsets, counts: NumberSet) -> Result<(), Reason>
     requires { greatest counts ≤ board_words }
-    ensures { let at = window_from Region.Stack offsets (8 * greatest counts) in outcome result stack.new ≡ unless (write_refused Region.Stack at) (written (is_certain offsets counts) at stack.old) }
+    ensures { let at = window_from Region.Stack offsets (8 * greatest counts) in
+        outcome result stack.new
+        ≡ unless (write_refused Region.Stack at) (written (is_certain offsets counts) at stack.old) }
 {
     let Some(window) = window_of(Region::Stack, offsets, 0, 8 * counts.greatest() as usize) else {
         return Err(Reason::Bounds);
@@ -150,7 +152,10 @@ fn check_row(stack: &AbsStack, source: AbsVal, counts: AbsVal) -> Result<(), Rea
 /// The cells at a pointer, for the helpers that take one.
 fn pass_window(state: &mut AbsState, helper: Helper) -> Result<(), Reason>
     requires { arguments_reason (arguments_of helper) 1 state.old.registers ≡ None }
-    ensures { outcome result state.new ≡ unless (window_reason helper state.old) (record state.old { stack = stack_behind helper state.old }) }
+    ensures { outcome result state.new ≡ unless (window_reason helper state.old) (record state.old {
+      stack =
+          stack_behind helper state.old;
+    }) }
 {
     let first = state.registers[1];
     let second = state.registers[2];

@@ -20,7 +20,8 @@ pub struct Survey {
     pub fault: Option<VerifyError>,
 }
 
-/// What is known at each unit of a program, up to its first fault. The pass does not come to a program with a fault of structure.
+/// What is known at each unit of a program, up to its first fault. The pass does not come to a program with a fault of
+/// structure.
 pub fn known_at_units(alloc: Global, program: &Program) -> Result<Survey, AllocError>
     ensures { IfOk result (λ s. IsSurvey program.now s.states.items s.fault) }
 {

@@ -137,7 +137,8 @@ fn store_number(
     base: (Region, Offsets),
     distance: i16,
 ) -> Result<(), Reason>
-    ensures { let at = window_known base.0 base.1.0 base.1.1 distance (bytes_of size) in outcome result stack.new ≡ unless (write_refused base.0 at) (number_stored (bytes_of size) at stack.old) }
+    ensures { let at = window_known base.0 base.1.0 base.1.1 distance (bytes_of size) in
+        outcome result stack.new ≡ unless (write_refused base.0 at) (number_stored (bytes_of size) at stack.old) }
 {
     let window = stack_window(base.0, base.1, distance, size.bytes())?;
     if window.size == size.bytes() {
@@ -157,7 +158,9 @@ fn store_pointer(
     pointer: (Region, Offsets),
 ) -> Result<(), Reason>
     ensures { let at = window_known base.0 base.1.0 base.1.1 distance 8 in
-        outcome result stack.new ≡ unless (pointer_refused size base.0 base.1 distance pointer.1) (pointer_stored pointer.0 pointer.1.0 at stack.old) }
+        outcome result stack.new
+        ≡ unless (pointer_refused size base.0 base.1 distance pointer.1)
+        (pointer_stored pointer.0 pointer.1.0 at stack.old) }
 {
     let Size::Double = size else {
         return Err(Reason::PointerUse);
@@ -178,7 +181,8 @@ pub fn store(
     distance: i16,
     value: AbsVal,
 ) -> Result<(), Reason>
-    ensures { outcome result stack.new ≡ unless (store_refused size base distance value) (stored size base distance value stack.old) }
+    ensures { outcome result stack.new
+        ≡ unless (store_refused size base distance value) (stored size base distance value stack.old) }
 {
     let base = pointer_of(base)?;
     match value {

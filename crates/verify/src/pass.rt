@@ -54,7 +54,8 @@ fn pass_jump(unit: usize, distance: i32, state: Box<AbsState>, pending: &mut Pen
 /// An edge of a conditional jump: what is known there flows on where it may be taken.
 fn pass_edge(unit: usize, followed: bool, state: Box<AbsState>, pending: &mut Pending)
     requires { unit < length pending.old.items }
-    ensures { pending.new.items ≡ along_all (edge_to (pos unit) (if followed then Some state.value else None)) pending.old.items }
+    ensures { pending.new.items
+        ≡ along_all (edge_to (pos unit) (if followed then Some state.value else None)) pending.old.items }
 {
     if followed {
         flow(pending, unit, state);
@@ -73,7 +74,8 @@ fn pass_branch(
     requires bound { unit < 4096 }
     requires forward { pos unit <ℤ (pos (unit + 1) +ℤ distance) }
     requires edges { EdgesInside (branch_of compared.now distance) unit (length pending.old.items) }
-    ensures { Does (followed unit (branch_of compared.now distance) state.value pending.old.items) result pending.new.items }
+    ensures { Does (followed unit
+        (branch_of compared.now distance) state.value pending.old.items) result pending.new.items }
 {
     if let Err(reason) = steps::compare(&state, compared) {
         return Err(VerifyError::At(reason, unit));

@@ -42,10 +42,10 @@ fn room_for_states(alloc: Global, states: usize) -> Result<Vec<AbsState>, AllocE
 
 /// Room for so many units, with nothing kept.
 ///
-/// Later a state may wait for each unit, in a box of its own. Room for them all is asked for in one piece and given back at
-/// once: an allocator that takes memory from the system and returns it by what was given back in one piece (as glibc's)
-/// keeps so much from then on, and the boxes of the next program need no new pages. Where it is refused, nothing else is. A
-/// few states need no such care.
+/// Later a state may wait for each unit, in a box of its own. Room for them all is asked for in one piece and given
+/// back at once: an allocator that takes memory from the system and returns it by what was given back in one piece (as
+/// glibc's) keeps so much from then on, and the boxes of the next program need no new pages. Where it is refused,
+/// nothing else is. A few states need no such care.
 pub fn empty(alloc: Global, units: usize) -> Result<Pending, AllocError>
     ensures { IfOk result (λ pending. pending.items ≡ replicate units None) }
 {

@@ -60,7 +60,8 @@ fn put_made(
     value: &AbsVal,
     made: Option<AbsVal>,
 ) -> Result<(), Reason>
-    ensures { outcome result state.new ≡ unless (first_reason (made_checks dst value.now made)) (assigned state.old dst made) }
+    ensures { outcome result state.new
+        ≡ unless (first_reason (made_checks dst value.now made)) (assigned state.old dst made) }
 {
     check_set(value)?;
     check_writable(dst)?;
@@ -145,7 +146,8 @@ fn combine_at(
 ) -> Result<(), Reason>
     requires { operation ≢ Operation.Move }
     ensures refused { result_err result ≡
-        (if is_none (combined width operation (known_at registers.old dst) value) then Some Reason.PointerUse else None) }
+        (if is_none (combined width operation (known_at registers.old dst) value) then Some Reason.PointerUse
+        else None) }
     ensures written { IfOk result (λ _.
         option_map (λ made. slice_set registers.old dst made)
         (combined width operation (known_at registers.old dst) value) ≡ Some registers.new) }
@@ -324,7 +326,9 @@ pub fn straight(state: &mut AbsState, insn: &Insn) -> Result<(), Reason>
 
 /// Two values are compared.
 pub fn compare(state: &AbsState, compared: &Comparison) -> Result<(), Reason>
-    ensures { result_err result ≡ first_reason (compare_checks (known_at state.now.registers compared.now.dst) (operand_known state.now.registers compared.now.operand)) }
+    ensures { result_err result
+        ≡ first_reason (compare_checks (known_at state.now.registers compared.now.dst)
+        (operand_known state.now.registers compared.now.operand)) }
 {
     let first = registers::read(&state.registers, compared.dst);
     let second = registers::operand(&state.registers, compared.operand);

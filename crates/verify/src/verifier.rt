@@ -42,8 +42,10 @@ pub fn verify(alloc: Global, program: Program) -> Result<Verified, Refused>
     ensures structural { IfSome (structural_fault program) (λ fault. IsErrAnd result (λ r. r.fault ≡ fault)) }
     ensures unstructural { structural_fault program ≡ None → IfErr result (λ r. IsOwnFault program r.fault) }
 
-    // Then it is that of the first instruction at which the pass may not go on, or want of memory. Through what is accepted the pass comes to the end.
-    ensures first { structural_fault program ≡ None → IfErr result (λ r. (r.fault ≡ VerifyError.Memory) ⊎ IsFirstFault program r.fault) }
+    // Then it is that of the first instruction at which the pass may not go on, or want of memory. Through what is
+    // accepted the pass comes to the end.
+    ensures first { structural_fault program ≡ None →
+        IfErr result (λ r. (r.fault ≡ VerifyError.Memory) ⊎ IsFirstFault program r.fault) }
     ensures passed { IfOk result (λ v. ComesThrough v) }
 {
     recall_program(&program);

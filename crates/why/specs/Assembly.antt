@@ -129,7 +129,8 @@ outline_sentence (c ∷ cs) = codes "a character that is not of ASCII stands out
 -- no operand, or one that begins no number, is taken for a helper's name
 abbrev pub call_sentence : List ℕ → List ℕ
 call_sentence [] = takes_text takes.Call
-call_sentence (c ∷ cs) = if is_within 97 122 c || is_within 65 90 c || c == 95 then codes "there is no helper of this name" else takes_text takes.Call
+call_sentence (c ∷ cs) = if is_within 97 122 c || is_within 65 90 c || c == 95
+    then codes "there is no helper of this name" else takes_text takes.Call
 
 abbrev pub operand_sentence : Option Takes → List ℕ → List ℕ
 operand_sentence None operands = codes "the operands are not those of the mnemonic"
@@ -140,9 +141,11 @@ abbrev pub range_sentence : Option Takes → List ℕ
 range_sentence (Some takes.Wide) = codes "a number here is -9223372036854775808 to 18446744073709551615"
 range_sentence (Some takes.Load) = codes "an offset is -32768 to 32767"
 range_sentence (Some takes.Target) = codes "a jump leads at most 32767 units on (with `ja.w` 2147483647)"
-range_sentence (Some takes.Branch) = codes "a number here is -2147483648 to 2147483647, and a jump leads at most 32767 units on"
+range_sentence (Some takes.Branch) =
+    codes "a number here is -2147483648 to 2147483647, and a jump leads at most 32767 units on"
 range_sentence (Some takes.StoreRegister) = codes "an offset is -32768 to 32767"
-range_sentence (Some takes.StoreNumber) = codes "a number here is -2147483648 to 2147483647, and an offset -32768 to 32767"
+range_sentence (Some takes.StoreNumber) =
+    codes "a number here is -2147483648 to 2147483647, and an offset -32768 to 32767"
 range_sentence _ = codes "a number here is -2147483648 to 2147483647"
 
 abbrev pub assembly_sentence : Fault → List ℕ → List ℕ
@@ -182,18 +185,21 @@ outline_advice number line code =
 -- a nearly equal name; without one, a capital letter
 abbrev pub or_small : List ℕ → Option (List ℕ) → Option (List ℕ)
 or_small code (Some advice) = Some advice
-or_small code None = if has_capital code then Some (codes "mnemonics, registers and helpers are written small") else None
+or_small code None =
+    if has_capital code then Some (codes "mnemonics, registers and helpers are written small") else None
 
 abbrev pub is_call : Option Takes → Bool
 is_call (Some takes.Call) = true
 is_call _ = false
 
 abbrev pub operand_advice : Option Takes → List ℕ → Option (List ℕ)
-operand_advice takes operands = or_small operands (if is_call takes then option_map (near_words (codes "helper")) (near operands helpers) else None)
+operand_advice takes operands =
+    or_small operands (if is_call takes then option_map (near_words (codes "helper")) (near operands helpers) else None)
 
 abbrev pub assembly_advice : Fault → ℕ → List ℕ → List ℕ → Option (List ℕ)
 assembly_advice fault.Line number line code = outline_advice number line code
-assembly_advice fault.Mnemonic number line code = or_small (mnemonic_in code) (option_map (near_words (codes "mnemonic")) (near (mnemonic_in code) mnemonic_names))
+assembly_advice fault.Mnemonic number line code =
+    or_small (mnemonic_in code) (option_map (near_words (codes "mnemonic")) (near (mnemonic_in code) mnemonic_names))
 assembly_advice fault.Operand number line code = operand_advice (taken (mnemonic_in code)) (operands_in code)
 assembly_advice _ number line code = None
 
@@ -202,7 +208,8 @@ assembly_advice _ number line code = None
 -- of a fault in a line of code, which stands here in the file with this name
 abbrev pub code_told : List ℕ → Fault → Spot → List ℕ
 code_told name f s =
-    report_text name (assembly_sentence f (code_in s.code)) (Some (spot_mark s (place_in f s.code))) (assembly_advice f s.number s.code (code_in s.code))
+    report_text name (assembly_sentence f (code_in s.code)) (Some (spot_mark s (place_in f s.code)))
+    (assembly_advice f s.number s.code (code_in s.code))
 
 abbrev pub line_told : List ℕ → Fault → ℕ → Option (List ℕ) → List ℕ
 line_told name f number None = report_text name (assembly_sentence f []) None None

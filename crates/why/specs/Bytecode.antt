@@ -14,7 +14,8 @@ byte_of digits = unwrap_or (digits_on 16 0 (take 2 digits)) 0
 -- an instruction that is left out, by its opcode, with its group (RFC 9669, sections 2.4 and 5)
 abbrev pub left_out_sentence : ℕ → List ℕ
 left_out_sentence opcode =
-    if opcode == 0x85 then codes "a call of a function of the program, a local call (group base32), is left out, and one of a helper by its BTF"
+    if opcode == 0x85 then codes
+    "a call of a function of the program, a local call (group base32), is left out, and one of a helper by its BTF"
     else if opcode == 0x18 then codes "a map load, a wide load of a map, a variable or code (group base64), is left out"
     else if opcode == 0xc3 then codes "an atomic instruction of 32 bits (group atomic32) is left out"
     else if opcode == 0xdb then codes "an atomic instruction of 64 bits (group atomic64) is left out"
@@ -23,8 +24,10 @@ left_out_sentence opcode =
 -- what an operand chooses, by the opcode
 abbrev pub choice_sentence : ℕ → List ℕ
 choice_sentence opcode =
-    if opcode == 0xd4 || opcode == 0xd7 || opcode == 0xdc then codes "a swap is of 16, 32 or 64 bits, as the number behind says"
-    else if opcode == 0xbc || opcode == 0xbf then codes "the offset of a move is 0, or 8, 16 or (of 64 bits) 32 to extend so many bits by their sign"
+    if opcode == 0xd4 || opcode == 0xd7 || opcode == 0xdc
+    then codes "a swap is of 16, 32 or 64 bits, as the number behind says"
+    else if opcode == 0xbc || opcode == 0xbf
+    then codes "the offset of a move is 0, or 8, 16 or (of 64 bits) 32 to extend so many bits by their sign"
     else codes "the offset of a division or a remainder is 0, or 1 for the signed one"
 
 -- of a fault in a unit of these digits

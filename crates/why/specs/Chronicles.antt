@@ -11,7 +11,8 @@ use Rattle.why.specs.Report.{has_words, report_text, shown_line}
 -- ---- of a schedule
 
 abbrev pub schedule_sentence : List ℕ
-schedule_sentence = codes "a line is entries with one space between them, `G` or `G*K` for K of them, G being 0 to 12 and K 1 to 4096; a schedule has at most 5 lines and 1048576 bytes"
+schedule_sentence = codes
+    "a line is entries with one space between them, `G` or `G*K` for K of them, G being 0 to 12 and K 1 to 4096; a schedule has at most 5 lines and 1048576 bytes"
 
 abbrev pub schedule_advice : ℕ → List ℕ → Option (List ℕ)
 schedule_advice number line =
@@ -22,7 +23,8 @@ schedule_advice number line =
 
 abbrev pub schedule_line_told : List ℕ → ℕ → Option (List ℕ) → List ℕ
 schedule_line_told name number None = report_text name schedule_sentence None None
-schedule_line_told name number (Some line) = report_text name schedule_sentence (Some (all_marked number (trimmed line))) (schedule_advice number line)
+schedule_line_told name number (Some line) =
+    report_text name schedule_sentence (Some (all_marked number (trimmed line))) (schedule_advice number line)
 
 -- of a line of the schedule of a file with this name, as far as a schedule goes
 unfoldable pub schedule_told : List ℕ → List ℕ → ℕ → List ℕ
@@ -34,7 +36,8 @@ schedule_told name text number = schedule_line_told name number (line_at (take 1
 abbrev pub is_last : List ℕ → ℕ → Bool
 is_last text number = number == length (pieces feed text)
 
--- by whether the line is the last one: a shape that it lacks is then its line feed, and any other fault is that no line stands there
+-- by whether the line is the last one: a shape that it lacks is then its line feed, and any other fault is that no line
+-- stands there
 abbrev pub chronicle_sentence : Bool → Fault → List ℕ
 chronicle_sentence true fault.Line = codes "the file is cut off: this line has no line feed at its end"
 chronicle_sentence true f = codes "the file ends here, and the campaign has more lines"
@@ -51,13 +54,16 @@ chronicle_advice number None line =
     else None
 
 abbrev pub chronicle_line_told : List ℕ → Bool → Fault → ℕ → Option (List ℕ) → Option (List ℕ) → List ℕ
-chronicle_line_told name last f number wanted None = report_text name (chronicle_sentence last f) None (option_map has_words wanted)
+chronicle_line_told name last f number wanted None =
+    report_text name (chronicle_sentence last f) None (option_map has_words wanted)
 chronicle_line_told name last f number wanted (Some line) =
-    report_text name (chronicle_sentence last f) (Some (all_marked number (trimmed line))) (chronicle_advice number wanted line)
+    report_text name (chronicle_sentence last f) (Some (all_marked number (trimmed line)))
+    (chronicle_advice number wanted line)
 
 -- of a fault at a line of the chronicle of a file with this name, where the campaign has this line
 unfoldable pub chronicle_told : List ℕ → List ℕ → Fault → ℕ → Option (List ℕ) → List ℕ
-chronicle_told name text f number wanted = chronicle_line_told name (is_last text number) f number wanted (line_at text number)
+chronicle_told name text f number wanted =
+    chronicle_line_told name (is_last text number) f number wanted (line_at text number)
 
 -- the line that the campaign has, as it is shown, where its text is this: of a line of no shape it is not said
 abbrev pub wanted_in : Fault → List ℕ → ℕ → Option (List ℕ)

@@ -21,10 +21,12 @@ ReportsScenario name text (scenario.At fault place) told = told ≡ place_told n
 ReportsScenario name text (scenario.Program general fault) told = IsProgramTold name text general fault told
 ReportsScenario name text scenario.Memory told = told ≡ memory_told name
 
--- the text behind the line of a scenario's error: the report, and of a program that the verifier refuses its explanation
+-- the text behind the line of a scenario's error: the report, and of a program that the verifier refuses its
+-- explanation
 abbrev pub TellsScenario : List ℕ → List ℕ → ScenarioError → List ℕ → Type 0
 TellsScenario name text error told =
-    (report : List ℕ) × ReportsScenario name text error report × ((behind : List ℕ) × IsJudged text (judged_of error) behind × (told ≡ report ++ behind))
+    (report : List ℕ) × ReportsScenario name text error report
+    × ((behind : List ℕ) × IsJudged text (judged_of error) behind × (told ≡ report ++ behind))
 
 -- that of a setting's
 abbrev pub TellsSetting : List ℕ → List ℕ → SettingError → List ℕ → Type 0

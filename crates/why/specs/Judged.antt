@@ -1,5 +1,5 @@
--- What is said of a traitor's program that the verifier refuses, behind the report: what `check --explain` says of it, with each unit's
--- line in the scenario's own text.
+-- What is said of a traitor's program that the verifier refuses, behind the report: what `check --explain` says of it,
+-- with each unit's line in the scenario's own text.
 use Rattle.std.specs.Prelude.{ℕ, ◌≡◌, ◌⊎◌, ◌-◌, ◌==◌, Bool, true, false, if◌then◌else◌, List, [], ◌++◌, Option, None, Some, String, codes, drop, length, map, option_and_then, replicate, string_bytes}
 use Rattle.std.specs.Str.{IsUtf8}
 use Rattle.std.specs.declared.alloc.Global.{Global}
@@ -21,8 +21,8 @@ use Rattle.why.specs.Keys.{Found, value_end}
 use Rattle.why.specs.Lines.{trimmed}
 use Rattle.why.specs.Scenarios.{is_long, source_line}
 
--- how many lines of the file stand before those of a text that goes on over lines: where nothing stands behind its quotation marks on the
--- key's line, it begins on the next
+-- how many lines of the file stand before those of a text that goes on over lines: where nothing stands behind its
+-- quotation marks on the key's line, it begins on the next
 abbrev pub lines_before : Found → ℕ
 lines_before f = if length (trimmed (drop 3 (value_end f.line))) == 0 then f.number else f.number - 1
 
@@ -32,7 +32,8 @@ pushed_down lines text = replicate lines 10 ++ text
 
 -- the places of a program's units whose text goes on over lines, or stands on one
 abbrev pub ArePlacedFrom : Bool → List ℕ → Found → List Insn → List (List ℕ) → Type 0
-ArePlacedFrom true text f program places = AreWritten (read_on nothing 1 (lines_of (pushed_down (lines_before f) text))) places
+ArePlacedFrom true text f program places =
+    AreWritten (read_on nothing 1 (lines_of (pushed_down (lines_before f) text))) places
 ArePlacedFrom false text f program places = places ≡ replicate (length (slots_of program)) (line_text f.number)
 
 -- those of a program whose key stands in this line: bytecode stands on one
@@ -49,8 +50,10 @@ AreStated (Hex text) statements = statements ≡ []
 -- the source has this program, and an empty line and its explanation are told; or it has none, and nothing is
 abbrev pub IsExplainedOf : Source → Option Found → List ℕ → Type 0
 IsExplainedOf source line told =
-    ((program : List Insn) × IsProgramOf source program × ((places statements : List (String Global)) × ArePlaced source line program (map string_bytes places)
-    × AreStated source (map string_bytes statements) × (told ≡ codes "\n" ++ explained_at (in_lists places statements) program)))
+    ((program : List Insn) × IsProgramOf source program
+    × ((places statements : List (String Global)) × ArePlaced source line program (map string_bytes places)
+    × AreStated source (map string_bytes statements)
+    × (told ≡ codes "\n" ++ explained_at (in_lists places statements) program)))
     ⊎ ((fault : ProgramFault) × IsFaultOf fault source × (told ≡ []))
 
 abbrev pub IsExplainedBy : Option Source → Option Found → List ℕ → Type 0
@@ -59,7 +62,8 @@ IsExplainedBy (Some source) line told = IsExplainedOf source line told
 
 -- of the program of this general in the text of a scenario
 abbrev pub IsExplained : List ℕ → ℕ → List ℕ → Type 0
-IsExplained text g told = IsUtf8 text → IsExplainedBy (option_and_then (source_by g) (parse_document text)) (source_line g text) told
+IsExplained text g told =
+    IsUtf8 text → IsExplainedBy (option_and_then (source_by g) (parse_document text)) (source_line g text) told
 
 -- the general whose program the verifier refuses, where that is the error
 abbrev pub judged_of : ScenarioError → Option ℕ

@@ -1,4 +1,5 @@
--- Where a key of a TOML text stands, as far as a search for its line tells: behind a header `[[traitor]]` stand the keys of a table.
+-- Where a key of a TOML text stands, as far as a search for its line tells: behind a header `[[traitor]]` stand the
+-- keys of a table.
 use Rattle.std.specs.Prelude.{ℕ, List, [], ◌∷◌, Bool, true, ◌+◌, ◌-◌, ◌==◌, ◌&&◌, ◌||◌, nat_eq, if◌then◌else◌, Option, None, Some, codes, drop, length}
 use Rattle.std.specs.List.{starts_with}
 use Rattle.std.specs.Str.{bytes_eq}
@@ -36,11 +37,13 @@ pub record Found : Type 0 where
 abbrev pub found_view : Kept → Found
 found_view f = record { number = f.number; line = f.line.now; tables = f.tables }
 
--- the first line that begins with this word and has so many headers up to it, of the lines from this number on, behind so many headers
+-- the first line that begins with this word and has so many headers up to it, of the lines from this number on, behind
+-- so many headers
 abbrev pub found_on : ℕ → List ℕ → ℕ → ℕ → List (List ℕ) → Option Found
 found_on sought word tables number [] = None
 found_on sought word tables number (line ∷ lines) =
-    if table_at tables line == sought && begins_with word line then Some (record { number = number; line = line; tables = sought })
+    if table_at tables line == sought && begins_with word line
+    then Some (record { number = number; line = line; tables = sought })
     else found_on sought word (table_at tables line) (number + 1) lines
 
 unfoldable pub found : ℕ → List ℕ → List ℕ → Option Found
@@ -81,12 +84,15 @@ value_marked f = marked f.number (trimmed f.line) (length f.line - length (value
 -- the word or its value; in a line that begins otherwise, all of it
 abbrev pub shown_at : Bool → List ℕ → Found → Mark
 shown_at by_value word f =
-    if begins_with word f.line then (if by_value then value_marked f else word_marked word f) else all_marked f.number (trimmed f.line)
+    if begins_with word f.line then (if by_value then value_marked f else word_marked word f)
+    else all_marked f.number (trimmed f.line)
 
 abbrev pub or_else : Option Found → Option Found → Option Found
 or_else None other = other
 or_else (Some f) other = Some f
 
--- the line of a key of the table of this number or, without one, of the table's header or, without one, of the key `traitor` at the top
+-- the line of a key of the table of this number or, without one, of the table's header or, without one, of the key
+-- `traitor` at the top
 abbrev pub entry_line : ℕ → List ℕ → List ℕ → Option Found
-entry_line index word text = or_else (found (index + 1) word text) (or_else (found (index + 1) header text) (found 0 (codes "traitor") text))
+entry_line index word text =
+    or_else (found (index + 1) word text) (or_else (found (index + 1) header text) (found 0 (codes "traitor") text))

@@ -49,8 +49,8 @@ pub record IsReport (IsIn : Mark → Type 0) (name told : List ℕ) : Type 0 whe
   pub says : sentence ≢ []
   pub within : IfSome place IsIn
 
--- of a fault in the program of a general whose table in the scenario's own text names a file of assembly, what is told is a report under
--- the name of that file, as it is shown, with a place in its text
+-- of a fault in the program of a general whose table in the scenario's own text names a file of assembly, what is told
+-- is a report under the name of that file, as it is shown, with a place in its text
 pub record IsReportOfFile (own : List ℕ) (made : Option Members) (error : ScenarioError) (told : List ℕ) : Type 0 where
   pub general : ℕ
   pub fault : ProgramFault
@@ -59,20 +59,29 @@ pub record IsReportOfFile (own : List ℕ) (made : Option Members) (error : Scen
   pub named : own_line (seat general (parse_document own)) (codes "asm_file") own ≡ Some key
   pub report : IsReport (IsInText (assembly_of (option_and_then (source_by general) made))) (file_shown key) told
 
--- each refusal of each kind of file is told by a report, of a text that is no TOML where it is one in UTF-8; an object's fault and a
--- muster's, which are none of a line, by a sentence; an error of a scenario that names files by a report of its own text or of such a file
+-- each refusal of each kind of file is told by a report, of a text that is no TOML where it is one in UTF-8; an
+-- object's fault and a muster's, which are none of a line, by a sentence; an error of a scenario that names files by a
+-- report of its own text or of such a file
 pub record RefusalsAreTold : Type 0 where
-  pub assembly : (name text : List ℕ) (fault : AsmFault) (line : ℕ) → IsReport (IsInText text) name (assembly_told name text fault line)
-  pub bytecode : (name bytes : List ℕ) (fault : CodecFault) (unit : ℕ) → IsReport (IsInUnit bytes) name (bytecode_told name bytes fault unit)
-  pub table : (name text : List ℕ) (fault : TableFault) (line : ℕ) → IsReport (IsInText text) name (table_told name text fault line)
+  pub assembly : (name text : List ℕ) (fault : AsmFault) (line : ℕ) →
+      IsReport (IsInText text) name (assembly_told name text fault line)
+  pub bytecode : (name bytes : List ℕ) (fault : CodecFault) (unit : ℕ) →
+      IsReport (IsInUnit bytes) name (bytecode_told name bytes fault unit)
+  pub table : (name text : List ℕ) (fault : TableFault) (line : ℕ) →
+      IsReport (IsInText text) name (table_told name text fault line)
   pub stranger : (name text : List ℕ) (generals : ℕ) → IsReport (IsInText text) name (stranger_told name text generals)
-  pub schedule : (name text : List ℕ) (line : ℕ) → IsReport (IsInText (take 1048576 text)) name (schedule_told name text line)
-  pub chronicle : (name text : List ℕ) (fault : TraceFault) (line : ℕ) (wanted : Option (List ℕ)) → IsReport (IsInText text) name (chronicle_told name text fault line wanted)
+  pub schedule : (name text : List ℕ) (line : ℕ) →
+      IsReport (IsInText (take 1048576 text)) name (schedule_told name text line)
+  pub chronicle : (name text : List ℕ) (fault : TraceFault) (line : ℕ) (wanted : Option (List ℕ)) →
+      IsReport (IsInText text) name (chronicle_told name text fault line wanted)
   pub object : (fault : ObjectFault) → sentence_of fault ≢ []
   pub muster : (error : MusterError) → muster_sentence error ≢ []
-  pub scenario : (name text told : List ℕ) (error : ScenarioError) → (error ≡ errors.Toml → IsUtf8 text × (parse_document text ≡ None))
+  pub scenario : (name text told : List ℕ) (error : ScenarioError) →
+      (error ≡ errors.Toml → IsUtf8 text × (parse_document text ≡ None))
       → ReportsScenario name text error told → IsReport (IsInText text) name told
-  pub files : (name own told : List ℕ) (made : Option Members) (error : ScenarioError) → (error ≡ errors.Toml → IsUtf8 own × (parse_document own ≡ None))
+  pub files : (name own told : List ℕ) (made : Option Members) (error : ScenarioError) →
+      (error ≡ errors.Toml → IsUtf8 own × (parse_document own ≡ None))
       → ReportsMade name own made error told → IsReport (IsInText own) name told ⊎ IsReportOfFile own made error told
-  pub setting : (name text told : List ℕ) (error : SettingError) → (error ≡ setting.Toml → IsUtf8 text × (parse_document text ≡ None))
+  pub setting : (name text told : List ℕ) (error : SettingError) →
+      (error ≡ setting.Toml → IsUtf8 text × (parse_document text ≡ None))
       → TellsSetting name text error told → IsReport (IsInText text) name told

@@ -25,7 +25,12 @@ line_at text number = slice_get (lines_of text) (number - 1)
 
 -- so many bytes of a line behind so many others, as far as the line goes
 abbrev pub marked : ℕ → List ℕ → ℕ → ℕ → Mark
-marked number line before size = record { number = number; line = line; from = min before (length line); size = min size (length line - min before (length line)) }
+marked number line before size = record {
+  number = number;
+  line = line;
+  from = min before (length line);
+  size = min size (length line - min before (length line));
+}
 
 -- all of a line but the blanks before it
 abbrev pub all_marked : ℕ → List ℕ → Mark

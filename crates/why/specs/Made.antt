@@ -118,7 +118,8 @@ bytes_shown table own = file_key_shown (own_line table (codes "code_file") own) 
 
 abbrev pub unit_told : List ℕ → List ℕ → CodecFault → ℕ → Option Source → Option ℕ → Option Found → List ℕ
 unit_told name own f unit source table (Some line) = code_line_told name f unit (Some line)
-unit_told name own f unit source table None = report_text name (unit_sentence f (unit_digits (digits_of source) unit)) (bytes_shown table own) None
+unit_told name own f unit source table None =
+    report_text name (unit_sentence f (unit_digits (digits_of source) unit)) (bytes_shown table own) None
 
 -- ---- a program that the verifier refuses
 
@@ -128,7 +129,8 @@ line_shown text number = option_map (λ line. unit_mark (whole number line)) (li
 -- in a file of assembly: the line of the unit
 abbrev pub IsUnitTold : List ℕ → Reason → ℕ → List ℕ → List ℕ → Type 0
 IsUnitTold file reason unit text told =
-    (number : ℕ) × IsUnitLine text unit number × (told ≡ report_text file (verifier_sentence reason unit) (line_shown text number) None)
+    (number : ℕ) × IsUnitLine text unit number
+    × (told ≡ report_text file (verifier_sentence reason unit) (line_shown text number) None)
 
 -- in the scenario's own text: the line of the unit, else the key of the bytecode
 abbrev pub key_told : List ℕ → Reason → ℕ → Option Mark → List ℕ
@@ -139,35 +141,47 @@ code_shown table own (Some line) = Some (shown_at false (codes "code") line)
 code_shown table own None = bytes_shown table own
 
 abbrev pub IsRefusedFile : List ℕ → List ℕ → Reason → ℕ → Option Source → Option ℕ → Option Found → List ℕ → Type 0
-IsRefusedFile name own reason unit source table (Some key) told = IsUnitTold (file_shown key) reason unit (assembly_of source) told
-IsRefusedFile name own reason unit source table None told = told ≡ key_told name reason unit (code_shown table own (own_line table (codes "code") own))
+IsRefusedFile name own reason unit source table (Some key) told =
+    IsUnitTold (file_shown key) reason unit (assembly_of source) told
+IsRefusedFile name own reason unit source table None told =
+    told ≡ key_told name reason unit (code_shown table own (own_line table (codes "code") own))
 
 abbrev pub IsOwnUnitTold : List ℕ → List ℕ → Reason → ℕ → List ℕ → Found → List ℕ → Type 0
-IsOwnUnitTold name own reason unit text line told = (mark : Option Mark) × IsUnitShown own unit text (Some line) mark × (told ≡ key_told name reason unit mark)
+IsOwnUnitTold name own reason unit text line told =
+    (mark : Option Mark) × IsUnitShown own unit text (Some line) mark × (told ≡ key_told name reason unit mark)
 
 abbrev pub IsRefusedTold : List ℕ → List ℕ → Reason → ℕ → Option Source → Option ℕ → Option Found → List ℕ → Type 0
-IsRefusedTold name own reason unit source table (Some line) told = IsOwnUnitTold name own reason unit (assembly_of source) line told
-IsRefusedTold name own reason unit source table None told = IsRefusedFile name own reason unit source table (own_line table (codes "asm_file") own) told
+IsRefusedTold name own reason unit source table (Some line) told =
+    IsOwnUnitTold name own reason unit (assembly_of source) line told
+IsRefusedTold name own reason unit source table None told =
+    IsRefusedFile name own reason unit source table (own_line table (codes "asm_file") own) told
 
 -- ---- all of it
 
 abbrev pub hex_told : List ℕ → List ℕ → Option ℕ → List ℕ
 hex_told name own table =
-    report_text name (codes "bytecode is an even number of digits in hex, without blanks") (option_map (shown_at true (codes "code")) (own_line table (codes "code") own)) None
+    report_text name (codes "bytecode is an even number of digits in hex, without blanks")
+    (option_map (shown_at true (codes "code")) (own_line table (codes "code") own)) None
 
 -- of a program that is written so, of the general who has this table of the scenario's own text
 abbrev pub ReportsProgram : List ℕ → List ℕ → Option Source → Option ℕ → ProgramFault → List ℕ → Type 0
-ReportsProgram name own source table (programs.Asm f number) told = told ≡ asm_told name own f number source table (own_line table (codes "asm") own)
+ReportsProgram name own source table (programs.Asm f number) told =
+    told ≡ asm_told name own f number source table (own_line table (codes "asm") own)
 ReportsProgram name own source table programs.Hex told = told ≡ hex_told name own table
-ReportsProgram name own source table (programs.Code f unit) told = told ≡ unit_told name own f unit source table (own_line table (codes "code") own)
-ReportsProgram name own source table (programs.Verifier reason unit) told = IsRefusedTold name own reason unit source table (own_line table (codes "asm") own) told
+ReportsProgram name own source table (programs.Code f unit) told =
+    told ≡ unit_told name own f unit source table (own_line table (codes "code") own)
+ReportsProgram name own source table (programs.Verifier reason unit) told =
+    IsRefusedTold name own reason unit source table (own_line table (codes "asm") own) told
 
 -- the report of an error of the text that was made of the scenario's own
 abbrev pub ReportsMade : List ℕ → List ℕ → Option Members → ScenarioError → List ℕ → Type 0
 ReportsMade name own made errors.Toml told = TellsToml name own told
-ReportsMade name own made (errors.Unknown at key) told = told ≡ unknown_told name own (own_index (parse_document own) at) (string_bytes key)
-ReportsMade name own made (errors.At f place) told = told ≡ own_place_told name own f (own_place (parse_document own) place)
-ReportsMade name own made (errors.Program g fault) told = ReportsProgram name own (option_and_then (source_by g) made) (seat g (parse_document own)) fault told
+ReportsMade name own made (errors.Unknown at key) told =
+    told ≡ unknown_told name own (own_index (parse_document own) at) (string_bytes key)
+ReportsMade name own made (errors.At f place) told =
+    told ≡ own_place_told name own f (own_place (parse_document own) place)
+ReportsMade name own made (errors.Program g fault) told =
+    ReportsProgram name own (option_and_then (source_by g) made) (seat g (parse_document own)) fault told
 ReportsMade name own made errors.Memory told = told ≡ memory_told name
 
 -- the line of the own text, or of the file, at which the lines of the program are counted
@@ -181,14 +195,16 @@ file_line (Some key) bytes = Some in_file
 abbrev pub file_source : Option ℕ → List ℕ → Option Found
 file_source table own =
     file_line (own_line table (codes "asm_file") own)
-    (or_else (own_line table (codes "code") own) (or_else (own_line table (codes "code_file") own) (own_line table (codes "elf") own)))
+    (or_else (own_line table (codes "code") own)
+    (or_else (own_line table (codes "code_file") own) (own_line table (codes "elf") own)))
 
 abbrev pub own_source : Option ℕ → List ℕ → Option Found
 own_source table own = or_else (own_line table (codes "asm") own) (file_source table own)
 
 abbrev pub IsMadeJudged : List ℕ → Option Members → Option ℕ → List ℕ → Type 0
 IsMadeJudged own made None behind = behind ≡ []
-IsMadeJudged own made (Some g) behind = IsExplainedBy (option_and_then (source_by g) made) (own_source (seat g (parse_document own)) own) behind
+IsMadeJudged own made (Some g) behind =
+    IsExplainedBy (option_and_then (source_by g) made) (own_source (seat g (parse_document own)) own) behind
 
 -- the text behind the line of an error of a scenario with this text of its own, and this one in which its files stand
 abbrev pub TellsMade : List ℕ → List ℕ → List ℕ → ScenarioError → List ℕ → Type 0

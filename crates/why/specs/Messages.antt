@@ -8,10 +8,13 @@ use Rattle.why.specs.Report.{report_text}
 
 abbrev pub table_sentence : Fault → ℕ → List ℕ
 table_sentence fault.Line number =
-    if number == 1 then codes "the first line is `generals N bound M commander C`, perhaps with ` rule majority` or ` rule median` behind it"
+    if number == 1
+    then codes "the first line is `generals N bound M commander C`, perhaps with ` rule majority` or ` rule median` behind it"
     else codes "a line is `tell LABEL RECEIVER ORDER`: the label's generals joined by dots, numbers without leading zeros, an order of at most 4294967295"
-table_sentence fault.Range number = codes "a table has 2 to 13 generals, a bound of 0 to 4 and at most generals - 2, and a commander below generals"
-table_sentence fault.Place number = codes "nobody is told of this label, or not this receiver: a label begins with the commander, has at most bound + 1 generals, none twice, and the receiver is not on it"
+table_sentence fault.Range number =
+    codes "a table has 2 to 13 generals, a bound of 0 to 4 and at most generals - 2, and a commander below generals"
+table_sentence fault.Place number = codes
+    "nobody is told of this label, or not this receiver: a label begins with the commander, has at most bound + 1 generals, none twice, and the receiver is not on it"
 table_sentence fault.Twice number = codes "a line before tells this receiver of this label"
 
 -- what is likely by the first of these characters that stands in the line
@@ -31,7 +34,8 @@ table_advice _ number line = None
 
 abbrev pub table_line_told : List ℕ → Fault → ℕ → Option (List ℕ) → List ℕ
 table_line_told name f number None = report_text name (table_sentence f number) None None
-table_line_told name f number (Some line) = report_text name (table_sentence f number) (Some (all_marked number (trimmed line))) (table_advice f number line)
+table_line_told name f number (Some line) =
+    report_text name (table_sentence f number) (Some (all_marked number (trimmed line))) (table_advice f number line)
 
 -- of a fault at a line of the text of a file with this name
 unfoldable pub table_told : List ℕ → List ℕ → Fault → ℕ → List ℕ
@@ -44,7 +48,8 @@ stranger_sentence generals = codes "the table has the generals 0 to " ++ decimal
 
 abbrev pub stranger_line_told : List ℕ → ℕ → Option (List ℕ) → List ℕ
 stranger_line_told name generals None = report_text name (stranger_sentence generals) None None
-stranger_line_told name generals (Some line) = report_text name (stranger_sentence generals) (Some (all_marked 1 (trimmed line))) None
+stranger_line_told name generals (Some line) =
+    report_text name (stranger_sentence generals) (Some (all_marked 1 (trimmed line))) None
 
 -- of a table of so many, the text of a file with this name: at its first line
 unfoldable pub stranger_told : List ℕ → List ℕ → ℕ → List ℕ

@@ -1,4 +1,5 @@
--- What stands behind the line of a refusal, in rustc's form: a sentence, the place in the file with a part of it marked, a help (own).
+-- What stands behind the line of a refusal, in rustc's form: a sentence, the place in the file with a part of it
+-- marked, a help (own).
 use Rattle.std.specs.Prelude.{ℕ, List, [], ◌++◌, ◌==◌, ◌&&◌, ◌||◌, not, nat_lt, if◌then◌else◌, Option, None, Some, codes, decimal, length, map, take, drop}
 use Rattle.std.specs.Fmt.{is_char_start}
 use Rattle.std.specs.List.{flat_map, repeat}
@@ -36,7 +37,8 @@ caret_below b = if is_char_start b then codes "^" else []
 
 -- below the line, a caret for each character of the part, and at least one
 unfoldable pub carets_below : Mark → List ℕ
-carets_below m = flat_map blank_below (take m.from m.line) ++ (codes "^" ++ flat_map caret_below (drop 1 (take m.size (drop m.from m.line))))
+carets_below m = flat_map blank_below (take m.from m.line)
+    ++ (codes "^" ++ flat_map caret_below (drop 1 (take m.size (drop m.from m.line))))
 
 -- as wide as the line's number
 abbrev pub margin_of : ℕ → List ℕ
@@ -48,7 +50,8 @@ margin_by (Some m) = margin_of m.number
 
 -- the file and the line's number, the line, and the part marked
 unfoldable pub where_text : List ℕ → List ℕ → ℕ → List ℕ
-where_text margin name number = codes "\n" ++ margin ++ codes "--> " ++ name ++ codes ":" ++ decimal number ++ codes "\n"
+where_text margin name number =
+    codes "\n" ++ margin ++ codes "--> " ++ name ++ codes ":" ++ decimal number ++ codes "\n"
 
 unfoldable pub shown_text : List ℕ → Mark → List ℕ
 shown_text margin m = margin ++ codes " |\n" ++ decimal m.number ++ codes " | " ++ shown_line m.line ++ codes "\n"
@@ -81,4 +84,5 @@ help_text margin None = []
 help_text margin (Some help) = codes "\n" ++ margin ++ codes " = help: " ++ help
 
 unfoldable pub report_text : List ℕ → List ℕ → Option Mark → Option (List ℕ) → List ℕ
-report_text name sentence place help = (codes "\nerror: " ++ sentence) ++ place_text name place ++ help_text (margin_by place) help
+report_text name sentence place help =
+    (codes "\nerror: " ++ sentence) ++ place_text name place ++ help_text (margin_by place) help

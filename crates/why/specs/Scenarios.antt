@@ -32,7 +32,8 @@ use Rattle.why.specs.Units.{IsUnitLine}
 
 abbrev pub missing_sentence : Name → List ℕ
 missing_sentence names.Rule = codes "a signed campaign combines nothing, and has no rule"
-missing_sentence names.Asm = codes "a traitor's table has one of `asm`, `code`, `asm_file`, `code_file` and `elf`, and no second"
+missing_sentence names.Asm =
+    codes "a traitor's table has one of `asm`, `code`, `asm_file`, `code_file` and `elf`, and no second"
 missing_sentence name = codes "the key `" ++ text_of name ++ codes "` is missing"
 
 abbrev pub kind_sentence : Name → List ℕ
@@ -52,7 +53,8 @@ range_sentence names.Order = codes "an order is 0 to 4294967295"
 range_sentence names.Board = codes "a board has at most 64 words"
 range_sentence names.Patience = codes "a patience is 1 to 4096 steps"
 range_sentence names.Rule = codes "a rule is \"majority\" or \"median\""
-range_sentence names.Messages = codes "messages are \"oral\" or \"signed\", and of all but `play` without `--table` and `audit` \"oral\""
+range_sentence names.Messages =
+    codes "messages are \"oral\" or \"signed\", and of all but `play` without `--table` and `audit` \"oral\""
 range_sentence name = codes "this value is out of its range"
 
 abbrev pub name_sentence : Fault → Name → List ℕ
@@ -81,7 +83,8 @@ abbrev pub place_mark : Fault → Place → List ℕ → Option Mark
 place_mark f (places.Key name) text = option_map (shown_at (is_of_value f) (text_of name)) (found 0 (text_of name) text)
 place_mark f (places.Word index) text = option_map (shown_at true (codes "board")) (found 0 (codes "board") text)
 place_mark f (places.Table index) text = option_map (shown_at false header) (entry_line index header text)
-place_mark f (places.Entry index name) text = option_map (shown_at (is_of_value f) (text_of name)) (entry_line index (text_of name) text)
+place_mark f (places.Entry index name) text =
+    option_map (shown_at (is_of_value f) (text_of name)) (entry_line index (text_of name) text)
 
 unfoldable pub place_told : List ℕ → List ℕ → Fault → Place → List ℕ
 place_told name text f place = report_text name (place_sentence f place) (place_mark f place text) None
@@ -90,17 +93,21 @@ place_told name text f place = report_text name (place_sentence f place) (place_
 
 abbrev pub top_keys : List (List ℕ)
 top_keys =
-    codes "generals" ∷ codes "bound" ∷ codes "commander" ∷ codes "order" ∷ codes "board" ∷ codes "patience" ∷ codes "rule" ∷ codes "messages" ∷ codes "traitor" ∷ []
+    codes "generals" ∷ codes "bound" ∷ codes "commander" ∷ codes "order" ∷ codes "board" ∷ codes "patience" ∷
+    codes "rule" ∷ codes "messages" ∷ codes "traitor" ∷ []
 
 abbrev pub entry_keys : List (List ℕ)
-entry_keys = codes "general" ∷ codes "generals" ∷ codes "asm" ∷ codes "asm_file" ∷ codes "code" ∷ codes "code_file" ∷ codes "elf" ∷ codes "entry" ∷ []
+entry_keys = codes "general" ∷ codes "generals" ∷ codes "asm" ∷ codes "asm_file" ∷ codes "code" ∷ codes "code_file" ∷
+    codes "elf" ∷ codes "entry" ∷ []
 
 -- the sentence, the key in its line, and a key that is near
 abbrev pub key_told : List ℕ → List ℕ → List ℕ → Option Found → Option (List ℕ) → List ℕ
-key_told name sentence key line known = report_text name sentence (option_map (shown_at false key) line) (option_map (near_words (codes "key")) known)
+key_told name sentence key line known =
+    report_text name sentence (option_map (shown_at false key) line) (option_map (near_words (codes "key")) known)
 
 unfoldable pub top_key_told : List ℕ → List ℕ → List ℕ → List ℕ
-top_key_told name text key = key_told name (codes "a scenario has no such key") key (found 0 key text) (near key top_keys)
+top_key_told name text key =
+    key_told name (codes "a scenario has no such key") key (found 0 key text) (near key top_keys)
 
 -- the key that is near is the key itself: a table may have it, but not beside its others, or with another value
 abbrev pub is_itself : Option (List ℕ) → List ℕ → Bool
@@ -118,7 +125,8 @@ other_than known key = if is_itself known key then None else known
 
 unfoldable pub entry_key_told : List ℕ → List ℕ → ℕ → List ℕ → List ℕ
 entry_key_told name text index key =
-    key_told name (entry_sentence (near key entry_keys) key) key (entry_line index key text) (other_than (near key entry_keys) key)
+    key_told name (entry_sentence (near key entry_keys) key) key (entry_line index key text)
+    (other_than (near key entry_keys) key)
 
 abbrev pub unknown_told : List ℕ → List ℕ → Option ℕ → List ℕ → List ℕ
 unknown_told name text None key = top_key_told name text key
@@ -152,7 +160,8 @@ behind_feeds (suc n) text = behind_feeds n (behind_feed text)
 -- before the next one, and before the quotation mark that ends the text
 abbrev pub before_feed : List ℕ → List ℕ → List ℕ
 before_feed quote [] = []
-before_feed quote (c ∷ cs) = if is_feed (c ∷ cs) || starts_with nat_eq (c ∷ cs) quote then [] else c ∷ before_feed quote cs
+before_feed quote (c ∷ cs) =
+    if is_feed (c ∷ cs) || starts_with nat_eq (c ∷ cs) quote then [] else c ∷ before_feed quote cs
 
 -- before the quotation mark that ends a text that goes on over lines
 abbrev pub before_quote : List ℕ → List ℕ → List ℕ
@@ -161,11 +170,13 @@ before_quote quote (c ∷ cs) = if starts_with nat_eq (c ∷ cs) quote then [] e
 
 -- a line of the program that begins at this end of a line of the file
 abbrev pub end_spot : Found → List ℕ → List ℕ → Spot
-end_spot line end code = record { number = line.number; shown = line.line; front = length line.line - length end; code = code }
+end_spot line end code =
+    record { number = line.number; shown = line.line; front = length line.line - length end; code = code }
 
 -- the line that stands so many behind the line of this number, by its own number, which has 64 bits
 unfoldable pub line_behind : List ℕ → ℕ → ℕ → Option (ℕ × List ℕ)
-line_behind text first more = if nat_lt (first + more) (2 ^ 64) then option_map (λ line. (first + more, line)) (line_at text (first + more)) else None
+line_behind text first more = if nat_lt (first + more) (2 ^ 64)
+    then option_map (λ line. (first + more, line)) (line_at text (first + more)) else None
 
 -- a line of the file that is one of the program, which this quotation mark ends
 abbrev pub line_spot : List ℕ → ℕ × List ℕ → Spot
@@ -184,8 +195,10 @@ short_spot line quote end = end_spot line end (before_feed quote end)
 -- a line of the program by its number, whose key stands in this line of the file
 abbrev pub spot_in : List ℕ → ℕ → Found → Option Spot
 spot_in text number line =
-    if is_long (value_end line.line) then long_spot text number line (take 3 (value_end line.line)) (drop 3 (value_end line.line))
-    else Some (short_spot line (take 1 (value_end line.line)) (behind_feeds (number - 1) (drop 1 (value_end line.line))))
+    if is_long (value_end line.line)
+    then long_spot text number line (take 3 (value_end line.line)) (drop 3 (value_end line.line))
+    else Some (short_spot line (take 1 (value_end line.line))
+    (behind_feeds (number - 1) (drop 1 (value_end line.line))))
 
 abbrev pub spot_told : List ℕ → AsmFault → Option Spot → List ℕ
 spot_told name f None = report_text name (assembly_sentence f []) None None
@@ -201,14 +214,17 @@ unit_end line unit = if nat_le unit 4096 then drop (16 * unit) (drop 1 (value_en
 abbrev pub unit_in_told : List ℕ → CodecFault → List ℕ → List ℕ → Found → List ℕ
 unit_in_told name f digits end line =
     report_text name (unit_sentence f digits)
-    (Some (marked line.number (trimmed line.line) (length line.line - length end + (unit_place f digits).0) (unit_place f digits).1)) None
+    (Some (marked line.number (trimmed line.line) (length line.line - length end + (unit_place f digits).0)
+    (unit_place f digits).1)) None
 
 abbrev pub code_line_told : List ℕ → CodecFault → ℕ → Option Found → List ℕ
 code_line_told name f unit None = report_text name (unit_sentence f []) None None
-code_line_told name f unit (Some line) = unit_in_told name f (take 16 (unit_end line.line unit)) (unit_end line.line unit) line
+code_line_told name f unit (Some line) =
+    unit_in_told name f (take 16 (unit_end line.line unit)) (unit_end line.line unit) line
 
 abbrev pub verifier_sentence : Reason → ℕ → List ℕ
-verifier_sentence reason unit = codes "the verifier refuses this program, by " ++ (code_of reason ++ (codes " at its unit " ++ decimal unit))
+verifier_sentence reason unit =
+    codes "the verifier refuses this program, by " ++ (code_of reason ++ (codes " at its unit " ++ decimal unit))
 
 -- the line of the program: that of its assembly, else that of its bytecode
 abbrev pub source_line : ℕ → List ℕ → Option Found
@@ -216,7 +232,8 @@ source_line general text = or_else (program_line general (codes "asm") text) (pr
 
 -- a unit of this assembly, whose key stands in this line of the file: its statement in the line that has it
 abbrev pub IsUnitShown : List ℕ → ℕ → List ℕ → Option Found → Option Mark → Type 0
-IsUnitShown text unit asm line mark = (number : ℕ) × IsUnitLine asm unit number × (mark ≡ option_map unit_mark (option_and_then (spot_in text number) line))
+IsUnitShown text unit asm line mark = (number : ℕ) × IsUnitLine asm unit number
+    × (mark ≡ option_map unit_mark (option_and_then (spot_in text number) line))
 
 -- the key of the program
 abbrev pub source_shown : ℕ → List ℕ → Option Mark
@@ -230,7 +247,8 @@ bytecode_shown general text = option_map (shown_at false (codes "code")) (progra
 abbrev pub IsRefusedAt : List ℕ → ℕ → ℕ → Option Source → Option Mark → Type 0
 IsRefusedAt text general unit None mark = mark ≡ source_shown general text
 IsRefusedAt text general unit (Some (Hex digits)) mark = mark ≡ bytecode_shown general text
-IsRefusedAt text general unit (Some (Assembly asm)) mark = IsUnitShown text unit asm (program_line general (codes "asm") text) mark
+IsRefusedAt text general unit (Some (Assembly asm)) mark =
+    IsUnitShown text unit asm (program_line general (codes "asm") text) mark
 
 -- the tables that the bytes say, which are perhaps no text
 abbrev pub IsDocumentOf : List ℕ → Option Members → Type 0
@@ -238,17 +256,23 @@ IsDocumentOf bytes members = (IsUtf8 bytes × (members ≡ parse_document bytes)
 
 abbrev pub IsRefusedBy : List ℕ → List ℕ → ℕ → Reason → ℕ → Option Members → List ℕ → Type 0
 IsRefusedBy name text general reason unit members told =
-    (mark : Option Mark) × IsRefusedAt text general unit (option_and_then (source_by general) members) mark × (told ≡ report_text name (verifier_sentence reason unit) mark None)
+    (mark : Option Mark) × IsRefusedAt text general unit (option_and_then (source_by general) members) mark
+    × (told ≡ report_text name (verifier_sentence reason unit) mark None)
 
 abbrev pub IsRefusedProgram : List ℕ → List ℕ → ℕ → Reason → ℕ → List ℕ → Type 0
-IsRefusedProgram name text general reason unit told = (members : Option Members) × IsDocumentOf text members × IsRefusedBy name text general reason unit members told
+IsRefusedProgram name text general reason unit told =
+    (members : Option Members) × IsDocumentOf text members × IsRefusedBy name text general reason unit members told
 
 abbrev pub hex_told : List ℕ → List ℕ → ℕ → List ℕ
 hex_told name text general =
-    report_text name (codes "bytecode is an even number of digits in hex, without blanks") (option_map (shown_at true (codes "code")) (program_line general (codes "code") text)) None
+    report_text name (codes "bytecode is an even number of digits in hex, without blanks")
+    (option_map (shown_at true (codes "code")) (program_line general (codes "code") text)) None
 
 abbrev pub IsProgramTold : List ℕ → List ℕ → ℕ → ProgramFault → List ℕ → Type 0
-IsProgramTold name text general (programs.Asm f number) told = told ≡ text_told name text f number (program_line general (codes "asm") text)
+IsProgramTold name text general (programs.Asm f number) told =
+    told ≡ text_told name text f number (program_line general (codes "asm") text)
 IsProgramTold name text general programs.Hex told = told ≡ hex_told name text general
-IsProgramTold name text general (programs.Code f unit) told = told ≡ code_line_told name f unit (program_line general (codes "code") text)
-IsProgramTold name text general (programs.Verifier reason unit) told = IsRefusedProgram name text general reason unit told
+IsProgramTold name text general (programs.Code f unit) told =
+    told ≡ code_line_told name f unit (program_line general (codes "code") text)
+IsProgramTold name text general (programs.Verifier reason unit) told =
+    IsRefusedProgram name text general reason unit told

@@ -56,8 +56,10 @@ unfoldable pub setting_place_told : List ℕ → List ℕ → Fault → Place �
 setting_place_told name text f place = report_text name (setting_sentence f place) (setting_mark place text) None
 
 abbrev pub setting_keys : List (List ℕ)
-setting_keys = codes "generals" ∷ codes "bound" ∷ codes "commander" ∷ codes "general" ∷ codes "round" ∷ codes "taken" ∷ codes "board" ∷ []
+setting_keys = codes "generals" ∷ codes "bound" ∷ codes "commander" ∷ codes "general" ∷ codes "round" ∷ codes "taken" ∷
+    codes "board" ∷ []
 
 unfoldable pub setting_unknown_told : List ℕ → List ℕ → List ℕ → List ℕ
 setting_unknown_told name text key =
-    report_text name (codes "a setting has no such key") (option_map (shown_at false key) (found 0 key text)) (option_map (near_words (codes "key")) (near key setting_keys))
+    report_text name (codes "a setting has no such key") (option_map (shown_at false key) (found 0 key text))
+    (option_map (near_words (codes "key")) (near key setting_keys))

@@ -18,7 +18,8 @@ abbrev pub unread_sentence : List ℕ → List ℕ
 unread_sentence message = codes "the text is no TOML: " ++ message
 
 abbrev pub span_told : List ℕ → List ℕ → List ℕ → ℕ → ℕ → List ℕ
-span_told name text message start end = report_text name (unread_sentence message) (Some (span_marked text start end)) None
+span_told name text message start end =
+    report_text name (unread_sentence message) (Some (span_marked text start end)) None
 
 -- the text is told with a message at a place of its own; what the message says is the parser's affair
 pub record IsUnread (name text told : List ℕ) : Type 0 where

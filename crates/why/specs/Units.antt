@@ -27,4 +27,5 @@ unit_line places unit = place_number (slice_get places unit)
 
 -- the line of a unit of this text
 abbrev pub IsUnitLine : List ℕ → ℕ → ℕ → Type 0
-IsUnitLine text unit number = (places : List (String Global)) × AreWritten (read_on nothing 1 (lines_of text)) (map string_bytes places) × (number ≡ unit_line places unit)
+IsUnitLine text unit number = (places : List (String Global))
+    × AreWritten (read_on nothing 1 (lines_of text)) (map string_bytes places) × (number ≡ unit_line places unit)

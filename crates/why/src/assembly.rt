@@ -292,7 +292,8 @@ fn outline_help(number: u64, line: &[u8], code: &[u8]) -> Option<Help<'static>>
 
 /// A name of this kind, if one is near; without one, that capital letters are none.
 fn or_small(code: &[u8], kind: &'static str, name: Option<&'static str>) -> Option<Help<'static>>
-    ensures { option_map help_words result ≡ or_small code.now (option_map (near_words kind.now) (option_map (λ n. n.now) name.entry)) }
+    ensures { option_map help_words result
+        ≡ or_small code.now (option_map (near_words kind.now) (option_map (λ n. n.now) name.entry)) }
 {
     match name {
         Some(name) => Some(Help::Near(kind, name)),
@@ -322,7 +323,8 @@ fn is_call(takes: Option<Takes>) -> bool
 
 /// What may mend a helper's name.
 fn helper_help(alloc: Global, word: &[u8]) -> Result<Option<Help<'static>>, AllocError>
-    ensures { IfOk result (λ help. option_map help_words help ≡ or_small word.now (option_map (near_words (codes "helper")) (near word.now helpers))) }
+    ensures { IfOk result (λ help. option_map help_words help
+        ≡ or_small word.now (option_map (near_words (codes "helper")) (near word.now helpers))) }
 {
     let name = near_helper(alloc, word)?;
     Ok(or_small(word, "helper", name))
@@ -344,7 +346,8 @@ fn operand_help(
 
 /// What may mend a mnemonic.
 fn mnemonic_help(alloc: Global, word: &[u8]) -> Result<Option<Help<'static>>, AllocError>
-    ensures { IfOk result (λ help. option_map help_words help ≡ or_small word.now (option_map (near_words (codes "mnemonic")) (near word.now mnemonic_names))) }
+    ensures { IfOk result (λ help. option_map help_words help
+        ≡ or_small word.now (option_map (near_words (codes "mnemonic")) (near word.now mnemonic_names))) }
 {
     let names = mnemonics::names(alloc)?;
     let name = near(alloc, word, names.as_slice())?;
@@ -432,7 +435,8 @@ fn line_told(
     number: u64,
     line: Option<&[u8]>,
 ) -> Result<String, AllocError>
-    ensures { IfOk result (λ told. string_bytes told ≡ line_told name.now fault number (option_map (λ l. l.now) line.entry)) }
+    ensures { IfOk result (λ told. string_bytes told
+        ≡ line_told name.now fault number (option_map (λ l. l.now) line.entry)) }
 {
     let Some(line) = line else {
         return report(alloc, name, sentence(fault, &[]), None, None);

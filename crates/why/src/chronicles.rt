@@ -41,7 +41,8 @@ fn schedule_line_told(
     number: u64,
     line: Option<&[u8]>,
 ) -> Result<String, AllocError>
-    ensures { IfOk result (λ told. string_bytes told ≡ schedule_line_told name.now number (option_map (λ l. l.now) line.entry)) }
+    ensures { IfOk result (λ told. string_bytes told
+        ≡ schedule_line_told name.now number (option_map (λ l. l.now) line.entry)) }
 {
     let sentence =
         "a line is entries with one space between them, `G` or `G*K` for K of them, G being 0 to 12 and K 1 to 4096; a schedule has at most 5 lines and 1048576 bytes";
@@ -112,7 +113,9 @@ fn chronicle_line_told(
     wanted: Option<&str>,
     line: Option<&[u8]>,
 ) -> Result<String, AllocError>
-    ensures { IfOk result (λ told. string_bytes told ≡ chronicle_line_told name.now last fault number (option_map (λ w. w.now) wanted.entry) (option_map (λ l. l.now) line.entry)) }
+    ensures { IfOk result (λ told. string_bytes told
+        ≡ chronicle_line_told name.now last fault number (option_map (λ w. w.now) wanted.entry)
+        (option_map (λ l. l.now) line.entry)) }
 {
     let sentence = chronicle_sentence(last, fault);
     match line {
@@ -161,14 +164,16 @@ fn chronicle_told(
     number: u64,
     wanted: Option<&str>,
 ) -> Result<String, AllocError>
-    ensures { IfOk result (λ told. string_bytes told ≡ chronicle_told name.now text.now fault number (option_map (λ w. w.now) wanted.entry)) }
+    ensures { IfOk result (λ told. string_bytes told
+        ≡ chronicle_told name.now text.now fault number (option_map (λ w. w.now) wanted.entry)) }
 {
     let last = is_last(text, number);
     let line = line_at(text, number);
     chronicle_line_told(alloc, name, last, fault, number, wanted, line)
 }
 
-/// What is said of a fault at a line of the chronicle of the file with this name, in place of which the campaign has this text.
+/// What is said of a fault at a line of the chronicle of the file with this name, in place of which the campaign has
+/// this text.
 pub fn of_chronicle(
     alloc: Global,
     name: &str,

@@ -70,7 +70,8 @@ fn placed(
     line: Option<Found<'_>>,
     program: &Program,
 ) -> Result<Vec<String>, AllocError>
-    ensures { IfOk result (λ places. ArePlaced (source_of written.entry) (option_map found_view line.entry) program.now (map string_bytes places.items)) }
+    ensures { IfOk result (λ places. ArePlaced (source_of written.entry) (option_map found_view line.entry) program.now
+        (map string_bytes places.items)) }
 {
     let Some(line) = line else {
         return Ok(Vec::new(alloc));
@@ -101,7 +102,8 @@ pub(crate) fn explained_of(
     written: Written<'_>,
     line: Option<Found<'_>>,
 ) -> Result<String, AllocError>
-    ensures { IfOk result (λ told. IsExplainedOf (source_of written.entry) (option_map found_view line.entry) (string_bytes told)) }
+    ensures { IfOk result (λ told. IsExplainedOf (source_of written.entry) (option_map found_view line.entry)
+        (string_bytes told)) }
 {
     let program = match program(alloc, general, written) {
         Ok(program) => program,
@@ -129,7 +131,8 @@ fn explained_in(
     table: &Table,
     line: Option<Found<'_>>,
 ) -> Result<String, AllocError>
-    ensures { IfOk result (λ told. IsExplainedBy (source_by general (table_view table.now)) (option_map found_view line.entry) (string_bytes told)) }
+    ensures { IfOk result (λ told. IsExplainedBy (source_by general (table_view table.now))
+        (option_map found_view line.entry) (string_bytes told)) }
 {
     match written_by(table, general) {
         Some(written) => explained_of(alloc, general, written, line),
@@ -172,8 +175,8 @@ pub(crate) fn judged_of(error: &ScenarioError) -> Option<u8>
     }
 }
 
-/// What stands behind the report of an error of a scenario with this text: of a program that the verifier refuses what it
-/// knows of it.
+/// What stands behind the report of an error of a scenario with this text: of a program that the verifier refuses what
+/// it knows of it.
 pub(crate) fn judged(
     alloc: Global,
     text: &[u8],

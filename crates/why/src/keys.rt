@@ -152,7 +152,8 @@ pub(crate) fn shown_at<'a>(by_value: bool, word: &[u8], found: Found<'a>) -> Mar
     }
 }
 
-/// The line of a key of the table of this number or, without one, of the table's header or, without one, of the key `traitor`.
+/// The line of a key of the table of this number or, without one, of the table's header or, without one, of the key
+/// `traitor`.
 pub(crate) fn entry_line<'a>(index: usize, word: &[u8], text: &'a [u8]) -> Option<Found<'a>>
     ensures { option_map found_view result ≡ entry_line index word.now text.now }
 {

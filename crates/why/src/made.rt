@@ -151,7 +151,8 @@ fn file_told(
     source: Option<Written<'_>>,
     key: Option<Found<'_>>,
 ) -> Result<String, AllocError>
-    ensures { IfOk result (λ told. string_bytes told ≡ file_told name.now fault number (option_map source_of source.entry) (option_map found_view key.entry)) }
+    ensures { IfOk result (λ told. string_bytes told
+        ≡ file_told name.now fault number (option_map source_of source.entry) (option_map found_view key.entry)) }
 {
     let Some(key) = key else {
         return report(alloc, name, sentence(fault, &[]), None, None);
@@ -171,7 +172,9 @@ fn asm_told(
     source: Option<Written<'_>>,
     table: Option<usize>,
 ) -> Result<String, AllocError>
-    ensures { IfOk result (λ told. string_bytes told ≡ asm_told name.now own.now fault number (option_map source_of source.entry) table (own_line table (codes "asm") own.now)) }
+    ensures { IfOk result (λ told. string_bytes told
+        ≡ asm_told name.now own.now fault number (option_map source_of source.entry) table
+        (own_line table (codes "asm") own.now)) }
 {
     match own_line(table, b"asm", own) {
         Some(line) => text_told(alloc, name, own, fault, number, Some(line)),
@@ -212,7 +215,9 @@ fn unit_told(
     source: Option<Written<'_>>,
     table: Option<usize>,
 ) -> Result<String, AllocError>
-    ensures { IfOk result (λ told. string_bytes told ≡ unit_told name.now own.now fault unit (option_map source_of source.entry) table (own_line table (codes "code") own.now)) }
+    ensures { IfOk result (λ told. string_bytes told
+        ≡ unit_told name.now own.now fault unit (option_map source_of source.entry) table
+        (own_line table (codes "code") own.now)) }
 {
     if let Some(line) = own_line(table, b"code", own) {
         return code_line_told(alloc, name, fault, unit, Some(line));
@@ -245,7 +250,8 @@ fn line_told(
     text: &str,
     number: u64,
 ) -> Result<String, AllocError>
-    ensures { IfOk result (λ told. string_bytes told ≡ report_text file.now sentence.now (line_shown text.now number) None) }
+    ensures { IfOk result (λ told. string_bytes told
+        ≡ report_text file.now sentence.now (line_shown text.now number) None) }
 {
     let mark = line_shown(text.as_bytes(), number);
     report(alloc, file, sentence, mark, None)
@@ -267,7 +273,8 @@ fn key_told(
     unit: usize,
     mark: Option<Mark<'_>>,
 ) -> Result<String, AllocError>
-    ensures { IfOk result (λ told. string_bytes told ≡ key_told name.now reason unit (option_map mark_view mark.entry)) }
+    ensures { IfOk result (λ told. string_bytes told
+        ≡ key_told name.now reason unit (option_map mark_view mark.entry)) }
 {
     let sentence = verifier_sentence(alloc, reason, unit)?;
     report(alloc, name, sentence.as_str(), mark, None)
@@ -293,7 +300,8 @@ fn own_unit_told(
     text: &str,
     line: Found<'_>,
 ) -> Result<String, AllocError>
-    ensures { IfOk result (λ told. IsOwnUnitTold name.now own.now reason unit text.now (found_view line.entry) (string_bytes told)) }
+    ensures { IfOk result (λ told. IsOwnUnitTold name.now own.now reason unit text.now (found_view line.entry)
+        (string_bytes told)) }
 {
     let mark = unit_shown(alloc, own, unit, text, Some(line))?;
     key_told(alloc, name, reason, unit, mark)
@@ -309,7 +317,8 @@ fn refused_told(
     source: Option<Written<'_>>,
     table: Option<usize>,
 ) -> Result<String, AllocError>
-    ensures { IfOk result (λ told. IsRefusedTold name.now own.now reason unit (option_map source_of source.entry) table (own_line table (codes "asm") own.now) (string_bytes told)) }
+    ensures { IfOk result (λ told. IsRefusedTold name.now own.now reason unit (option_map source_of source.entry) table
+        (own_line table (codes "asm") own.now) (string_bytes told)) }
 {
     match own_line(table, b"asm", own) {
         Some(line) => { own_unit_told(alloc, name, own, reason, unit, assembly_of(source), line) }
@@ -327,7 +336,8 @@ fn refused_file_told(
     source: Option<Written<'_>>,
     table: Option<usize>,
 ) -> Result<String, AllocError>
-    ensures { IfOk result (λ told. IsRefusedFile name.now own.now reason unit (option_map source_of source.entry) table (own_line table (codes "asm_file") own.now) (string_bytes told)) }
+    ensures { IfOk result (λ told. IsRefusedFile name.now own.now reason unit (option_map source_of source.entry) table
+        (own_line table (codes "asm_file") own.now) (string_bytes told)) }
 {
     match own_line(table, b"asm_file", own) {
         Some(key) => {
@@ -361,7 +371,8 @@ fn program_told(
     table: Option<usize>,
     fault: ProgramFault,
 ) -> Result<String, AllocError>
-    ensures { IfOk result (λ told. ReportsProgram name.now own.now (option_map source_of source.entry) table fault (string_bytes told)) }
+    ensures { IfOk result (λ told. ReportsProgram name.now own.now (option_map source_of source.entry) table fault
+        (string_bytes told)) }
 {
     match fault {
         ProgramFault::Asm(fault, number) => {
@@ -385,7 +396,8 @@ fn made_report(
     made: Option<&Table>,
     error: &ScenarioError,
 ) -> Result<String, AllocError>
-    ensures { IfOk result (λ told. ReportsMade name.now own.now (option_map (λ t. table_view t.now) made.entry) error.now (string_bytes told)) }
+    ensures { IfOk result (λ told. ReportsMade name.now own.now
+        (option_map (λ t. table_view t.now) made.entry) error.now (string_bytes told)) }
 {
     let bytes = own.as_bytes();
     match error {
@@ -450,7 +462,8 @@ fn made_judged(
     made: Option<&Table>,
     error: &ScenarioError,
 ) -> Result<String, AllocError>
-    ensures { IfOk result (λ behind. IsMadeJudged own.now (option_map (λ t. table_view t.now) made.entry) (judged_of error.now) (string_bytes behind)) }
+    ensures { IfOk result (λ behind. IsMadeJudged own.now (option_map (λ t. table_view t.now) made.entry)
+        (judged_of error.now) (string_bytes behind)) }
 {
     let Some(general) = judged_of(error) else {
         return Ok(String::new(alloc));
@@ -462,8 +475,8 @@ fn made_judged(
     explained_of(alloc, general, written, own_source(table, own.as_bytes()))
 }
 
-/// What is said of an error of the text that was made of the own text of a scenario, in which its files stand: the report, at
-/// the own line or that of the file, and behind that of a program that the verifier refuses its explanation.
+/// What is said of an error of the text that was made of the own text of a scenario, in which its files stand: the
+/// report, at the own line or that of the file, and behind that of a program that the verifier refuses its explanation.
 pub fn of_made(
     alloc: Global,
     name: &str,

@@ -66,7 +66,8 @@ fn line_told(
     number: u64,
     line: Option<&[u8]>,
 ) -> Result<String, AllocError>
-    ensures { IfOk result (λ told. string_bytes told ≡ table_line_told name.now fault number (option_map (λ l. l.now) line.entry)) }
+    ensures { IfOk result (λ told. string_bytes told
+        ≡ table_line_told name.now fault number (option_map (λ l. l.now) line.entry)) }
 {
     let sentence = sentence(fault, number);
     let Some(line) = line else {
@@ -97,7 +98,8 @@ fn stranger_line_told(
     generals: u8,
     line: Option<&[u8]>,
 ) -> Result<String, AllocError>
-    ensures { IfOk result (λ told. string_bytes told ≡ stranger_line_told name.now generals (option_map (λ l. l.now) line.entry)) }
+    ensures { IfOk result (λ told. string_bytes told
+        ≡ stranger_line_told name.now generals (option_map (λ l. l.now) line.entry)) }
 {
     let last = generals.saturating_sub(1);
     let sentence = format!(in alloc; "the table has the generals 0 to {last}")?;
@@ -108,8 +110,8 @@ fn stranger_line_told(
     report(alloc, name, sentence.as_str(), Some(mark), None)
 }
 
-/// What is said of a general who is named, and is none of the generals of the message table of the file with this name: how
-/// many there are, at its first line.
+/// What is said of a general who is named, and is none of the generals of the message table of the file with this name:
+/// how many there are, at its first line.
 #[tactic(auto, unfolding(crate::specs::Messages::stranger_told))]
 pub fn of_stranger(
     alloc: Global,

@@ -19,7 +19,8 @@ pub(crate) fn near(
     word: &[u8],
     names: &[&'static str],
 ) -> Result<Option<&'static str>, AllocError>
-    ensures { IfOk result (λ found. option_map (λ name. name.now) found ≡ near word.now (map (λ name. name.now) names.now)) }
+    ensures { IfOk result (λ found. option_map (λ name. name.now) found
+        ≡ near word.now (map (λ name. name.now) names.now)) }
 {
     let mut best = "";
     let mut least = distance(alloc, word, best)?;

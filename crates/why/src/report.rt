@@ -197,7 +197,8 @@ fn put_excerpt(
     name: &str,
     mark: &Mark<'_>,
 ) -> Result<(), AllocError>
-    ensures { OnOk result (string_bytes out.new ≡ string_bytes out.old ++ excerpt_text margin.now name.now (mark_view mark.now)) }
+    ensures { OnOk result (string_bytes out.new ≡ string_bytes out.old
+        ++ excerpt_text margin.now name.now (mark_view mark.now)) }
 {
     put_where(out, margin, name, mark.number)?;
     put_line(alloc, out, margin, mark)?;
@@ -206,7 +207,8 @@ fn put_excerpt(
 
 /// Adds a help, if there is one.
 fn put_help(out: &mut String, margin: &str, help: Option<Help<'_>>) -> Result<(), AllocError>
-    ensures { OnOk result (string_bytes out.new ≡ string_bytes out.old ++ help_text margin.now (option_map help_words help.entry)) }
+    ensures { OnOk result (string_bytes out.new ≡ string_bytes out.old
+        ++ help_text margin.now (option_map help_words help.entry)) }
 {
     match help {
         Some(help) => write!(out, "\n{margin} = help: {help}"),
@@ -223,7 +225,8 @@ pub(crate) fn report(
     place: Option<Mark<'_>>,
     help: Option<Help<'_>>,
 ) -> Result<String, AllocError>
-    ensures { IfOk result (λ text. string_bytes text ≡ report_text name.now sentence.now (option_map mark_view place.entry) (option_map help_words help.entry)) }
+    ensures { IfOk result (λ text. string_bytes text
+        ≡ report_text name.now sentence.now (option_map mark_view place.entry) (option_map help_words help.entry)) }
 {
     let mut out = format!(in alloc; "\nerror: {sentence}")?;
     match place {

@@ -194,7 +194,9 @@ pub(crate) fn key_report(
     line: Option<Found<'_>>,
     known: Option<&'static str>,
 ) -> Result<String, AllocError>
-    ensures { IfOk result (λ told. string_bytes told ≡ key_told name.now sentence.now word.now (option_map found_view line.entry) (option_map (λ k. k.now) known.entry)) }
+    ensures { IfOk result (λ told. string_bytes told
+        ≡ key_told name.now sentence.now word.now (option_map found_view line.entry)
+        (option_map (λ k. k.now) known.entry)) }
 {
     report(alloc, name, sentence, key_mark(word, line), key_help(known))
 }
@@ -291,7 +293,8 @@ pub(crate) fn value_mark<'a>(word: &[u8], line: Option<Found<'a>>) -> Option<Mar
 
 /// A key that is near.
 pub(crate) fn key_help(known: Option<&'static str>) -> Option<Help<'static>>
-    ensures { option_map help_words result ≡ option_map (near_words (codes "key")) (option_map (λ key. key.now) known.entry) }
+    ensures { option_map help_words result
+        ≡ option_map (near_words (codes "key")) (option_map (λ key. key.now) known.entry) }
 {
     match known {
         Some(key) => Some(Help::Near("key", key)),

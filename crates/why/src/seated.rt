@@ -150,7 +150,8 @@ fn line_behind(text: &[u8], first: u64, more: u64) -> Option<(u64, &[u8])>
 
 /// A line of the file that is one of the program, which this quotation mark ends.
 fn line_spot<'a>(quote: &[u8], line: Option<(u64, &'a [u8])>) -> Option<Spot<'a>>
-    ensures { option_map spot_view result ≡ option_map (line_spot quote.now) (option_map (λ l. (l.0, l.1.now)) line.entry) }
+    ensures { option_map spot_view result
+        ≡ option_map (line_spot quote.now) (option_map (λ l. (l.0, l.1.now)) line.entry) }
 {
     let (number, line) = line?;
     Some(Spot {
@@ -195,7 +196,8 @@ fn spot_in<'a>(text: &'a [u8], number: u64, line: Found<'a>) -> Option<Spot<'a>>
 
 /// The same, if there is such a key.
 fn spot_of<'a>(text: &'a [u8], number: u64, line: Option<Found<'a>>) -> Option<Spot<'a>>
-    ensures { option_map spot_view result ≡ option_and_then (spot_in text.now number) (option_map found_view line.entry) }
+    ensures { option_map spot_view result
+        ≡ option_and_then (spot_in text.now number) (option_map found_view line.entry) }
 {
     match line {
         Some(line) => spot_in(text, number, line),
@@ -227,7 +229,8 @@ pub(crate) fn text_told(
     number: u64,
     line: Option<Found<'_>>,
 ) -> Result<String, AllocError>
-    ensures { IfOk result (λ told. string_bytes told ≡ text_told name.now text.now fault number (option_map found_view line.entry)) }
+    ensures { IfOk result (λ told. string_bytes told
+        ≡ text_told name.now text.now fault number (option_map found_view line.entry)) }
 {
     spot_told(alloc, name, fault, spot_of(text, number, line))
 }
@@ -250,7 +253,8 @@ pub(crate) fn code_line_told(
     unit: usize,
     line: Option<Found<'_>>,
 ) -> Result<String, AllocError>
-    ensures { IfOk result (λ told. string_bytes told ≡ code_line_told name.now fault unit (option_map found_view line.entry)) }
+    ensures { IfOk result (λ told. string_bytes told
+        ≡ code_line_told name.now fault unit (option_map found_view line.entry)) }
 {
     let Some(line) = line else {
         return report(alloc, name, unit_sentence(fault, &[]), None, None);
@@ -292,7 +296,8 @@ pub(crate) fn unit_shown<'a>(
     asm: &str,
     line: Option<Found<'a>>,
 ) -> Result<Option<Mark<'a>>, AllocError>
-    ensures { IfOk result (λ mark. IsUnitShown text.now unit asm.now (option_map found_view line.entry) (option_map mark_view mark)) }
+    ensures { IfOk result (λ mark. IsUnitShown text.now unit asm.now (option_map found_view line.entry)
+        (option_map mark_view mark)) }
 {
     let number = line_of_unit(alloc, asm, unit)?;
     Ok(spot_shown(spot_of(text, number, line)))
@@ -322,7 +327,8 @@ fn refused_at<'a>(
     unit: usize,
     source: Option<Written<'_>>,
 ) -> Result<Option<Mark<'a>>, AllocError>
-    ensures { IfOk result (λ mark. IsRefusedAt text.now general unit (option_map source_of source.entry) (option_map mark_view mark)) }
+    ensures { IfOk result (λ mark. IsRefusedAt text.now general unit (option_map source_of source.entry)
+        (option_map mark_view mark)) }
 {
     match source {
         None => source_shown(alloc, general, text),
@@ -344,7 +350,8 @@ fn refused_by(
     unit: usize,
     tables: Option<&Table>,
 ) -> Result<String, AllocError>
-    ensures { IfOk result (λ told. IsRefusedBy name.now text.now general reason unit (option_map (λ t. table_view t.now) tables.entry) (string_bytes told)) }
+    ensures { IfOk result (λ told. IsRefusedBy name.now text.now general reason unit
+        (option_map (λ t. table_view t.now) tables.entry) (string_bytes told)) }
 {
     let sentence = verifier_sentence(alloc, reason, unit)?;
     let mark = refused_at(alloc, text, general, unit, source_in(tables, general))?;

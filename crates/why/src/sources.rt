@@ -33,7 +33,8 @@ pub(crate) fn document_of(alloc: Global, bytes: &[u8]) -> Result<Option<Table>, 
 
 /// The program of this general in the tables of a text.
 pub(crate) fn source_in(tables: Option<&Table>, general: u8) -> Option<Written<'_>>
-    ensures { option_map source_of result ≡ option_and_then (source_by general) (option_map (λ t. table_view t.now) tables.entry) }
+    ensures { option_map source_of result
+        ≡ option_and_then (source_by general) (option_map (λ t. table_view t.now) tables.entry) }
 {
     match tables {
         Some(table) => written_by(table, general),

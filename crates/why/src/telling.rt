@@ -11,8 +11,8 @@ use scenario::ScenarioError;
 use std::alloc::{AllocError, Global};
 use trial::SettingError;
 
-/// What is said of an error of the scenario of the file with this name: the report, and behind that of a program that the
-/// verifier refuses its explanation.
+/// What is said of an error of the scenario of the file with this name: the report, and behind that of a program that
+/// the verifier refuses its explanation.
 pub fn of_scenario(
     alloc: Global,
     name: &str,

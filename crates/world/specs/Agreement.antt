@@ -1,4 +1,5 @@
--- Agreement in worlds, as a list of decisions and as the verdict says it (TOPLAS 1982, Theorem 1, IC1 and IC2). Each law is the contract of a function of this crate.
+-- Agreement in worlds, as a list of decisions and as the verdict says it (TOPLAS 1982, Theorem 1, IC1 and IC2). Each
+-- law is the contract of a function of this crate.
 use Rattle.std.specs.Prelude.{ℕ, suc, ◌≡◌, ◌≢◌, ◌<◌, ◌↔◌, true, false, List, length, slice_index, None, Some}
 use Rattle.label.specs.Oral.{IsFaithful, IsBound, Agree}
 use Rattle.label.specs.Lieutenants.{lieutenants, IsLoyalAt, AgreeInList}
@@ -17,30 +18,40 @@ pub record IsFinished (w : World) : Type 0 where
 -- where the loyal generals posted in every round they are faithful, and under the bound the decisions agree
 pub record WorldsAgree : Type 0 where
   pub full : (s : Scenario) (events : List Event) → IsPunctual s events → (run (opening s) events).full ≡ true
-  pub faithful : (s : Scenario) (events : List Event) → IsScenario s → IsFinished (run (opening s) events) → (g : ℕ) → g < s.generals → is_traitor s g ≡ false →
+  pub faithful : (s : Scenario) (events : List Event) → IsScenario s → IsFinished (run (opening s) events) → (g : ℕ) →
+      g < s.generals → is_traitor s g ≡ false →
       IsFaithful s.generals s.commander s.bound s.order (messages (run (opening s) events).closed) g
-  pub agree : (s : Scenario) (events : List Event) → IsScenario s → IsFinished (run (opening s) events) → IsBound s.generals s.bound (is_traitor s) →
+  pub agree : (s : Scenario) (events : List Event) → IsScenario s → IsFinished (run (opening s) events) →
+      IsBound s.generals s.bound (is_traitor s) →
       Agree s.generals s.commander s.order (is_traitor s) (decision s (messages (run (opening s) events).closed))
 
 -- so does the list of decisions, in the order of the lieutenants
 abbrev pub DecisionsAgree : Type 0
-DecisionsAgree = (s : Scenario) (events : List Event) → IsScenario s → IsFinished (run (opening s) events) → IsBound s.generals s.bound (is_traitor s) →
+DecisionsAgree = (s : Scenario) (events : List Event) → IsScenario s → IsFinished (run (opening s) events) →
+    IsBound s.generals s.bound (is_traitor s) →
     AgreeInList s.generals s.commander s.order (is_traitor s) (decisions s (messages (run (opening s) events).closed))
 
 -- the loyal lieutenants decide alike
 abbrev pub AreAlike : Scenario → List ℕ → Type 0
-AreAlike s ds = (i j : ℕ) → IsLoyalAt s.generals s.commander (is_traitor s) i → IsLoyalAt s.generals s.commander (is_traitor s) j → slice_index ds i ≡ slice_index ds j
+AreAlike s ds = (i j : ℕ) → IsLoyalAt s.generals s.commander (is_traitor s) i →
+    IsLoyalAt s.generals s.commander (is_traitor s) j → slice_index ds i ≡ slice_index ds j
 
 -- each of them decides the order
 abbrev pub AreObedient : Scenario → List ℕ → Type 0
 AreObedient s ds = (i : ℕ) → IsLoyalAt s.generals s.commander (is_traitor s) i → slice_index ds i ≡ s.order
 
--- the verdict means what it says, of obedience nothing exactly where the commander is a traitor, and in a finished world whose bound holds it says that all is well
+-- the verdict means what it says, of obedience nothing exactly where the commander is a traitor, and in a finished
+-- world whose bound holds it says that all is well
 pub record VerdictsMean : Type 0 where
-  pub bound : (s : Scenario) (ds : List ℕ) → ((verdict_of s ds).bound ≡ true) ↔ IsBound s.generals s.bound (is_traitor s)
-  pub alike : (s : Scenario) (ds : List ℕ) → length ds ≡ length (lieutenants s.generals s.commander) → ((verdict_of s ds).alike ≡ true) ↔ AreAlike s ds
-  pub obeyed : (s : Scenario) (ds : List ℕ) → length ds ≡ length (lieutenants s.generals s.commander) → is_traitor s s.commander ≡ false →
+  pub bound : (s : Scenario) (ds : List ℕ) →
+      ((verdict_of s ds).bound ≡ true) ↔ IsBound s.generals s.bound (is_traitor s)
+  pub alike : (s : Scenario) (ds : List ℕ) → length ds ≡ length (lieutenants s.generals s.commander) →
+      ((verdict_of s ds).alike ≡ true) ↔ AreAlike s ds
+  pub obeyed : (s : Scenario) (ds : List ℕ) → length ds ≡ length (lieutenants s.generals s.commander) →
+      is_traitor s s.commander ≡ false →
       ((verdict_of s ds).obeyed ≡ Some true) ↔ AreObedient s ds
   pub none : (s : Scenario) (ds : List ℕ) → ((verdict_of s ds).obeyed ≡ None) ↔ (is_traitor s s.commander ≡ true)
-  pub kept : (s : Scenario) (events : List Event) → IsScenario s → IsFinished (run (opening s) events) → (chronicle_of (run (opening s) events)).verdict.bound ≡ true →
-      ((chronicle_of (run (opening s) events)).verdict.alike ≡ true) × ((chronicle_of (run (opening s) events)).verdict.obeyed ≢ Some false)
+  pub kept : (s : Scenario) (events : List Event) → IsScenario s → IsFinished (run (opening s) events) →
+      (chronicle_of (run (opening s) events)).verdict.bound ≡ true →
+      ((chronicle_of (run (opening s) events)).verdict.alike ≡ true)
+      × ((chronicle_of (run (opening s) events)).verdict.obeyed ≢ Some false)

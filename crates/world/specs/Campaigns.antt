@@ -9,15 +9,19 @@ use Rattle.world.specs.Kind.{Kind}
 -- a scenario within the limits, in whose rounds every general is told a context, and relays, as sound programs want it
 pub record IsCampaign (K : Kind) (s : Scenario) : Type 0 where
   pub scenario : IsScenario s
-  pub context : (closed : List (List Letter)) (g : ℕ) → g < s.generals → length closed ≤ s.bound → IsContext (K.context s closed g)
-  pub relay : (closed : List (List Letter)) (g : ℕ) → g < s.generals → length closed ≤ s.bound → IsRelay (K.relay s closed g)
+  pub context : (closed : List (List Letter)) (g : ℕ) → g < s.generals → length closed ≤ s.bound →
+      IsContext (K.context s closed g)
+  pub relay : (closed : List (List Letter)) (g : ℕ) → g < s.generals → length closed ≤ s.bound →
+      IsRelay (K.relay s closed g)
 
 -- his context tells him, the round and his relay
 pub record TellsRelays (K : Kind) (s : Scenario) : Type 0 where
-  pub own : (closed : List (List Letter)) (g : ℕ) → g < s.generals → length closed ≤ s.bound → IsToldTo g (suc (length closed)) (K.context s closed g)
+  pub own : (closed : List (List Letter)) (g : ℕ) → g < s.generals → length closed ≤ s.bound →
+      IsToldTo g (suc (length closed)) (K.context s closed g)
   pub shape : (closed : List (List Letter)) (g : ℕ) → g < s.generals → length closed ≤ s.bound →
       (K.relay s closed g).shape ≡ shape_told g (suc (length closed)) (K.context s closed g)
-  pub kind : (closed : List (List Letter)) (g : ℕ) → g < s.generals → length closed ≤ s.bound → tells_oral (K.context s closed g) → (K.relay s closed g).kind ≡ Oral
+  pub kind : (closed : List (List Letter)) (g : ℕ) → g < s.generals → length closed ≤ s.bound →
+      tells_oral (K.context s closed g) → (K.relay s closed g).kind ≡ Oral
 
 -- so it is with every scenario within the limits
 abbrev pub AreCampaigns : Kind → Type 0

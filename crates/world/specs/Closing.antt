@@ -1,4 +1,5 @@
--- How code makes a close: what it takes memory for before it changes anything, the letters as far as they take any, and the next parts (own).
+-- How code makes a close: what it takes memory for before it changes anything, the letters as far as they take any, and
+-- the next parts (own).
 -- No claim rests on this: what a close does, World.antt says.
 use Rattle.std.specs.Prelude.{ℕ, suc, ◌≡◌, nat_lt, cond, List, [], ◌∷◌, replicate, slice_get, Option, None, Some}
 use Rattle.semantics.specs.Limits.{context_size}
@@ -38,7 +39,8 @@ letters_from n round drafts parts = each n (λ g. letter_from g round (slice_get
 -- each activation has done what its letter tells
 abbrev pub AreDraftsOf : ℕ → List Draft → List Part → Type 0
 AreDraftsOf round drafts parts = (g : ℕ) (transcript : List Access) (a : Activation) →
-    slice_get drafts g ≡ Some (Begun transcript) → slice_get parts g ≡ Some (Acting a) → IsLetter (letter_left g round transcript a)
+    slice_get drafts g ≡ Some (Begun transcript) → slice_get parts g ≡ Some (Acting a) →
+    IsLetter (letter_left g round transcript a)
 
 -- a context in which nothing is told
 unfoldable pub zeros : List ℕ

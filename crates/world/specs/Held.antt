@@ -1,4 +1,5 @@
--- How code holds the world of an oral campaign (own). `World::apply` cites `IsAnswer` of this: which error comes. What a world is and does, World.antt says.
+-- How code holds the world of an oral campaign (own). `World::apply` cites `IsAnswer` of this: which error comes. What
+-- a world is and does, World.antt says.
 use Rattle.std.specs.Prelude.{ℕ, List, Option}
 use Rattle.board.specs.Board.{Access}
 use Rattle.round.specs.Scenario.{Scenario}

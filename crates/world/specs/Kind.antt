@@ -1,4 +1,5 @@
--- The world of a campaign of some kind, as a fold of events (own). What orders are, oral or signed, it leaves to the kind.
+-- The world of a campaign of some kind, as a fold of events (own). What orders are, oral or signed, it leaves to the
+-- kind.
 use Rattle.std.specs.Prelude.{ℕ, zero, suc, nat_lt, ◌==◌, ◌&&◌, cond, Bool, true, List, [], ◌∷◌, ◌++◌, length, drop, filter, slice_get, slice_set, Option, None, Some}
 use Rattle.std.specs.List.{list_all}
 use Rattle.insn.specs.declared.insn.Insn.{Insn}
@@ -67,8 +68,10 @@ opening K s = begun K s [] s.board [] true
 abbrev pub accesses_of : ℕ → List Access → List Access
 accesses_of g accesses = filter (λ a. a.general == g) accesses
 
--- a traitor's letter in the round behind these, by what his program has done: its accesses, its steps, and where it stands, whose outbox counts as it is
-abbrev pub traitor_letter_with : Kind → Scenario → List (List Letter) → ℕ → Option (List Insn) → List Access → ℕ → Activation → Letter
+-- a traitor's letter in the round behind these, by what his program has done: its accesses, its steps, and where it
+-- stands, whose outbox counts as it is
+abbrev pub traitor_letter_with : Kind → Scenario → List (List Letter) → ℕ → Option (List Insn) → List Access → ℕ →
+    Activation → Letter
 traitor_letter_with K s before g program transcript steps a = record {
   general = g;
   round = suc (length before);

@@ -13,13 +13,17 @@ use Rattle.world.specs.Kind.{Kind, accesses_of, each, traitor_letter_with, loyal
 abbrev pub IsLetterOf : Kind → Scenario → List (List Letter) → ℕ → Option (List Insn) → Letter → Type 0
 IsLetterOf K s before g None l = l ≡ loyal_letter K s before g
 IsLetterOf K s before g (Some program) l =
-    (end : Activation) × Runs l.steps (started None program (K.context s before g) (K.relay s before g)) l.transcript end
-    × (l ≡ traitor_letter_with K s before g (Some program) l.transcript l.steps end) × IsWithin s.patience l.steps × ((l.exited || is_reached s.patience l.steps) ≡ true)
+    (end : Activation) × Runs l.steps
+    (started None program (K.context s before g) (K.relay s before g)) l.transcript end
+    × (l ≡ traitor_letter_with K s before g (Some program) l.transcript l.steps end) × IsWithin s.patience l.steps
+    × ((l.exited || is_reached s.patience l.steps) ≡ true)
 
 -- the letters of a round, by general, and the entries of a ledger that are theirs
-pub record IsAccountedRound (K : Kind) (s : Scenario) (before : List (List Letter)) (piece : List Access) (letters : List Letter) : Type 0 where
+pub record IsAccountedRound (K : Kind) (s : Scenario) (before : List (List Letter)) (piece : List Access)
+    (letters : List Letter) : Type 0 where
   pub count : length letters ≡ s.generals
-  pub each : (g : ℕ) (l : Letter) → slice_get letters g ≡ Some l → IsLetterOf K s before g (program_of s g) l × (accesses_of g piece ≡ l.transcript)
+  pub each : (g : ℕ) (l : Letter) → slice_get letters g ≡ Some l →
+      IsLetterOf K s before g (program_of s g) l × (accesses_of g piece ≡ l.transcript)
   pub entries : All (λ a. (a.general < s.generals) × (a.round ≡ suc (length before))) piece
 
 -- the rounds behind these: the ledger is cut behind as many entries as a round's transcripts have together
@@ -27,7 +31,8 @@ abbrev pub AreAccounted : Kind → Scenario → List (List Letter) → List Acce
 AreAccounted K s before ledger [] = (length before ≡ suc s.bound) × (ledger ≡ [])
 AreAccounted K s before ledger (letters ∷ rounds) =
     let count = sum_by (λ l. length l.transcript) letters in
-    IsAccountedRound K s before (take count ledger) letters × AreAccounted K s (before ++ letters ∷ []) (drop count ledger) rounds
+    IsAccountedRound K s before (take count ledger) letters
+    × AreAccounted K s (before ++ letters ∷ []) (drop count ledger) rounds
 
 -- the first letter of a general in a round, where there is one
 abbrev pub letter_by : ℕ → ℕ → List Letter → Option Letter

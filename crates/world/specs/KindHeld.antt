@@ -1,4 +1,5 @@
--- How code holds a world of some kind, and what one event leaves of its parts and its board (own). `apply` of both worlds cites `IsAnswer` of this:
+-- How code holds a world of some kind, and what one event leaves of its parts and its board (own). `apply` of both
+-- worlds cites `IsAnswer` of this:
 -- which error comes. What a world is and does, Kind.antt says.
 use Rattle.std.specs.Prelude.{ℕ, suc, ◌≡◌, ◌≤◌, ◌-◌, cond, Bool, List, [], ◌∷◌, length, slice_set, slice_get, Option, None, Some}
 use Rattle.board.specs.Board.{Access}
@@ -27,8 +28,10 @@ IsAnswer event error None = (error ≡ Memory) × TakesMemory event
 
 -- what a tick leaves
 abbrev pub ticked_of : ℕ → ℕ → List Part → RecordedBoard → Option Part → List Part × RecordedBoard
-ticked_of general round parts board (Some (Acting a)) =
-    (slice_set parts general (Acting (moved general round a board (turn a)).0), (moved general round a board (turn a)).1)
+ticked_of general round parts board (Some (Acting a)) = (
+  slice_set parts general (Acting (moved general round a board (turn a)).0),
+  (moved general round a board (turn a)).1,
+)
 ticked_of general round parts board _ = (parts, board)
 
 -- what a post leaves
@@ -39,7 +42,8 @@ posted_of general parts _ = parts
 -- what some turns of a general without an access leave, up to so many steps in all
 abbrev pub AheadTo : ℕ → ℕ → List Part → ℕ → Option Part → List Part → Type 0
 AheadTo limit taken parts g (Some (Acting a)) new =
-    (b : Activation) × Runs taken a [] b × (taken ≤ limit - a.state.steps) × Pauses limit b (turn b) × (new ≡ slice_set parts g (Acting b))
+    (b : Activation) × Runs taken a [] b × (taken ≤ limit - a.state.steps) × Pauses limit b (turn b)
+    × (new ≡ slice_set parts g (Acting b))
 AheadTo limit taken parts g _ new = (taken ≡ 0) × (new ≡ parts)
 
 -- how many steps a part has taken
@@ -49,7 +53,8 @@ steps_of _ = 0
 
 -- a general's letter, or none, from his part and the round's accesses
 abbrev pub letter_held : Kind → Scenario → List (List Letter) → List Access → ℕ → Option Part → List Letter
-letter_held K s closed accesses g (Some (Acting a)) = letter_left g (suc (length closed)) (accesses_of g accesses) a ∷ []
+letter_held K s closed accesses g (Some (Acting a)) =
+    letter_left g (suc (length closed)) (accesses_of g accesses) a ∷ []
 letter_held K s closed accesses g (Some Silent) = []
 letter_held K s closed accesses g (Some Posted) = loyal_letter K s closed g ∷ []
 letter_held K s closed accesses g None = []
@@ -64,7 +69,8 @@ beginnings K s closed = cond (round_open s closed) (each s.generals (λ g. begin
 
 -- what each acting general has done is a letter's run
 abbrev pub AreLetters : ℕ → List Access → List Part → Type 0
-AreLetters round accesses parts = (g : ℕ) (a : Activation) → slice_get parts g ≡ Some (Acting a) → IsLetter (letter_left g round (accesses_of g accesses) a)
+AreLetters round accesses parts = (g : ℕ) (a : Activation) → slice_get parts g ≡ Some (Acting a) →
+    IsLetter (letter_left g round (accesses_of g accesses) a)
 
 -- some list of events leads here from the opening of its scenario
 abbrev pub IsReached : Kind → World → Type 0
@@ -73,9 +79,18 @@ IsReached K w = (events : List Event) × (run K (opening K w.scenario) events �
 -- a world by what it is made of
 abbrev pub world_of : Scenario → List (List Letter) → RecordedBoard → ℕ → List Part → Bool → World
 world_of s closed board opened parts full =
-    record { scenario = s; closed = closed; words = board.words; ledger = board.ledger; opened = opened; parts = parts; full = full }
+    record {
+      scenario = s;
+      closed = closed;
+      words = board.words;
+      ledger = board.ledger;
+      opened = opened;
+      parts = parts;
+      full = full;
+    }
 
 -- what is kept of a world: some list of events leads here, and its board opened as the scenario says
-pub record IsHeld (K : Kind) (s : Scenario) (closed : List (List Letter)) (board : RecordedBoard) (opened : ℕ) (parts : List Part) (full : Bool) : Type 0 where
+pub record IsHeld (K : Kind) (s : Scenario) (closed : List (List Letter)) (board : RecordedBoard) (opened : ℕ)
+    (parts : List Part) (full : Bool) : Type 0 where
   pub reached : IsReached K (world_of s closed board opened parts full)
   pub opening : board.opening ≡ s.board

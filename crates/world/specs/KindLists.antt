@@ -83,7 +83,8 @@ event_of g (Some program) = Tick g
 abbrev pub listed_rounds : Scenario → ℕ → List (List ℕ) → List Event
 listed_rounds s zero lines = []
 listed_rounds s (suc k) lines =
-    map (λ g. event_of g (program_of s g)) (filter (λ g. nat_lt g s.generals) (first_line lines)) ++ (wound_up s ++ listed_rounds s k (later_lines lines))
+    map (λ g. event_of g (program_of s g)) (filter (λ g. nat_lt g s.generals) (first_line lines))
+    ++ (wound_up s ++ listed_rounds s k (later_lines lines))
 
 -- the events of a campaign by a schedule, of which each line is for a round
 abbrev pub listed : Scenario → List (List ℕ) → List Event
@@ -126,7 +127,8 @@ replayed K s names = replayed_rounds K (opening K s) (suc s.bound) names
 -- who made the accesses of so many rounds from this round on
 abbrev pub names_in : ℕ → List Access → ℕ → List (List ℕ)
 names_in round ledger zero = []
-names_in round ledger (suc k) = map (λ a. a.general) (filter (λ a. a.round == round) ledger) ∷ names_in (suc round) ledger k
+names_in round ledger (suc k) =
+    map (λ a. a.general) (filter (λ a. a.round == round) ledger) ∷ names_in (suc round) ledger k
 
 -- the world of the replay of a ledger
 abbrev pub replay_world : Kind → Scenario → List Access → World

@@ -1,4 +1,5 @@
--- Where a general stands in the open round: a traitor in his activation, a loyal general before or behind his letter (own).
+-- Where a general stands in the open round: a traitor in his activation, a loyal general before or behind his letter
+-- (own).
 use Rattle.std.specs.Prelude.{Bool, true, false}
 pub use Rattle.world.specs.declared.part.Part.{Part}
 pub use Rattle.world.specs.declared.part.Part.TheVariants.{Acting, Silent, Posted}

@@ -8,9 +8,11 @@ use Rattle.world.specs.Agreement.{AreAlike, AreObedient}
 
 -- where the bound holds, the loyal lieutenants' decisions agree, and are the order of a loyal commander
 abbrev pub AgreeUnderBound : Scenario → List ℕ → Type 0
-AgreeUnderBound s ds = IsBound s.generals s.bound (is_traitor s) → AgreeInList s.generals s.commander s.order (is_traitor s) ds
+AgreeUnderBound s ds =
+    IsBound s.generals s.bound (is_traitor s) → AgreeInList s.generals s.commander s.order (is_traitor s) ds
 
--- the verdict says whether the bound holds, whether the loyal lieutenants decide alike, and whether they decide the order of a loyal commander; of that nothing exactly where he is a traitor
+-- the verdict says whether the bound holds, whether the loyal lieutenants decide alike, and whether they decide the
+-- order of a loyal commander; of that nothing exactly where he is a traitor
 pub record IsVerdictOn (s : Scenario) (ds : List ℕ) (v : Verdict) : Type 0 where
   pub bound : (v.bound ≡ true) ↔ IsBound s.generals s.bound (is_traitor s)
   pub alike : (v.alike ≡ true) ↔ AreAlike s ds

@@ -11,11 +11,16 @@ use Rattle.world.specs.Kind.{Kind, opening, happen, run, refusal}
 -- a refused event leaves the world as it was
 abbrev pub RefusalsChangeNothing : Kind → Type 0
 RefusalsChangeNothing K = (s : Scenario) (events : List Event) (e : Event) (r : EventError) →
-    refusal (run K (opening K s) events) e ≡ Some r → happen K (run K (opening K s) events) e ≡ run K (opening K s) events
+    refusal (run K (opening K s) events) e ≡ Some r →
+    happen K (run K (opening K s) events) e ≡ run K (opening K s) events
 
 -- a tick of an ended activation and a second post are not refused, and leave the world as it was
 pub record IdleEventsChangeNothing (K : Kind) : Type 0 where
-  pub tick : (s : Scenario) (events : List Event) (g : ℕ) (a : Activation) → slice_get (run K (opening K s) events).parts g ≡ Some (Acting a) → has_ended a ≡ true →
-      (refusal (run K (opening K s) events) (Tick g) ≡ None) × (happen K (run K (opening K s) events) (Tick g) ≡ run K (opening K s) events)
-  pub post : (s : Scenario) (events : List Event) (g : ℕ) → slice_get (run K (opening K s) events).parts g ≡ Some Posted →
-      (refusal (run K (opening K s) events) (Post g) ≡ None) × (happen K (run K (opening K s) events) (Post g) ≡ run K (opening K s) events)
+  pub tick : (s : Scenario) (events : List Event) (g : ℕ) (a : Activation) →
+      slice_get (run K (opening K s) events).parts g ≡ Some (Acting a) → has_ended a ≡ true →
+      (refusal (run K (opening K s) events) (Tick g) ≡ None)
+      × (happen K (run K (opening K s) events) (Tick g) ≡ run K (opening K s) events)
+  pub post : (s : Scenario) (events : List Event) (g : ℕ) →
+      slice_get (run K (opening K s) events).parts g ≡ Some Posted →
+      (refusal (run K (opening K s) events) (Post g) ≡ None)
+      × (happen K (run K (opening K s) events) (Post g) ≡ run K (opening K s) events)

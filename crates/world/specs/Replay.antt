@@ -1,4 +1,5 @@
--- What lists of events and ledgers decide, in campaigns of some kind. Each law is the contract of a function, here of oral ones.
+-- What lists of events and ledgers decide, in campaigns of some kind. Each law is the contract of a function, here of
+-- oral ones.
 use Rattle.std.specs.Prelude.{ℕ, ◌≡◌, ◌<◌, true, All, List, [], map, flat_map}
 use Rattle.semantics.specs.declared.request.Request.{Request}
 use Rattle.board.specs.Board.{Access, words_after, IsLegal}
@@ -20,20 +21,25 @@ pub record ListsAreComplete (K : Kind) : Type 0 where
   pub listed : (s : Scenario) (lines : List (List ℕ)) → IsScenario s → IsComplete K s (listed s lines)
   pub replayed : (s : Scenario) (names : List (List ℕ)) → IsScenario s → IsComplete K s (replayed K s names)
 
--- from one beginning two ripe worlds with one ledger are one world, and a general's next request follows from his answers
+-- from one beginning two ripe worlds with one ledger are one world, and a general's next request follows from his
+-- answers
 pub record LedgersDecide (K : Kind) : Type 0 where
   pub worlds : (s : Scenario) (before events others : List Event) → IsScenario s → AreMoves events → AreMoves others →
       IsRipe (run K (run K (opening K s) before) events) → IsRipe (run K (run K (opening K s) before) others) →
       (run K (run K (opening K s) before) events).ledger ≡ (run K (run K (opening K s) before) others).ledger →
       run K (run K (opening K s) before) events ≡ run K (run K (opening K s) before) others
-  pub requests : (k j : ℕ) (start one two : Activation) (transcript served : List Access) (request other : Request) (answered resumed : List ℕ → Activation) →
+  pub requests : (k j : ℕ) (start one two : Activation) (transcript served : List Access) (request other : Request)
+      (answered resumed : List ℕ → Activation) →
       map (λ (access : Access). access.reply) transcript ≡ map (λ (access : Access). access.reply) served →
-      Runs k start transcript one → Runs j start served two → turn one ≡ Asks request answered → turn two ≡ Asks other resumed → request ≡ other
+      Runs k start transcript one → Runs j start served two → turn one ≡ Asks request answered →
+      turn two ≡ Asks other resumed → request ≡ other
 
 -- a complete run is the replay of its own accesses, which are those of generals of the campaign
 pub record RunsAreReplays (K : Kind) : Type 0 where
-  pub worlds : (s : Scenario) (events : List Event) → IsScenario s → IsComplete K s events → replay_world K s (run K (opening K s) events).ledger ≡ run K (opening K s) events
-  pub generals : (s : Scenario) (events : List Event) → IsScenario s → IsComplete K s events → All (λ a. a.general < s.generals) (run K (opening K s) events).ledger
+  pub worlds : (s : Scenario) (events : List Event) → IsScenario s → IsComplete K s events →
+      replay_world K s (run K (opening K s) events).ledger ≡ run K (opening K s) events
+  pub generals : (s : Scenario) (events : List Event) → IsScenario s → IsComplete K s events →
+      All (λ a. a.general < s.generals) (run K (opening K s) events).ledger
 
 -- of an oral campaign the world of the replay of a ledger
 abbrev pub replay_of : Scenario → List Access → World
@@ -42,25 +48,32 @@ replay_of s ledger = replay_world oral_kind s ledger
 -- and so the chronicle of a complete run is that of the replay
 abbrev pub ChroniclesAreReplays : Type 0
 ChroniclesAreReplays = (s : Scenario) (events : List Event) → IsScenario s → plays.IsComplete s events →
-    chronicle_of (oral.run (oral.opening s) events) ≡ chronicle_of (replay_of s (oral.run (oral.opening s) events).ledger)
+    chronicle_of (oral.run (oral.opening s) events)
+    ≡ chronicle_of (replay_of s (oral.run (oral.opening s) events).ledger)
 
 -- letters that a legal ledger accounts for are, by round and general, those of its replay, which is a complete run
 pub record AccountsAreRuns (K : Kind) : Type 0 where
-  pub rounds : (s : Scenario) (ledger : List Access) (rounds : List (List Letter)) → IsScenario s → IsLegal s.board ledger → AreAccounted K s [] ledger rounds →
+  pub rounds : (s : Scenario) (ledger : List Access) (rounds : List (List Letter)) → IsScenario s →
+      IsLegal s.board ledger → AreAccounted K s [] ledger rounds →
       ((replay_world K s ledger).closed ≡ rounds) × ((replay_world K s ledger).ledger ≡ ledger)
-  pub letters : (s : Scenario) (ledger : List Access) (letters : List Letter) → IsScenario s → IsLegal s.board ledger → IsAccounted K s ledger letters →
+  pub letters : (s : Scenario) (ledger : List Access) (letters : List Letter) → IsScenario s → IsLegal s.board ledger →
+      IsAccounted K s ledger letters →
       ((replay_world K s ledger).closed ≡ rounds_of s letters) × ((replay_world K s ledger).ledger ≡ ledger)
-  pub same : (s : Scenario) (ledger : List Access) (letters others : List Letter) → IsScenario s → IsLegal s.board ledger → IsAccounted K s ledger letters → IsAccounted K s ledger others →
+  pub same : (s : Scenario) (ledger : List Access) (letters others : List Letter) → IsScenario s →
+      IsLegal s.board ledger → IsAccounted K s ledger letters → IsAccounted K s ledger others →
       rounds_of s letters ≡ rounds_of s others
 
 -- a complete run's ledger is legal and accounts for its letters
 pub record RunsAreAccounted (K : Kind) : Type 0 where
   pub rounds : (s : Scenario) (events : List Event) → IsScenario s → IsComplete K s events →
-      IsLegal s.board (run K (opening K s) events).ledger × AreAccounted K s [] (run K (opening K s) events).ledger (run K (opening K s) events).closed
+      IsLegal s.board (run K (opening K s) events).ledger
+      × AreAccounted K s [] (run K (opening K s) events).ledger (run K (opening K s) events).closed
   pub letters : (s : Scenario) (events : List Event) → IsScenario s → IsComplete K s events →
-      IsAccounted K s (run K (opening K s) events).ledger (flat_map (λ (round : List Letter). round) (run K (opening K s) events).closed)
+      IsAccounted K s (run K (opening K s) events).ledger
+      (flat_map (λ (round : List Letter). round) (run K (opening K s) events).closed)
 
--- a ledger legal from the board's opening words on, which leaves its words, with accesses of the campaign's traitors alone
+-- a ledger legal from the board's opening words on, which leaves its words, with accesses of the campaign's traitors
+-- alone
 pub record IsLedgerOf (s : Scenario) (w : World) : Type 0 where
   pub legal : IsLegal s.board w.ledger
   pub words : w.words ≡ words_after s.board w.ledger

@@ -1,4 +1,5 @@
--- What the activations and letters of every world are, in campaigns of some kind. Each law is the contract of a function, here of oral ones.
+-- What the activations and letters of every world are, in campaigns of some kind. Each law is the contract of a
+-- function, here of oral ones.
 use Rattle.std.specs.Prelude.{ℕ, suc, ◌≡◌, ◌≢◌, ◌<◌, ◌≤◌, false, All, List, length, take, drop, slice_get, Option, None, Some}
 use Rattle.insn.specs.declared.insn.Insn.{Insn}
 use Rattle.semantics.specs.State.{Cause, Trap}
@@ -18,12 +19,15 @@ IsShort l = (program : List Insn) → l.program ≡ Some program → l.steps ≤
 -- whatever happens, no activation traps or takes more steps than its program has instructions
 pub record ActivationsAreSafe (K : Kind) : Type 0 where
   pub untrapped : (s : Scenario) (events : List Event) (g : ℕ) (a : Activation) (cause : Cause) → IsScenario s →
-      slice_get (run K (opening K s) events).parts g ≡ Some (Acting a) → has_ended a ≡ false → step a.program a.context a.relay a.state ≢ Trap cause
+      slice_get (run K (opening K s) events).parts g ≡ Some (Acting a) → has_ended a ≡ false →
+      step a.program a.context a.relay a.state ≢ Trap cause
   pub fewer : (s : Scenario) (events : List Event) (g : ℕ) (a : Activation) → IsScenario s →
       slice_get (run K (opening K s) events).parts g ≡ Some (Acting a) → a.state.steps ≤ length a.program
-  pub letters : (s : Scenario) (events : List Event) → IsScenario s → All (λ letters. All IsShort letters) (run K (opening K s) events).closed
+  pub letters : (s : Scenario) (events : List Event) → IsScenario s →
+      All (λ letters. All IsShort letters) (run K (opening K s) events).closed
 
--- the activation is that of a general in the round behind these, which is one of the campaign: what he runs, what he was told, whom he relays to, and his patience
+-- the activation is that of a general in the round behind these, which is one of the campaign: what he runs, what he
+-- was told, whom he relays to, and his patience
 pub record IsPlaced (K : Kind) (s : Scenario) (closed : List (List Letter)) (g : ℕ) (a : Activation) : Type 0 where
   pub general : g < s.generals
   pub rounds : length closed ≤ s.bound
@@ -35,7 +39,8 @@ pub record IsPlaced (K : Kind) (s : Scenario) (closed : List (List Letter)) (g :
 -- each acting general has his program, the context and the relay of the open round, and the patience
 abbrev pub PartsArePlaced : Kind → Type 0
 PartsArePlaced K = (s : Scenario) (events : List Event) (g : ℕ) (a : Activation) → IsScenario s →
-    slice_get (run K (opening K s) events).parts g ≡ Some (Acting a) → IsPlaced K s (run K (opening K s) events).closed g a
+    slice_get (run K (opening K s) events).parts g ≡ Some (Acting a) →
+    IsPlaced K s (run K (opening K s) events).closed g a
 
 -- it has come from its start in the steps that it counts, by his accesses in the open round, whose replies fit
 abbrev pub HasRun : World → ℕ → Activation → Type 0
@@ -64,5 +69,7 @@ pub record ActivationsAreRuns (K : Kind) : Type 0 where
   pub parts : (s : Scenario) (events : List Event) (g : ℕ) (a : Activation) → IsScenario s →
       slice_get (run K (opening K s) events).parts g ≡ Some (Acting a) → HasRun (run K (opening K s) events) g a
   pub letters : (s : Scenario) (events : List Event) (k : ℕ) (row : List Letter) → IsScenario s →
-      slice_get (run K (opening K s) events).closed k ≡ Some row → All (λ l. IsLetterIn K s (take k (run K (opening K s) events).closed) l) row
-  pub kept : (s : Scenario) (before : List (List Letter)) (l : Letter) (program : List Insn) → IsScenario s → IsLetterIn K s before l → l.program ≡ Some program → IsLetter l
+      slice_get (run K (opening K s) events).closed k ≡ Some row →
+      All (λ l. IsLetterIn K s (take k (run K (opening K s) events).closed) l) row
+  pub kept : (s : Scenario) (before : List (List Letter)) (l : Letter) (program : List Insn) → IsScenario s →
+      IsLetterIn K s before l → l.program ≡ Some program → IsLetter l

@@ -13,7 +13,8 @@ use Rattle.world.specs.Kind as kind
 use Rattle.world.specs.Kind.{Kind}
 pub use Rattle.world.specs.Kind.{World, each, round_open, accesses_of, served, ticked, posting, unfit, named_by, refusal}
 
--- orders are oral: a general is told what he took of each label that he relays, and a loyal one tells each receiver just that
+-- orders are oral: a general is told what he took of each label that he relays, and a loyal one tells each receiver
+-- just that
 abbrev pub oral_kind : Kind
 oral_kind = record {
   context = context_of;
@@ -31,8 +32,10 @@ begun s closed words ledger full = kind.begun oral_kind s closed words ledger fu
 abbrev pub opening : Scenario → World
 opening s = kind.opening oral_kind s
 
-abbrev pub traitor_letter_with : Scenario → List (List Letter) → ℕ → Option (List Insn) → List Access → ℕ → Activation → Letter
-traitor_letter_with s before g program transcript steps a = kind.traitor_letter_with oral_kind s before g program transcript steps a
+abbrev pub traitor_letter_with : Scenario → List (List Letter) → ℕ → Option (List Insn) → List Access → ℕ → Activation →
+    Letter
+traitor_letter_with s before g program transcript steps a =
+    kind.traitor_letter_with oral_kind s before g program transcript steps a
 
 abbrev pub letters_at : World → ℕ → Option Part → List Letter
 letters_at w g part = kind.letters_at oral_kind w g part

@@ -17,8 +17,8 @@ use std::alloc::{AllocError, Global};
 use std::sync::Arc;
 use verify::Verified;
 
-/// All generals' parts as the round after `before` closed ones begins, not yet told anything; none where no round is left.
-/// This takes all the memory that the beginning takes.
+/// All generals' parts as the round after `before` closed ones begins, not yet told anything; none where no round is
+/// left. This takes all the memory that the beginning takes.
 pub(crate) fn blanks(
     alloc: Global,
     scenario: &Scenario,
@@ -47,7 +47,9 @@ fn push_blank(
     requires room { vec_len parts.old < vec_capacity parts.old }
     requires left { before ≤ scenario.now.bound }
     requires inside { general < scenario.now.generals }
-    ensures items { OnOk result (parts.new.items ≡ parts.old.items ++ blank scenario.now before general (program_of scenario.now general) ∷ []) }
+    ensures items { OnOk result
+        (parts.new.items ≡ parts.old.items
+        ++ blank scenario.now before general (program_of scenario.now general) ∷ []) }
     ensures len { OnOk result (vec_len parts.new ≡ vec_len parts.old + 1) }
     ensures room { OnOk result (vec_capacity parts.new ≡ vec_capacity parts.old) }
 {
@@ -71,7 +73,9 @@ fn blank(
 ) -> Result<Running, AllocError>
     requires left { before ≤ scenario.now.bound }
     requires inside { general < scenario.now.generals }
-    ensures { IfOk result (λ running. running ≡ started scenario.now.patience (arc_value program.now) zeros (oral (shape_of scenario.now general (suc before)))) }
+    ensures { IfOk result (λ running. running
+        ≡ started scenario.now.patience (arc_value program.now) zeros
+        (oral (shape_of scenario.now general (suc before)))) }
 {
     scenario.recall();
     let context = zeros(alloc)?;
@@ -109,8 +113,10 @@ fn brief_one(parts: &mut Vec<Part>, told: &Told, scenario: &Scenario, closed: &[
     requires told { WasTold scenario.now closed.now told.now }
     requires left { length closed.now ≤ scenario.now.bound }
     requires inside { general < scenario.now.generals }
-    requires blank { slice_get parts.old.items general ≡ Some (blank scenario.now (length closed.now) general (program_of scenario.now general)) }
-    ensures { parts.new.items ≡ slice_set parts.old.items general (begins scenario.now closed.now general (program_of scenario.now general)) }
+    requires blank { slice_get parts.old.items general
+        ≡ Some (blank scenario.now (length closed.now) general (program_of scenario.now general)) }
+    ensures { parts.new.items ≡ slice_set parts.old.items general
+        (begins scenario.now closed.now general (program_of scenario.now general)) }
 {
     let _ = closed;
     match &mut parts[usize::from(general)] {

@@ -99,16 +99,17 @@ impl World {
         parts::ahead(&mut self.parts, general, limit)
     }
 
-    /// A loyal general has posted, which is a mark until the round is closed; nothing where no letter of his is awaited.
+    /// A loyal general has posted, which is a mark until the round is closed; nothing where no letter of his is
+    /// awaited.
     pub(crate) fn post(&mut self, general: u32)
         ensures { self.new ≡ happen self.old (Post general) }
     {
         parts::mark_posted(&mut self.parts, general);
     }
 
-    /// The end of the round. All memory that it takes is taken before anything changes: room for the list among the closed
-    /// rounds and for the letters in it, the drafts of the letters, and the next round's parts. Then the letters are
-    /// moved from the parts into the list and told, and the next parts are told their contexts, which cannot fail.
+    /// The end of the round. All memory that it takes is taken before anything changes: room for the list among the
+    /// closed rounds and for the letters in it, the drafts of the letters, and the next round's parts. Then the letters
+    /// are moved from the parts into the list and told, and the next parts are told their contexts, which cannot fail.
     pub(crate) fn close(&mut self) -> Result<(), AllocError>
         requires { length self.old.closed ≤ self.old.scenario.bound }
         ensures done { OnOk result (self.new ≡ happen self.old Close) }

@@ -42,7 +42,8 @@ fn are_all(decisions: &[u32], order: u32) -> bool
 
 /// Whether all these decisions of loyal lieutenants are the order; none where the commander is a traitor.
 pub fn obeyed(scenario: &Scenario, loyal: &[u32]) -> Option<bool>
-    ensures { result ≡ cond (is_traitor scenario.now scenario.now.commander) None (Some (list_all (λ d. d == scenario.now.order) loyal.now)) }
+    ensures { result ≡ cond (is_traitor scenario.now scenario.now.commander) None
+        (Some (list_all (λ d. d == scenario.now.order) loyal.now)) }
 {
     if scenario.is_traitor(scenario.commander()) {
         return None;
@@ -50,9 +51,11 @@ pub fn obeyed(scenario: &Scenario, loyal: &[u32]) -> Option<bool>
     Some(are_all(loyal, scenario.order()))
 }
 
-/// Whether there are more than three times as many generals as traitors are provided for, and no more traitors than these.
+/// Whether there are more than three times as many generals as traitors are provided for, and no more traitors than
+/// these.
 fn is_bound(scenario: &Scenario) -> bool
-    ensures { result ≡ (nat_lt (3 * scenario.now.bound) scenario.now.generals && nat_le (count_by (is_traitor scenario.now) (generals scenario.now.generals)) scenario.now.bound) }
+    ensures { result ≡ (nat_lt (3 * scenario.now.bound) scenario.now.generals
+        && nat_le (count_by (is_traitor scenario.now) (generals scenario.now.generals)) scenario.now.bound) }
 {
     let bound = scenario.bound();
     3 * bound < scenario.generals() && traitors(scenario) <= bound
@@ -73,7 +76,8 @@ pub fn traitors(scenario: &Scenario) -> u8
 
 /// The decisions of the loyal lieutenants, ascending by number.
 pub fn loyal_decisions(scenario: &Scenario, decisions: &[u32]) -> ArrayVec<u32, 13>
-    ensures { result.items ≡ of_loyal scenario.now (lieutenants scenario.now.generals scenario.now.commander) decisions.now }
+    ensures { result.items ≡ of_loyal scenario.now
+        (lieutenants scenario.now.generals scenario.now.commander) decisions.now }
 {
     let mut loyal = ArrayVec::new();
     let mut place = 0;

@@ -51,7 +51,8 @@ fn draft(
     requires told { WasTold scenario.now closed.now told.now }
     requires left { length closed.now ≤ scenario.now.bound }
     requires inside { general < scenario.now.generals }
-    ensures { IfOk result (λ draft. draft ≡ draft_of scenario.now closed.now accesses.now general (slice_get parts.now general)) }
+    ensures { IfOk result (λ draft. draft
+        ≡ draft_of scenario.now closed.now accesses.now general (slice_get parts.now general)) }
 {
     match parts.get(usize::from(general)) {
         Some(Part::Acting(_)) => Ok(Draft::Begun(transcript(alloc, accesses, u32::from(general))?)),
@@ -132,9 +133,11 @@ fn write(
 )
     requires room { vec_len list.old < vec_capacity list.old }
     requires there { general < length drafts.old.items }
-    requires run { (transcript : List Entry) (a : Activation) → slice_get drafts.old.items general ≡ Some (Begun transcript)
+    requires run { (transcript : List Entry) (a : Activation) →
+        slice_get drafts.old.items general ≡ Some (Begun transcript)
         → slice_get parts.old.items general ≡ Some (Acting a) → IsLetter (letter_left general round transcript a) }
-    ensures list { list.new.items ≡ list.old.items ++ letter_from general round (slice_get drafts.old.items general) (slice_get parts.old.items general) }
+    ensures list { list.new.items ≡ list.old.items
+        ++ letter_from general round (slice_get drafts.old.items general) (slice_get parts.old.items general) }
     ensures few { vec_len list.new ≤ vec_len list.old + 1 }
     ensures room { vec_capacity list.new ≡ vec_capacity list.old }
     ensures count { length drafts.new.items ≡ length drafts.old.items }
@@ -163,7 +166,8 @@ fn write(
 fn leave(list: &mut Vec<Letter>, part: &mut Part, transcript: Transcript, general: u32, round: u32)
     requires room { vec_len list.old < vec_capacity list.old }
     requires run { (a : Activation) → part.old ≡ Acting a → IsLetter (letter_left general round transcript a) }
-    ensures list { list.new.items ≡ list.old.items ++ letter_from general round (Some (Begun transcript)) (Some part.old) }
+    ensures list { list.new.items ≡ list.old.items
+        ++ letter_from general round (Some (Begun transcript)) (Some part.old) }
     ensures few { vec_len list.new ≤ vec_len list.old + 1 }
     ensures room { vec_capacity list.new ≡ vec_capacity list.old }
 {

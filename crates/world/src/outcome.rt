@@ -11,8 +11,8 @@ use arrayvec::ArrayVec;
 use resolve::resolve;
 
 impl World {
-    /// What the lieutenants decide, ascending by number, of the messages so far: by the scenario's rule, the decision of
-    /// OM(m), m the bound (TOPLAS 1982). Where all rounds are closed, every loyal general has posted in each and the
+    /// What the lieutenants decide, ascending by number, of the messages so far: by the scenario's rule, the decision
+    /// of OM(m), m the bound (TOPLAS 1982). Where all rounds are closed, every loyal general has posted in each and the
     /// bound holds, the loyal ones decide alike, and the order of a loyal commander. Takes no memory.
     pub fn decisions(&self) -> ArrayVec<u32, 12>
         ensures values { result.items ≡ decisions self.now.scenario (messages self.now.closed) }

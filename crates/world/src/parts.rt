@@ -34,7 +34,9 @@ pub fn turn(
     general: u32,
     round: u32,
 ) -> Result<(), AllocError>
-    ensures done { OnOk result ((parts.new.items, board.new) ≡ ticked_of general round parts.old.items board.old (slice_get parts.old.items general)) }
+    ensures done { OnOk result
+        ((parts.new.items, board.new)
+        ≡ ticked_of general round parts.old.items board.old (slice_get parts.old.items general)) }
     ensures undone { OnErr result ((parts.new.items ≡ parts.old.items) × (board.new ≡ board.old)) }
 {
     let place = general as usize;

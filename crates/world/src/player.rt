@@ -16,15 +16,17 @@ use crate::world::World;
 use round::Scenario;
 use std::alloc::{AllocError, Global};
 
-/// The chronicle of the scenario's campaign by a schedule: in each round its entries one by one, then the letters of all
-/// loyal generals and what is left of the traitors' instructions, ascending by number.
+/// The chronicle of the scenario's campaign by a schedule: in each round its entries one by one, then the letters of
+/// all loyal generals and what is left of the traitors' instructions, ascending by number.
 ///
 /// # Errors
 ///
 /// `AllocError` where memory is refused.
 pub fn play(alloc: Global, scenario: Scenario, schedule: &Schedule) -> Result<Chronicle, AllocError>
-    ensures listed { IfOk result (λ chronicle. chronicle ≡ chronicle_of (run (opening scenario) (listed scenario (lines_by schedule.now)))) }
-    ensures decisions { IfOk result (λ chronicle. chronicle.decisions ≡ decisions scenario (messages chronicle.letters)) }
+    ensures listed { IfOk result
+        (λ chronicle. chronicle ≡ chronicle_of (run (opening scenario) (listed scenario (lines_by schedule.now)))) }
+    ensures decisions { IfOk result
+        (λ chronicle. chronicle.decisions ≡ decisions scenario (messages chronicle.letters)) }
     ensures agree { IfOk result (λ chronicle. AgreeUnderBound scenario chronicle.decisions) }
     ensures verdict { IfOk result (λ chronicle. IsVerdictOn scenario chronicle.decisions chronicle.verdict) }
     ensures well { IfOk result (λ chronicle. IsWellUnderBound chronicle.verdict) }
@@ -37,14 +39,15 @@ pub fn play(alloc: Global, scenario: Scenario, schedule: &Schedule) -> Result<Ch
     }
 }
 
-/// The chronicle of the scenario's campaign in which these generals, by round, make their accesses in this order; a round
-/// without names has none, and names beyond the last round give nothing.
+/// The chronicle of the scenario's campaign in which these generals, by round, make their accesses in this order; a
+/// round without names has none, and names beyond the last round give nothing.
 ///
 /// # Errors
 ///
 /// `AllocError` where memory is refused.
 pub fn replay(alloc: Global, scenario: Scenario, names: &[Vec<u8>]) -> Result<Chronicle, AllocError>
-    ensures replayed { IfOk result (λ chronicle. chronicle ≡ chronicle_of (run (opening scenario) (replayed scenario (lists_in names.now)))) }
+    ensures replayed { IfOk result
+        (λ chronicle. chronicle ≡ chronicle_of (run (opening scenario) (replayed scenario (lists_in names.now)))) }
     ensures agree { IfOk result (λ chronicle. AgreeUnderBound scenario chronicle.decisions) }
     ensures verdict { IfOk result (λ chronicle. IsVerdictOn scenario chronicle.decisions chronicle.verdict) }
     ensures well { IfOk result (λ chronicle. IsWellUnderBound chronicle.verdict) }

@@ -34,7 +34,9 @@ fn tick_often<W: Plays>(world: &mut W, general: u32, times: u32) -> Result<(), A
 
 /// A general's entries: a traitor's ticks or a loyal general's posts; none where there is no such general.
 fn play_entry<W: Plays>(world: &mut W, repeat: Repeat) -> Result<(), AllocError>
-    ensures { OnOk result (W.seen world.new ≡ run W.kind (W.seen world.old) (line_events (W.seen world.old).scenario (replicate repeat.times repeat.general))) }
+    ensures { OnOk result (W.seen world.new
+        ≡ run W.kind (W.seen world.old)
+        (line_events (W.seen world.old).scenario (replicate repeat.times repeat.general))) }
 {
     if repeat.general >= world.campaign().generals() {
         return Ok(());
@@ -49,7 +51,9 @@ fn play_entry<W: Plays>(world: &mut W, repeat: Repeat) -> Result<(), AllocError>
 fn repeated<W: Plays>(world: &mut W, general: u8, times: u32) -> Result<(), AllocError>
     requires inside { general < (W.seen world.old).scenario.generals }
     requires some { 0 < times }
-    ensures { OnOk result (W.seen world.new ≡ run W.kind (W.seen world.old) (replicate times (event_of general (program_of (W.seen world.old).scenario general)))) }
+    ensures { OnOk result (W.seen world.new
+        ≡ run W.kind (W.seen world.old)
+        (replicate times (event_of general (program_of (W.seen world.old).scenario general)))) }
 {
     if world.campaign().is_traitor(general) {
         return tick_often(world, u32::from(general), times);
@@ -69,7 +73,8 @@ fn post_often<W: Plays>(world: &mut W, general: u32, times: u32)
 
 /// The entries of a schedule's line.
 fn play_line<W: Plays>(world: &mut W, repeats: &[Repeat]) -> Result<(), AllocError>
-    ensures { OnOk result (W.seen world.new ≡ run W.kind (W.seen world.old) (line_events (W.seen world.old).scenario (entries_of repeats.now))) }
+    ensures { OnOk result (W.seen world.new
+        ≡ run W.kind (W.seen world.old) (line_events (W.seen world.old).scenario (entries_of repeats.now))) }
 {
     for repeat in repeats {
         play_entry(world, *repeat)?;
@@ -79,7 +84,8 @@ fn play_line<W: Plays>(world: &mut W, repeats: &[Repeat]) -> Result<(), AllocErr
 
 /// A named traitor's ticks until he has made one more access or has ended; nothing for another name.
 fn tick_to_access<W: Plays>(world: &mut W, general: u32) -> Result<(), AllocError>
-    ensures { OnOk result (W.seen world.new ≡ run W.kind (W.seen world.old) (ticks_named general (slice_get (W.seen world.old).parts general))) }
+    ensures { OnOk result (W.seen world.new
+        ≡ run W.kind (W.seen world.old) (ticks_named general (slice_get (W.seen world.old).parts general))) }
 {
     world.campaign().recall();
     match parts::instructions(world.open_parts(), general) {
@@ -97,7 +103,8 @@ fn tick_to_access<W: Plays>(world: &mut W, general: u32) -> Result<(), AllocErro
 ///
 /// `AllocError` where memory is refused. No more is said of the world then than of every world of its kind: let it go.
 pub fn play_names<W: Plays>(world: &mut W, names: &[u8]) -> Result<(), AllocError>
-    ensures { OnOk result (W.seen world.new ≡ run W.kind (W.seen world.old) (names_events W.kind (W.seen world.old) names.now)) }
+    ensures { OnOk result (W.seen world.new
+        ≡ run W.kind (W.seen world.old) (names_events W.kind (W.seen world.old) names.now)) }
 {
     for general in names {
         tick_to_access(world, u32::from(*general))?;
@@ -108,7 +115,8 @@ pub fn play_names<W: Plays>(world: &mut W, names: &[u8]) -> Result<(), AllocErro
 /// Marks the general as one who has posted, where he is loyal.
 fn post_if_loyal<W: Plays>(world: &mut W, general: u8)
     requires { general < (W.seen world.old).scenario.generals }
-    ensures { W.seen world.new ≡ run W.kind (W.seen world.old) (post_of general (program_of (W.seen world.old).scenario general)) }
+    ensures { W.seen world.new
+        ≡ run W.kind (W.seen world.old) (post_of general (program_of (W.seen world.old).scenario general)) }
 {
     if !world.campaign().is_traitor(general) {
         world.give_post(u32::from(general));
@@ -118,7 +126,8 @@ fn post_if_loyal<W: Plays>(world: &mut W, general: u8)
 /// A traitor's ticks to his end.
 fn tick_to_end<W: Plays>(world: &mut W, general: u8) -> Result<(), AllocError>
     requires { general < (W.seen world.old).scenario.generals }
-    ensures { OnOk result (W.seen world.new ≡ run W.kind (W.seen world.old) (ticks_of general (program_of (W.seen world.old).scenario general))) }
+    ensures { OnOk result (W.seen world.new
+        ≡ run W.kind (W.seen world.old) (ticks_of general (program_of (W.seen world.old).scenario general))) }
 {
     match world.campaign().seat(general).program() {
         Some(program) => {
@@ -131,7 +140,9 @@ fn tick_to_end<W: Plays>(world: &mut W, general: u8) -> Result<(), AllocError>
 
 /// Marks all loyal generals as having posted, ascending.
 fn all_post<W: Plays>(world: &mut W)
-    ensures { W.seen world.new ≡ run W.kind (W.seen world.old) (each (W.seen world.old).scenario.generals (λ g. post_of g (program_of (W.seen world.old).scenario g))) }
+    ensures { W.seen world.new
+        ≡ run W.kind (W.seen world.old)
+        (each (W.seen world.old).scenario.generals (λ g. post_of g (program_of (W.seen world.old).scenario g))) }
 {
     for general in 0..world.campaign().generals() {
         post_if_loyal(world, general);
@@ -140,7 +151,9 @@ fn all_post<W: Plays>(world: &mut W)
 
 /// All traitors' ticks to their ends, ascending.
 fn all_end<W: Plays>(world: &mut W) -> Result<(), AllocError>
-    ensures { OnOk result (W.seen world.new ≡ run W.kind (W.seen world.old) (each (W.seen world.old).scenario.generals (λ g. ticks_of g (program_of (W.seen world.old).scenario g)))) }
+    ensures { OnOk result (W.seen world.new
+        ≡ run W.kind (W.seen world.old)
+        (each (W.seen world.old).scenario.generals (λ g. ticks_of g (program_of (W.seen world.old).scenario g)))) }
 {
     for general in 0..world.campaign().generals() {
         tick_to_end(world, general)?;
@@ -173,7 +186,9 @@ pub fn wind_up<W: Plays>(world: &mut W) -> Result<(), AllocError>
 
 /// A round by a line of a schedule.
 fn listed_round<W: Plays>(world: &mut W, line: &[Repeat]) -> Result<(), AllocError>
-    ensures { OnOk result (W.seen world.new ≡ run W.kind (run W.kind (W.seen world.old) (line_events (W.seen world.old).scenario (entries_of line.now))) (wound_up (W.seen world.old).scenario)) }
+    ensures { OnOk result (W.seen world.new
+        ≡ run W.kind (run W.kind (W.seen world.old) (line_events (W.seen world.old).scenario (entries_of line.now)))
+        (wound_up (W.seen world.old).scenario)) }
 {
     play_line(world, line)?;
     wind_up(world)
@@ -185,7 +200,9 @@ fn listed_round<W: Plays>(world: &mut W, line: &[Repeat]) -> Result<(), AllocErr
 ///
 /// `AllocError` where memory is refused. No more is said of the world then than of every world of its kind: let it go.
 pub fn named_round<W: Plays>(world: &mut W, names: &[u8]) -> Result<(), AllocError>
-    ensures { OnOk result (W.seen world.new ≡ run W.kind (run W.kind (W.seen world.old) (names_events W.kind (W.seen world.old) names.now)) (wound_up (W.seen world.old).scenario)) }
+    ensures { OnOk result (W.seen world.new
+        ≡ run W.kind (run W.kind (W.seen world.old) (names_events W.kind (W.seen world.old) names.now))
+        (wound_up (W.seen world.old).scenario)) }
 {
     play_names(world, names)?;
     wind_up(world)
@@ -197,7 +214,9 @@ pub fn named_round<W: Plays>(world: &mut W, names: &[u8]) -> Result<(), AllocErr
 ///
 /// `AllocError` where memory is refused. No more is said of the world then than of every world of its kind: let it go.
 pub fn play_listed<W: Plays>(world: &mut W, schedule: &Schedule) -> Result<(), AllocError>
-    ensures { OnOk result (W.seen world.new ≡ run W.kind (W.seen world.old) (listed_rounds (W.seen world.old).scenario (suc (W.seen world.old).scenario.bound) (lines_by schedule.now))) }
+    ensures { OnOk result (W.seen world.new
+        ≡ run W.kind (W.seen world.old)
+        (listed_rounds (W.seen world.old).scenario (suc (W.seen world.old).scenario.bound) (lines_by schedule.now))) }
 {
     let rounds = usize::from(world.campaign().bound()) + 1;
     for round in 0..rounds {
@@ -206,14 +225,16 @@ pub fn play_listed<W: Plays>(world: &mut W, schedule: &Schedule) -> Result<(), A
     Ok(())
 }
 
-/// As many rounds more as the campaign has, in which these generals, by round, make their accesses in this order: from its
-/// opening on, all of it. A round without names has no accesses.
+/// As many rounds more as the campaign has, in which these generals, by round, make their accesses in this order: from
+/// its opening on, all of it. A round without names has no accesses.
 ///
 /// # Errors
 ///
 /// `AllocError` where memory is refused. No more is said of the world then than of every world of its kind: let it go.
 pub fn play_named<W: Plays>(world: &mut W, names: &[Vec<u8>]) -> Result<(), AllocError>
-    ensures { OnOk result (W.seen world.new ≡ run W.kind (W.seen world.old) (replayed_rounds W.kind (W.seen world.old) (suc (W.seen world.old).scenario.bound) (lists_in names.now))) }
+    ensures { OnOk result (W.seen world.new
+        ≡ run W.kind (W.seen world.old)
+        (replayed_rounds W.kind (W.seen world.old) (suc (W.seen world.old).scenario.bound) (lists_in names.now))) }
 {
     let rounds = usize::from(world.campaign().bound()) + 1;
     for round in 0..rounds {

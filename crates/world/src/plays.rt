@@ -43,7 +43,8 @@ pub trait Plays {
     /// A traitor's turns up to so many steps in all, his next access or his end: how many there were.
     fn run_on(&mut self, general: u32, limit: u32) -> u32
         ensures same { seen self.new ≡ run kind (seen self.old) (replicate result (Tick general)) }
-        ensures far { AheadTo limit result (seen self.old).parts general (slice_get (seen self.old).parts general) (seen self.new).parts };
+        ensures far { AheadTo limit result (seen self.old).parts general (slice_get (seen self.old).parts general)
+            (seen self.new).parts };
 
     /// A loyal general has posted; nothing where no letter of his is awaited.
     fn give_post(&mut self, general: u32)

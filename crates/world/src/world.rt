@@ -35,5 +35,6 @@ impl Model for World {
 
     ghost view = { λ w. world_of w.scenario w.closed.items w.board w.opened w.parts.items w.full };
 
-    ghost invariant = { λ w. IsHeld w.scenario w.closed.items w.board w.opened w.parts.items w.full × WasTold w.scenario w.closed.items w.told };
+    ghost invariant = { λ w. IsHeld w.scenario w.closed.items w.board w.opened w.parts.items w.full
+        × WasTold w.scenario w.closed.items w.told };
 }

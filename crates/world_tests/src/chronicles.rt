@@ -86,8 +86,8 @@ fn refused_beginnings(alloc: Global, reading: Reading, text: &str) -> Result<u32
     Ok(refused)
 }
 
-/// A scenario has 434 beginnings: it is taken behind the four lines of the head, and behind each traitor, with the line feeds
-/// that follow.
+/// A scenario has 434 beginnings: it is taken behind the four lines of the head, and behind each traitor, with the line
+/// feeds that follow.
 #[test]
 fn beginnings_of_texts(rt: HostRuntime) -> Result<(), Fail> {
     let alloc = rt.alloc();

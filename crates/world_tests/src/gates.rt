@@ -205,8 +205,8 @@ fn five_retreat(chronicle: &Chronicle) -> bool {
     chronicle.verdict() == AGREED
 }
 
-/// Whether with two colluders who get word 63 in the end the second adds before the first in each round, and each of their
-/// letters says so many steps.
+/// Whether with two colluders who get word 63 in the end the second adds before the first in each round, and each of
+/// their letters says so many steps.
 fn is_reversed<R: Threads + Wait + Sync>(
     rt: &R,
     alloc: Global,

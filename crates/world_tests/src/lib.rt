@@ -1,6 +1,6 @@
-//! Tests of what only code can ask of worlds and threads: single events, letters and contexts, lives of activations, replays by
-//! names, texts that chance has changed, generals that meet, gates, posts, and gathers of letters. What the whole program
-//! answers is asked by the rows of the crate `rows`.
+//! Tests of what only code can ask of worlds and threads: single events, letters and contexts, lives of activations,
+//! replays by names, texts that chance has changed, generals that meet, gates, posts, and gathers of letters. What the
+//! whole program answers is asked by the rows of the crate `rows`.
 #![tactic(auto)]
 
 #[cfg(test)]

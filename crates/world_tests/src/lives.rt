@@ -163,8 +163,8 @@ const PATIENCES: &[(Option<u32>, u32, usize, bool)] = &[
     (Some(1), 1, 0, false),
 ];
 
-/// Whether this one's program, with the replies 7, 9 and 11, takes so many steps, exits or not, and makes so many accesses,
-/// which are served and no more.
+/// Whether this one's program, with the replies 7, 9 and 11, takes so many steps, exits or not, and makes so many
+/// accesses, which are served and no more.
 fn takes(
     alloc: Global,
     letter: &Letter,

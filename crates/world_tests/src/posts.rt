@@ -108,7 +108,8 @@ fn exchange<R: Wait + Abort>(
     requires first { (first.table ≡ post.now.table) × (first.general ≡ 1) }
     requires second { (second.table ≡ post.now.table) × (second.general ≡ 2) }
     requires collector { collector.table ≡ post.now.table }
-    ensures { IfOk result (λ r. (r.0.table ≡ post.now.table) × (r.1.table ≡ post.now.table) × (r.2.table ≡ post.now.table)) }
+    ensures { IfOk result (λ r. (r.0.table ≡ post.now.table) × (r.1.table ≡ post.now.table)
+        × (r.2.table ≡ post.now.table)) }
 {
     let first = goes_in(rt, post, first, numbered(alloc, 1, 1)?);
     let second = goes_in(rt, post, second, numbered(alloc, 2, 1)?);
@@ -282,7 +283,8 @@ fn come_in_order<R: Threads + Wait + Sync>(
     let (sent, received) = thread::join(
         rt,
         move || -> bool
-            requires { (first.table ≡ post.now.table) × (first.general ≡ 0) × (second.table ≡ post.now.table) × (second.general ≡ 1) }
+            requires { (first.table ≡ post.now.table) × (first.general ≡ 0) × (second.table ≡ post.now.table)
+                × (second.general ≡ 1) }
         {
             let (one, other) = thread::join(
                 rt,

@@ -1,5 +1,5 @@
-//! Campaigns that are replayed by the names of those who make accesses: each is told as by a schedule, also where names are
-//! of generals who make none. The chronicles by schedules are those of the rows of `rows`.
+//! Campaigns that are replayed by the names of those who make accesses: each is told as by a schedule, also where names
+//! are of generals who make none. The chronicles by schedules are those of the rows of `rows`.
 
 use crate::scenarios::{played, replayed, text};
 use crate::texts::{

@@ -199,7 +199,12 @@ fn letters_differ_by_their_steps(rt: HostRuntime) -> Result<(), Fail> {
 
 /// Whether the letter is of this round of the tree's campaign.
 fn is_due(tree: &Tree, round: u32, letter: &Letter) -> bool
-    ensures { IsTrue result → letter.now.outbox.relay.shape ≡ record { generals = tree.now.generals; commander = tree.now.commander; general = letter.now.general; round = round } }
+    ensures { IsTrue result → letter.now.outbox.relay.shape ≡ record {
+      generals = tree.now.generals;
+      commander = tree.now.commander;
+      general = letter.now.general;
+      round = round;
+    } }
 {
     let space = tree.space();
     let shape = letter.outbox.shape();

@@ -138,7 +138,8 @@ fn is_sent(sent: &(Chain, u16), order: u32, signers: &[u8], receivers: u16) -> b
     chain.order() == order && chain.signers() == signers && *to == receivers
 }
 
-/// Whether the commander sent one chain in the first round, and the traitor 2 none, but in the second his signed one to 1.
+/// Whether the commander sent one chain in the first round, and the traitor 2 none, but in the second his signed one to
+/// 1.
 fn is_passed_on(chronicle: &SignedChronicle) -> bool {
     let [sent] = chronicle.sent(2, 2) else {
         return false;

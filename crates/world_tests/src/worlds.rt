@@ -116,7 +116,8 @@ fn goes(world: &mut World, step: Step) -> bool {
     }
 }
 
-/// Whether all steps go as they say, in a world that is opened for them and then has a chronicle of this verdict, if any.
+/// Whether all steps go as they say, in a world that is opened for them and then has a chronicle of this verdict, if
+/// any.
 fn go(mut world: World, steps: &[Step], verdict: Option<Verdict>) -> bool {
     for step in steps {
         if !goes(&mut world, *step) {

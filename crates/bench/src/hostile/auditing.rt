@@ -43,8 +43,8 @@ enum Messages {
     Signed,
 }
 
-/// Audits each proper beginning of the chronicle of seven generals, and the chronicle with one byte changed; then those of
-/// the same generals with signed messages.
+/// Audits each proper beginning of the chronicle of seven generals, and the chronicle with one byte changed; then those
+/// of the same generals with signed messages.
 pub fn report<R: Print + AllocGlobal>(rt: &R) -> Result<()> {
     let alloc = rt.alloc();
     let scenario = Campaign::Seven.scenario(alloc)?;
@@ -116,7 +116,8 @@ fn change(state: &mut u64) -> u8 {
     if more == 0 { 1 } else { more }
 }
 
-/// Whether the bytes are refused as a chronicle of the campaign: as no text, or by a line. That memory was refused is an error.
+/// Whether the bytes are refused as a chronicle of the campaign: as no text, or by a line. That memory was refused is
+/// an error.
 fn is_refused(
     alloc: Global,
     messages: Messages,

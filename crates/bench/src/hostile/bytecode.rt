@@ -41,8 +41,8 @@ fn generated(alloc: Global, number: u64) -> Result<Vec<u8>, AllocError> {
     Ok(bytes)
 }
 
-/// Whether these bytes get the answer that they should: where they spell a program, it is spelled by them, and where it is
-/// accepted, its run on the bench ends within as many steps as it has instructions.
+/// Whether these bytes get the answer that they should: where they spell a program, it is spelled by them, and where it
+/// is accepted, its run on the bench ends within as many steps as it has instructions.
 pub fn is_answered(alloc: Global, bytes: &[u8]) -> Result<bool, AllocError> {
     match decode(alloc, bytes) {
         Ok(program) => Ok(is_spelt(alloc, &program, bytes)? && is_judged(alloc, program)?),

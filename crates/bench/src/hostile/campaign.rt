@@ -50,7 +50,8 @@ call sway
 exit
 ";
 
-/// Copies four words of the board to the stack. In round 1 it then leaves 9 in word 0, later it tells 1 what it found there.
+/// Copies four words of the board to the stack. In round 1 it then leaves 9 in word 0, later it tells 1 what it found
+/// there.
 const COPYING: &str = "ldw r6, [r1+16]
 mov r1, 0
 mov r2, r10
@@ -163,8 +164,8 @@ exit
 '''
 ";
 
-/// The scenario of `Four`, in which the same general signs his orders: the order 1 for 1 and the order 0 for 2, which the
-/// commander alone can, and passes on to all the first two chains that he holds.
+/// The scenario of `Four`, in which the same general signs his orders: the order 1 for 1 and the order 0 for 2, which
+/// the commander alone can, and passes on to all the first two chains that he holds.
 const FOUR_SIGNED: &str = "generals = 4
 bound = 1
 commander = 0

@@ -36,7 +36,8 @@ fn requests() -> Option<[Request; 6]> {
     ])
 }
 
-/// `Board::apply` of six requests. Where memory is refused, the words and the ledger are as before, and the request is made again.
+/// `Board::apply` of six requests. Where memory is refused, the words and the ledger are as before, and the request is
+/// made again.
 pub fn applies<R: Print + AllocGlobal>(rt: &R) -> Result<Outcome> {
     let alloc = rt.alloc();
     let Some(requests) = requests() else {
@@ -75,8 +76,8 @@ fn serve(board: &mut Board, requests: &[Request]) -> Result<bool> {
     Ok(is_refused)
 }
 
-/// Serves the request. The answer is whether memory was refused first: then words and ledger were as before, and it was made
-/// again.
+/// Serves the request. The answer is whether memory was refused first: then words and ledger were as before, and it was
+/// made again.
 fn is_served_again(board: &mut Board, request: &Request) -> Result<bool> {
     let words = *board.words();
     let entries = board.ledger().len();

@@ -94,8 +94,8 @@ fn happen(world: &mut SignedWorld, events: &[Event]) -> Result<bool> {
     Ok(is_refused)
 }
 
-/// Lets the event happen. The answer is whether memory was refused first: then the decisions were as before, and the event was
-/// given again.
+/// Lets the event happen. The answer is whether memory was refused first: then the decisions were as before, and the
+/// event was given again.
 fn is_refused_first(world: &mut SignedWorld, event: Event) -> Result<bool> {
     let before = world.decisions();
     match world.apply(event) {

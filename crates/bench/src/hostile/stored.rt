@@ -44,8 +44,8 @@ fn assembled(alloc: Global, text: &str) -> Result<Vec<u8>> {
     }
 }
 
-/// Whether each beginning of the program, and the program with any byte replaced by 00, by ff and by itself with its top bit
-/// changed, gets the answer that it should.
+/// Whether each beginning of the program, and the program with any byte replaced by 00, by ff and by itself with its
+/// top bit changed, gets the answer that it should.
 fn are_answered(alloc: Global, bytes: &[u8]) -> Result<bool, AllocError> {
     for place in 0..bytes.len() {
         let old = bytes[place];

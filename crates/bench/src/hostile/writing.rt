@@ -76,8 +76,8 @@ enum End {
     Other,
 }
 
-/// Writes the chronicle to writers that fail at their first write, at their second, and so on, until one takes all of it. The
-/// answer is whether one does, and each failure is told before.
+/// Writes the chronicle to writers that fail at their first write, at their second, and so on, until one takes all of
+/// it. The answer is whether one does, and each failure is told before.
 fn fails_at_each_write<R: AllocGlobal>(
     rt: &R,
     chronicle: Told<'_>,
