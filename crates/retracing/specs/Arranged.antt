@@ -9,6 +9,7 @@ use Rattle.world.specs.World.{oral_kind}
 use Rattle.explore.specs.Orders.{IsOrder, order_of}
 use Rattle.explore.specs.Text.{schedule_text}
 use Rattle.explore.specs.Walks.{IsCompletion, IsStuckIn}
+use Rattle.retracing.specs.Reading.{IsReadAs}
 use Rattle.retracing.specs.declared.fault.AccessFault.{AccessFault}
 use Rattle.retracing.specs.declared.fault.AccessFault.TheVariants.{Text, Never}
 use Rattle.retracing.specs.declared.fault.AccessesError.{AccessesError}
@@ -41,6 +42,7 @@ pub record IsFirstThatCannot (s : Scenario) (rows : List (List ℕ)) (round plac
 pub record IsArrangement (s : Scenario) (rows : List (List ℕ)) (lines : List ℕ) : Type 0 where
   pub schedule : List (List Repeat)
   pub written : lines ≡ schedule_text schedule
+  pub read : IsReadAs lines schedule
   pub comes : IsCompletion rows (order_of oral_kind s (listed s (lines_by schedule)))
 
 abbrev pub IsArranged : Scenario → List ℕ → List ℕ → Type 0

@@ -5,3 +5,5 @@ pub mod Choosing
 pub mod Gathered
 pub mod LineLemmas
 pub mod Keeping
+pub mod Cuts
+pub mod Heads

@@ -1,6 +1,6 @@
 //! Campaigns that are kept in a folder.
 use crate::telling::Fault;
-use std::fs::{File, remove_file, rename};
+use std::fs::{File, create_dir, metadata, remove_file, rename};
 use std::io::{self, ErrorKind, Write};
 
 /// Writes the campaign of a seed to FOLDER/SEED.toml: beside it first, so that no half of it ever stands there;
@@ -23,23 +23,26 @@ pub fn keep(rt: &HostRuntime, folder: &str, seed: u64, text: &str) -> Result<(),
     }
 }
 
-/// Writes a file to the folder, and takes it away again.
+/// Makes the folder of this name, where there is none, and tries whether it takes files.
 ///
 /// # Errors
 ///
-/// The folder is not there, or takes no file.
-pub fn try_folder(rt: &HostRuntime, folder: &str) -> Result<(), Fault> {
+/// It is no folder and cannot be made, or it takes no file.
+pub fn open_folder(rt: &HostRuntime, folder: &str) -> Result<(), Fault> {
     let alloc = rt.alloc();
     let name = format!(in alloc; "{folder}/.survey.new")?;
-    match tried(rt, name.as_str()) {
+    match opened(rt, folder, name.as_str()) {
         Ok(()) => Ok(()),
         Err(error) if error.kind() == ErrorKind::OutOfMemory => Err(Fault::Memory),
         Err(_) => Err(Fault::Unwritten(Some(String::from_str(alloc, folder)?))),
     }
 }
 
-/// Writes a file, and takes it away again.
-fn tried(rt: &HostRuntime, name: &str) -> io::Result<()> {
+/// Makes the folder, where there is none, writes a file of this name, and takes it away again.
+fn opened(rt: &HostRuntime, folder: &str, name: &str) -> io::Result<()> {
+    if metadata(rt, folder).is_err() {
+        create_dir(rt, folder)?;
+    }
     let file = File::create(rt, name)?;
     drop(file);
     remove_file(rt, name)

@@ -4,6 +4,7 @@
 
 mod asked;
 mod family;
+mod input;
 mod keeping;
 mod numbers;
 mod pieces;

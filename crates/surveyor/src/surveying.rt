@@ -3,7 +3,7 @@ ghost use Rattle.surveyor.specs.Asked.{IsSurvey};
 
 use crate::asked::{Shape, Survey};
 use crate::family::family_of;
-use crate::keeping::{keep, try_folder};
+use crate::keeping::{keep, open_folder};
 use crate::pieces::{at_once, refused};
 use crate::printing::{print, summary};
 use crate::progress::tell_progress;
@@ -27,7 +27,7 @@ pub fn surveyed<T: Threads + Sync>(
 {
     let family = family_of(rt, asked)?;
     if let Some(folder) = &asked.keep {
-        try_folder(rt, folder.as_str())?;
+        open_folder(rt, folder.as_str())?;
     }
     if asked.shape == Shape::Least {
         return shrunken(rt, threads, asked, &family);
