@@ -26,13 +26,14 @@ until (names ∷ rows) (suc round) place = names ∷ until rows round place
 abbrev pub listed_at : List (List ℕ) → ℕ → ℕ → Option ℕ
 listed_at rows round place = option_and_then (λ row. slice_get row place) (slice_get rows round)
 
--- an order has the rounds before this one, and begins it with the accesses up to this place
+-- an order has just the listed rounds before this one, and begins it with the accesses up to this place
 abbrev pub BeginsSo : List (List ℕ) → ℕ → ℕ → List (List ℕ) → Type 0
 BeginsSo (names ∷ rows) zero place (row ∷ order) = (rest : List ℕ) × (row ≡ take (suc place) names ++ rest)
 BeginsSo (names ∷ rows) (suc round) place (row ∷ order) = (row ≡ names) × BeginsSo rows round place order
 BeginsSo _ _ _ _ = ⊥
 
--- the accesses before this one can come, with it they cannot: he is to make none then, and no complete run has it there
+-- the accesses before this one can come, and behind them, in each earlier round with the others' by number, he is to make none; so no complete run
+-- that has just the listed rounds before has it there
 pub record IsFirstThatCannot (s : Scenario) (rows : List (List ℕ)) (round place : ℕ) : Type 0 where
   pub stuck : IsStuckIn oral_kind (opening oral_kind s) rows round place
   pub before : IsCompletion (until rows round place) (order_of oral_kind s (replayed oral_kind s (until rows round place)))

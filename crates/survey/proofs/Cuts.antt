@@ -22,10 +22,10 @@ rest_of stop front w c behind free none is =
 
 -- of equal texts the words are equal, and what stands behind them
 pub same_word : (stop : Stop) (front w v : List ℕ) (c : ℕ) (behind after : List ℕ) → Lacks colon front → Lacks stop w → Lacks stop v → is_stop stop c ≡ true → member front w (c ∷ behind) ≡ member front v (c ∷ after) → w ≡ v
-same_word stop front w v c behind after free none no is e = sym (word_of stop front w c behind free none is) ∙ (ap (word stop) e ∙ word_of stop front v c after free no is)
+same_word stop front w v c behind after free none lack is e = sym (word_of stop front w c behind free none is) ∙ (ap (word stop) e ∙ word_of stop front v c after free lack is)
 
 pub same_rest : (stop : Stop) (front w v : List ℕ) (c : ℕ) (behind after : List ℕ) → Lacks colon front → Lacks stop w → Lacks stop v → is_stop stop c ≡ true → member front w (c ∷ behind) ≡ member front v (c ∷ after) → c ∷ behind ≡ c ∷ after
-same_rest stop front w v c behind after free none no is e = sym (rest_of stop front w c behind free none is) ∙ (ap (rest stop) e ∙ rest_of stop front v c after free no is)
+same_rest stop front w v c behind after free none lack is e = sym (rest_of stop front w c behind free none is) ∙ (ap (rest stop) e ∙ rest_of stop front v c after free lack is)
 
 -- no stop stands in a word
 no_comma : (c : ℕ) → is_within 48 57 c ≡ true → not (is_stop comma c) ≡ true

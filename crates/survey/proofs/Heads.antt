@@ -1,10 +1,9 @@
 -- Families with the same head have the same campaigns.
-use Rattle.std.proofs.Common.{ℕ, ◌≡◌, ◌<◌, ◌^◌, Bool, true, false, List, [], ◌∷◌, ◌++◌, ◌%◌, drop, refl, sym, ap, ◌∙◌, arith, append_assoc, codes, Option, None, Some}
-use Rattle.std.specs.Prelude.{decimal, not, bytes_eq, IfSome, string_bytes, map}
+use Rattle.std.proofs.Common.{ℕ, ◌≡◌, ◌<◌, ◌^◌, true, false, List, [], ◌∷◌, ◌++◌, ◌%◌, drop, refl, sym, ap, ◌∙◌, arith, append_assoc, codes, Option, None, Some}
+use Rattle.std.specs.Prelude.{decimal, bytes_eq, IfSome, string_bytes, map}
 use Rattle.std.proofs.lemmas.List.{append_cancel_right}
 use Rattle.text.specs.Number.{decimal_of}
-use Rattle.text.specs.Stop.{comma, colon, is_stop}
-use Rattle.text.specs.declared.stop.Stop.{Stop}
+use Rattle.text.specs.Stop.{comma}
 use Rattle.text.specs.declared.stop.Stop.TheVariants.{Byte}
 use Rattle.text.proofs.CutLemmas.{Lacks}
 use Rattle.text.proofs.DecimalLemmas.{decimal_of-decimal}
@@ -20,7 +19,6 @@ use Rattle.survey.specs.Lines.{member}
 use Rattle.survey.specs.Heads.{HeadsTellFamilies, IsHead, IsTold, adversary_word, head_text, manner_word, patience_word}
 use Rattle.survey.specs.Plotting.{bound_of, chosen, count_of, do_count, generals_of, given_in, lies_by, plot_of}
 use Rattle.survey.specs.Wording.{campaign_text, plot_text}
-use Rattle.survey.specs.Plot.{Plot}
 use Rattle.survey.proofs.Cuts.{decimal_lacks_brace, decimal_lacks_comma, same_rest, same_word}
 
 -- ---- what stands behind each member
@@ -72,7 +70,7 @@ same_number n m few less e =
     cc
 
 unlike : {A : Type 0} (xs ys zs : List ℕ) → bytes_eq xs zs ≡ true → bytes_eq ys zs ≡ false → xs ≡ ys → A
-unlike xs ys zs yes no e = let same = ap (λ l. bytes_eq l zs) e in absurd (let z : true ≡ false = sym yes ∙ (same ∙ no) in cc)
+unlike xs ys zs like other e = let same = ap (λ l. bytes_eq l zs) e in absurd (let z : true ≡ false = sym like ∙ (same ∙ other) in cc)
 
 same_manner : (m k : Manner) → manner_word m ≡ manner_word k → m ≡ k
 same_manner (Oral Majority) (Oral Majority) e = refl
@@ -86,6 +84,7 @@ same_manner Signed (Oral Median) e = unlike (codes "\"signed\"") (codes "\"media
 same_manner Signed Signed e = refl
 
 same_patience : (p q : Option ℕ) → IfSome p (λ steps. steps < 2 ^ 64) → IfSome q (λ steps. steps < 2 ^ 64) → patience_word p ≡ patience_word q → p ≡ q
+unfolding decimal_of
 same_patience None None h k e = refl
 same_patience None (Some n) h k e = (let a = decimal_of-decimal n k in let b : None ≡ decimal_of (decimal n) = ap decimal_of e in absurd (let z : None ≡ Some n = b ∙ a in cc))
 same_patience (Some n) None h k e = (let a = decimal_of-decimal n h in let b : decimal_of (decimal n) ≡ None = ap decimal_of e in absurd (let z : None ≡ Some n = sym b ∙ a in cc))

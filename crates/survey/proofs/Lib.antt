@@ -7,4 +7,4 @@ pub mod LineLemmas
 pub mod Keeping
 pub mod Cuts
 pub mod Heads
-pub mod Parting
+pub mod PartLemmas

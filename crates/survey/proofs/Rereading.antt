@@ -1,17 +1,11 @@
 -- A line is read as what it was written of.
-use Rattle.std.proofs.Common.{ℕ, ◌≡◌, ◌<◌, ◌^◌, Bool, true, false, List, ◌∷◌, ◌++◌, refl, sym, ap, ◌∙◌, arith, codes, Option, None, Some, drop}
-use Rattle.std.specs.Prelude.{decimal, nat_lt, not, bytes_eq}
-use Rattle.std.specs.List.{list_all}
+use Rattle.std.proofs.Common.{ℕ, ◌≡◌, ◌<◌, ◌^◌, Bool, true, false, List, refl, ap, ◌∙◌, arith, codes, Option, None, Some}
+use Rattle.std.specs.Prelude.{decimal}
 use Rattle.std.proofs.lemmas.Bool.{lt-ltb}
-use Rattle.std.proofs.lemmas.Bool.Decides.{nat_tests}
-use Rattle.text.specs.Number.{decimal_of}
-use Rattle.text.specs.Parts.{before, from}
-use Rattle.text.specs.Stop.{colon, comma, is_stop, is_within}
-use Rattle.text.specs.declared.stop.Stop.{Stop}
+use Rattle.text.specs.Stop.{comma}
 use Rattle.text.specs.declared.stop.Stop.TheVariants.{Byte}
-use Rattle.text.proofs.BytesLemmas.{all-weaker}
 use Rattle.text.proofs.CutLemmas.{Lacks}
-use Rattle.text.proofs.DecimalLemmas.{decimal_of-decimal, digits-decimal}
+use Rattle.text.proofs.DecimalLemmas.{decimal_of-decimal}
 use Rattle.survey.specs.declared.finding.Finding.{Finding}
 use Rattle.survey.specs.Lines.{AreNumbers, answer_text, flag_text, line_text, member}
 use Rattle.survey.proofs.Cuts.{decimal_lacks_brace, decimal_lacks_comma, rest_of, word_of}

@@ -6,6 +6,7 @@ use Rattle.survey.specs.declared.adversary.Adversary.{Adversary}
 use Rattle.survey.specs.declared.adversary.Adversary.TheVariants.{Lies, Silent, Collude, Given}
 use Rattle.survey.specs.declared.manner.Manner.{Manner}
 use Rattle.survey.specs.declared.manner.Manner.TheVariants.{Oral, Signed}
+use Rattle.survey.specs.declared.span.Span.{Span}
 use Rattle.survey.specs.Family.{Family}
 use Rattle.survey.specs.Lines.{member}
 use Rattle.survey.specs.Wording.{campaign_text}
@@ -38,6 +39,18 @@ head_text f =
     (member (codes ",\"patience\"") (patience_word f.patience)
     (member (codes ",\"traitors_high\"") (decimal f.traitors.high)
     (member (codes ",\"traitors_low\"") (decimal f.traitors.low) (codes "}\n"))))))))))
+
+-- in parts
+abbrev pub head_front : Span → Span → List ℕ
+head_front bound generals =
+    codes ",\"bound_high\":" ++ (decimal bound.high ++ (codes ",\"bound_low\":" ++ (decimal bound.low
+    ++ (codes ",\"generals_high\":" ++ (decimal generals.high ++ (codes ",\"generals_low\":" ++ decimal generals.low))))))
+
+abbrev pub head_middle : List ℕ → List ℕ → List ℕ
+head_middle manner patience = codes ",\"line\":\"family\",\"manner\":" ++ (manner ++ (codes ",\"patience\":" ++ patience))
+
+abbrev pub head_end : Span → List ℕ
+head_end traitors = codes ",\"traitors_high\":" ++ (decimal traitors.high ++ (codes ",\"traitors_low\":" ++ (decimal traitors.low ++ codes "}\n")))
 
 -- a line that begins as a head does
 abbrev pub is_head : List ℕ → Bool

@@ -1,5 +1,5 @@
 -- Parts of a survey: a head, and lines of campaigns of its family (docs/FORMATS.md, "Surveys").
-use Rattle.std.specs.Prelude.{ℕ, ◌≡◌, ◌≢◌, ◌≤◌, List, [], ◌∷◌, ◌++◌, flat_map, Option, None, Some}
+use Rattle.std.specs.Prelude.{ℕ, ◌≡◌, ◌≢◌, ◌≤◌, ◌+◌, List, [], ◌∷◌, ◌++◌, flat_map, Option, None, Some}
 use Rattle.std.specs.List.{AllByRecursion}
 use Rattle.survey.specs.declared.finding.Finding.{Finding}
 use Rattle.survey.specs.Heads.{IsHead}
@@ -29,9 +29,19 @@ pub record IsPart (head bytes : List ℕ) (found : List Finding) : Type 0 where
   pub whole : bytes ≡ flat_map (row_text head) rows
   pub told : found ≡ found_in rows
 
--- each is the campaign of one of these seeds
+-- these are the numbers of a campaign
+pub record IsSized (f : Finding) : Type 0 where
+  pub most : f.generals ≤ 13
+  pub rounds : f.bound ≤ 4
+  pub enough : f.bound + 2 ≤ f.generals
+  pub traitors : f.traitors ≤ f.generals
+
+-- each is a campaign of one of these seeds
+abbrev pub IsOf : ℕ → ℕ → Finding → Type 0
+IsOf first last f = (first ≤ f.seed) × (f.seed ≤ last) × IsSized f
+
 abbrev pub AreOf : ℕ → ℕ → List Finding → Type 0
-AreOf first last found = AllByRecursion (λ f. (first ≤ f.seed) × (f.seed ≤ last)) found
+AreOf first last found = AllByRecursion (IsOf first last) found
 
 -- what lines behind a head tell is put behind what was there: campaigns of these seeds
 pub record AddsAll (head bytes : List ℕ) (first last : ℕ) (before after : List Finding) : Type 0 where

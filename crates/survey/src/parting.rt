@@ -1,7 +1,7 @@
 //! Parts of a survey, read line by line.
-ghost use Rattle.std.specs.Prelude.{◌≡◌, ◌≢◌, ◌++◌, ◌∷◌, ℕ, List, [], IfSome, OnOk};
+ghost use Rattle.std.specs.Prelude.{◌≡◌, ◌≢◌, ◌↔◌, ◌++◌, ◌∷◌, ℕ, List, [], IfSome, IsTrue, OnOk};
 ghost use Rattle.survey.specs.Heads.{IsHead};
-ghost use Rattle.survey.specs.Parts.{Adds, AddsAll, IsReadOn};
+ghost use Rattle.survey.specs.Parts.{Adds, AddsAll, IsReadOn, IsSized};
 
 use crate::finding::Finding;
 use crate::heading::is_head;
@@ -37,6 +37,16 @@ fn take_head(head: &mut Vec<u8>, line: &[u8]) -> Result<(), PartError>
     Err(PartError::Family(1))
 }
 
+/// Whether a campaign has these numbers.
+fn is_sized(finding: &Finding) -> bool
+    ensures { IsTrue result ↔ IsSized finding.now }
+{
+    finding.generals <= 13
+        && finding.bound <= 4
+        && finding.bound + 2 <= finding.generals
+        && finding.traitors <= u64::from(finding.generals)
+}
+
 /// Adds the campaign that the line of this number tells, of one of the seeds from the first to the last, if it is not the head
 /// once more.
 fn add_row(
@@ -59,6 +69,9 @@ fn add_row(
     let Some(finding) = read_line(alloc, line)? else {
         return Err(PartError::Line(number));
     };
+    if !is_sized(&finding) {
+        return Err(PartError::Line(number));
+    }
     let seed = finding.seed;
     if seed < seeds.0 || seeds.1 < seed {
         return Err(PartError::Seed(number, seed));

@@ -1,3 +1,3 @@
 mod Going
-mod Shrinking
-mod Telling
+mod LeastLemmas
+mod SumLemmas

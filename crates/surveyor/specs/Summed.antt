@@ -1,6 +1,6 @@
 -- What files with lines of a survey come to (docs/FORMATS.md, "Surveys").
 use Rattle.std.specs.Prelude.{ℕ, ◌≡◌, ◌≢◌, ◌≤◌, ◌-◌, ◌^◌, IfSome, List, [], ◌∷◌, ◌++◌, length, Option, None, Some}
-use Rattle.std.specs.List.{AllZip, Contains}
+use Rattle.std.specs.List.{AllByRecursion, AllZip, Contains}
 use Rattle.std.specs.Io.KnownBytes.{Appends}
 use Rattle.survey.specs.declared.finding.Finding.{Finding}
 use Rattle.survey.specs.Parts.{AreOf, IsPart}
@@ -27,10 +27,14 @@ pub record IsTold (m : Merge) (head : List ℕ) (found : List Finding) : Type 0 
   pub whole : found ≡ joined parts
   pub seeds : AreOf (span_of m.seeds).0 (span_of m.seeds).1 found
 
+-- their seeds lie between these
+abbrev pub AreBetween : ℕ → ℕ → List Finding → Type 0
+AreBetween first last found = AllByRecursion (λ f. (first ≤ f.seed) × (f.seed ≤ last)) found
+
 -- the least and the greatest seed, where there are some
 abbrev pub AreEnds : List Finding → Option (ℕ × ℕ) → Type 0
 AreEnds found None = found ≡ []
-AreEnds found (Some ends) = AreOf ends.0 ends.1 found × Contains (seeds_in found) ends.0 × Contains (seeds_in found) ends.1
+AreEnds found (Some ends) = AreBetween ends.0 ends.1 found × Contains (seeds_in found) ends.0 × Contains (seeds_in found) ends.1
 
 -- the seeds that are said or, where none are, those from the least to the greatest that is told
 abbrev pub AreAsked : Option (ℕ × ℕ) → List Finding → Option (ℕ × ℕ) → Type 0

@@ -10,7 +10,7 @@ use crate::asked::Survey;
 use crate::keeping::keep;
 use crate::pieces::{at_once, refused};
 use crate::printing::print;
-use crate::progress::tell_progress;
+use crate::progress::Progress;
 use crate::telling::Fault;
 use shrink::{Breach, better, breaches, least, statements};
 use std::alloc::{AllocError, Global};
@@ -54,6 +54,7 @@ fn least_left<T: Threads + Sync>(
     let mut so_far: Option<Breach> = None;
     let mut broken: u64 = 0;
     let mut next = asked.first;
+    let mut progress = Progress::of(rt, asked.first, asked.last);
     while next < end {
         let until = next.saturating_add(many).min(end);
         let found = match breaches(threads, alloc, family, next, until) {
@@ -63,7 +64,7 @@ fn least_left<T: Threads + Sync>(
         broken = broken.saturating_add(kept(rt, asked, found.as_slice())?);
         so_far = better(so_far, least(found));
         next = until;
-        tell_progress(rt, asked.first, next.saturating_sub(1), asked.last, broken)?;
+        progress.tell(next.saturating_sub(1), broken)?;
     }
     Ok(so_far)
 }

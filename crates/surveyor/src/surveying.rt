@@ -10,7 +10,7 @@ use crate::family::family_of;
 use crate::keeping::{keep, open_folder};
 use crate::pieces::{at_once, refused};
 use crate::printing::{print, summary};
-use crate::progress::tell_progress;
+use crate::progress::Progress;
 use crate::shrinking::shrunken;
 use crate::telling::Fault;
 use std::thread::Threads;
@@ -60,6 +60,7 @@ fn played<T: Threads + Sync, O: Output>(
     let mut all: Vec<Finding> = Vec::new(alloc);
     let mut next = asked.first;
     let mut broken: u64 = 0;
+    let mut progress = Progress::of(rt, asked.first, asked.last);
     put_head(rt, out, asked.shape, family)?;
     while next < end {
         let until = next.saturating_add(many).min(end);
@@ -72,7 +73,7 @@ fn played<T: Threads + Sync, O: Output>(
         broken = broken.saturating_add(broken_in(found.as_slice()));
         add(asked.shape, &mut all, found.as_slice())?;
         next = until;
-        tell_progress(rt, asked.first, next.saturating_sub(1), asked.last, broken)?;
+        progress.tell(next.saturating_sub(1), broken)?;
     }
     print(out, summary(alloc, asked.shape, all.as_slice())?.as_str())
 }

@@ -1,5 +1,5 @@
 use Rattle.surveyor.specs.Summed.{span_of}
-use Rattle.surveyor.proofs.Telling.{AreTold}
+use Rattle.surveyor.proofs.SumLemmas.{AreTold}
 use Rattle.surveyor.proofs.summing.told.Given as goal
 
 abbrev pub invariant-loop-name : goal.invariant-loop-name

@@ -1,6 +1,8 @@
 -- Parts of a survey, line by line.
-use Rattle.std.proofs.Common.{ℕ, suc, ◌+◌, ◌<◌, ◌≤◌, ◌≡◌, ◌≢◌, Bool, true, false, cond, List, [], ◌∷◌, ◌++◌, length, take, refl, sym, ap, subst, ◌∙◌, arith, append_assoc, append-nil, Option, None, Some}
-use Rattle.std.specs.Prelude.{◌==◌, flat_map}
+use Rattle.std.proofs.Common.{ℕ, suc, ◌+◌, ◌<◌, ◌≤◌, ◌≡◌, ◌≢◌, Bool, true, false, cond, List, [], ◌∷◌, ◌++◌, length, take, refl, sym, ap, subst, ◌∙◌, ⊎_elim, arith, append_assoc, append-nil, Option, None, Some}
+use Rattle.std.specs.Prelude.{◌==◌, flat_map, min}
+use Rattle.std.proofs.lemmas.Bool.{cases_lt}
+use Rattle.std.proofs.lemmas.List.{take_all}
 use Rattle.std.specs.List.{AllByRecursion}
 use Rattle.std.proofs.lemmas.Bool.Decides.{nat_tests}
 use Rattle.text.specs.Parts.{until}
@@ -8,7 +10,7 @@ use Rattle.text.specs.Stop.{feed}
 use Rattle.survey.specs.declared.finding.Finding.{Finding}
 use Rattle.survey.specs.Heads.{IsHead, is_head}
 use Rattle.survey.specs.Lines.{line_text}
-use Rattle.survey.specs.Parts.{Adds, AddsAll, AreOf, IsPart, IsReadOn, found_in, row_text}
+use Rattle.survey.specs.Parts.{Adds, AddsAll, AreOf, IsOf, IsReadOn, IsSized, found_in, row_text}
 
 -- a line up to its line feed, and with it
 same_ten : (c : ℕ) → c == 10 ≡ true → c ≡ 10
@@ -16,12 +18,13 @@ same_ten c e = grind (arith, nat_tests)
 
 pub line_ends : (bytes : List ℕ) → until feed bytes < length bytes → (front : List ℕ) × (take (until feed bytes + 1) bytes ≡ front ++ 10 ∷ [])
 line_ends [] lt = absurd (omega arith)
-line_ends (c ∷ cs) lt = by (c == 10) refl lt
+line_ends (c ∷ cs) lt = by (c == 10) refl (λ h. line_ends cs h) lt
   where
-    by : (b : Bool) → c == 10 ≡ b → cond b 0 (suc (until feed cs)) < suc (length cs) → (front : List ℕ) × (take (cond b 0 (suc (until feed cs)) + 1) (c ∷ cs) ≡ front ++ 10 ∷ [])
-    by true e lt = ([], ap (λ x. x ∷ []) (same_ten c e))
-    by false e lt =
-        let h = line_ends cs (omega arith) in
+    by : (b : Bool) → c == 10 ≡ b → (until feed cs < length cs → (front : List ℕ) × (take (until feed cs + 1) cs ≡ front ++ 10 ∷ []))
+        → cond b 0 (suc (until feed cs)) < suc (length cs) → (front : List ℕ) × (take (cond b 0 (suc (until feed cs)) + 1) (c ∷ cs) ≡ front ++ 10 ∷ [])
+    by true e more lt = ([], ap (λ x. x ∷ []) (same_ten c e))
+    by false e more lt =
+        let h = more (omega arith) in
         let n = until feed cs in
         let one : suc n + 1 ≡ suc (n + 1) = omega arith in
         (c ∷ h.0, ap (λ k. take k (c ∷ cs)) one ∙ ap (λ (l : List ℕ). c ∷ l) h.1)
@@ -59,7 +62,7 @@ on_goes head lines rest line more first last before now after on cut adds =
       rows = new;
       whole = on.whole ∙ (ap (λ (l : List ℕ). texts ++ l) (cut ∙ ap (λ (l : List ℕ). l ++ more) adds.text) ∙ (sym (append_assoc texts (row_text head adds.row) more) ∙ ap (λ (l : List ℕ). l ++ more) (sym (texts_more head on.rows adds.row))));
       behind = adds.behind ∙ (ap (λ (l : List Finding). l ++ found_in (adds.row ∷ [])) on.behind ∙ (append_assoc before (found_in on.rows) (found_in (adds.row ∷ [])) ∙ ap (λ (l : List Finding). before ++ l) (sym (found_more on.rows (adds.row ∷ [])))));
-      seeds = subst P (sym (found_more on.rows (adds.row ∷ []))) (all_both (λ f. (first ≤ f.seed) × (f.seed ≤ last)) (found_in on.rows) (found_in (adds.row ∷ [])) on.seeds adds.seeds);
+      seeds = subst P (sym (found_more on.rows (adds.row ∷ []))) (all_both (IsOf first last) (found_in on.rows) (found_in (adds.row ∷ [])) on.seeds adds.seeds);
     }
 
 pub on_ends : (head lines rest : List ℕ) (first last : ℕ) (before now : List Finding) → IsOn head lines rest first last before now → length rest ≡ 0 → AddsAll head lines first last before now
@@ -74,8 +77,8 @@ on_ends head lines rest first last before now on none =
 pub head_again : (head line : List ℕ) (first last : ℕ) (now : List Finding) → line ≡ head → Adds head line first last now now
 head_again head line first last now e = record { row = None; text = e; behind = sym (append-nil now); seeds = tt }
 
-pub one_more : (head line : List ℕ) (first last : ℕ) (f : Finding) (now after : List Finding) → line ≡ line_text f → first ≤ f.seed → f.seed ≤ last → after ≡ now ++ f ∷ [] → Adds head line first last now after
-one_more head line first last f now after e low high is = record { row = Some f; text = e; behind = is; seeds = ((low, high), tt) }
+pub one_more : (head line : List ℕ) (first last : ℕ) (f : Finding) (now after : List Finding) → line ≡ line_text f → first ≤ f.seed → f.seed ≤ last → IsSized f → after ≡ now ++ f ∷ [] → Adds head line first last now after
+one_more head line first last f now after e low high sized is = record { row = Some f; text = e; behind = is; seeds = ((low, high, sized), tt) }
 
 -- a whole part
 pub is_whole_head : (line : List ℕ) → is_head line ≡ true → (front : List ℕ) × (line ≡ front ++ 10 ∷ []) → IsHead line
@@ -104,3 +107,10 @@ read_none head bytes first last now none =
     empty : (xs : List ℕ) → length xs ≡ 0 → xs ≡ []
     empty [] e = refl
     empty (x ∷ xs) e = absurd (omega arith)
+
+-- a front that may be shorter
+pub take_min : (n : ℕ) (xs : List ℕ) → take (min (length xs) n) xs ≡ take n xs
+take_min n xs = ⊎_elim
+    (λ (lt : length xs < n). (let e : min (length xs) n ≡ length xs = omega arith in ap (λ k. take k xs) e ∙ (take_all (length xs) xs (omega arith) ∙ sym (take_all n xs (omega arith)))))
+    (λ (le : n ≤ length xs). (let e : min (length xs) n ≡ n = omega arith in ap (λ k. take k xs) e))
+    (cases_lt (length xs) n)

@@ -6,8 +6,8 @@ use Rattle.std.proofs.lemmas.Bool.Decides.{nat_tests}
 use Rattle.rayon.proofs.ListFacts.{AllZip-append}
 use Rattle.survey.specs.declared.finding.Finding.{Finding}
 use Rattle.survey.specs.Heads.{IsHead}
-use Rattle.survey.specs.Parts.{AreOf, IsPart, IsReadOn, found_in, row_text}
-use Rattle.survey.proofs.Parting.{all_both}
+use Rattle.survey.specs.Parts.{AreOf, IsOf, IsPart, IsReadOn, found_in, row_text}
+use Rattle.survey.proofs.PartLemmas.{all_both}
 use Rattle.survey_tables.specs.Covering.{AreDoubles, AreHoles, is_in, seeds_in, times}
 use Rattle.survey_tables.specs.declared.stretch.Stretch.{Stretch}
 use Rattle.surveyor.specs.Summed.{IsCovered, joined}
@@ -52,7 +52,7 @@ one_told before head bytes first last count more old new one all read =
           (with_head head h bytes read.told same read.part, tt);
       named = (let l = length-append all.texts (bytes ∷ []) in let n = all.named in omega arith);
       whole = read.behind ∙ (ap (λ (l : List Finding). l ++ read.told) all.whole ∙ sym (joined_more all.parts read.told));
-      seeds = subst (λ (l : List Finding). AreOf first last l) (sym read.behind) (all_both (λ f. (first ≤ f.seed) × (f.seed ≤ last)) old read.told all.seeds read.seeds);
+      seeds = subst (λ (l : List Finding). AreOf first last l) (sym read.behind) (all_both (IsOf first last) old read.told all.seeds read.seeds);
     }
 
 -- where no seed lacks and none is double, each is told once
