@@ -15,7 +15,9 @@ use Rattle.trace.specs.declared.fault.TraceError.TheVariants.{At}
 use Rattle.trace.specs.Schedules.{schedule_told}
 use Rattle.world.specs.declared.event.Event.{Event}
 use Rattle.world.specs.declared.event.Event.TheVariants.{Tick, Post, Close}
-use Rattle.world.specs.Part.{Part, Acting, Silent, Posted, owes_no_letter}
+use Rattle.world.specs.declared.part.Part.{Part}
+use Rattle.world.specs.declared.part.Part.TheVariants.{Acting, Silent, Posted}
+use Rattle.world.specs.Part.{owes_no_letter}
 use Rattle.world.specs.declared.schedule.Repeat.{Repeat}
 use Rattle.world.specs.Kind.{Kind, World, begins, begun, closing, each, happen, opening, posting, round_letters, round_open, run, served, ticked}
 use Rattle.world.specs.KindLists.{further_turns, names_events, ticks_named, until_access, wound_up}
@@ -30,13 +32,13 @@ use Rattle.retracing.specs.Reading.{IsEntry, IsReadAs, SchedulesAreRead}
 -- ---- how many steps an access takes
 
 asks_some : (k : ℕ) (o : Turn) → asks_or (asks_within k) o ≡ true → 1 ≤ further_turns (until_access k) o
-asks_some k (Goes b) yes = omega arith
-asks_some k (Asks q f) yes = omega arith
-asks_some k Ended yes = absurd (let f : false ≡ true = yes in cc)
+asks_some k (Goes b) will = omega arith
+asks_some k (Asks q f) will = omega arith
+asks_some k Ended will = absurd (let f : false ≡ true = will in cc)
 
 steps_some : (k : ℕ) (a : Activation) → asks_within k a ≡ true → 1 ≤ until_access k a
-steps_some zero a yes = absurd (let f : false ≡ true = yes in cc)
-steps_some (suc k) a yes = asks_some k (turn a) yes
+steps_some zero a will = absurd (let f : false ≡ true = will in cc)
+steps_some (suc k) a will = asks_some k (turn a) will
 
 further_few : (k : ℕ) (o : Turn) → ((b : Activation) → until_access k b ≤ k) → further_turns (until_access k) o ≤ suc k
 further_few k (Goes b) few = (let h = few b in omega arith)
@@ -155,17 +157,17 @@ module _ (K : Kind) (s : Scenario) (short : AreShort s) where
   -- ---- so an entry is one, and so are all
 
   entry_is : s.generals ≤ 13 → (w : World) (g : ℕ) → IsSmall s w → (o : Option Part) → slice_get w.parts g ≡ o → will_ask o ≡ true → IsEntry (record { general = g; times = length (ticks_named g o) })
-  entry_is few w g small None at yes = absurd (let f : false ≡ true = yes in cc)
-  entry_is few w g small (Some (Acting a)) at yes =
+  entry_is few w g small None at will = absurd (let f : false ≡ true = will in cc)
+  entry_is few w g small (Some (Acting a)) at will =
       let here = small.acting g a at in
       let lt = here.0 in
       let le = here.1 in
       let many = ticks_many (until_access (length a.program) a) g in
-      let some = steps_some (length a.program) a yes in
+      let some = steps_some (length a.program) a will in
       let most = steps_few (length a.program) a in
       record { general = omega arith; least = omega arith; most = omega arith }
-  entry_is few w g small (Some Silent) at yes = absurd (let f : false ≡ true = yes in cc)
-  entry_is few w g small (Some Posted) at yes = absurd (let f : false ≡ true = yes in cc)
+  entry_is few w g small (Some Silent) at will = absurd (let f : false ≡ true = will in cc)
+  entry_is few w g small (Some Posted) at will = absurd (let f : false ≡ true = will in cc)
 
   entries_are : s.generals ≤ 13 → (names : List ℕ) (w : World) → IsSmall s w → IsWalk K w names → AllByRecursion IsEntry (entries_from K w names)
   entries_are few [] w small walk = tt
@@ -191,5 +193,5 @@ module _ (K : Kind) (s : Scenario) (short : AreShort s) where
       let short_enough : length (schedule_from K (opening K s) names) ≤ 5 = omega arith in
       subst (λ (l : List (List Repeat)). IsReadAs (schedule_text l) l) (sym is) (record {
         within = λ le. read (schedule_from K (opening K s) names) all short_enough le;
-        beyond = λ gt. (let no : nat_le (length (schedule_text (schedule_from K (opening K s) names))) 1048576 ≡ false = grind (arith, nat_tests) in rw no refl);
+        beyond = λ gt. (let over : nat_le (length (schedule_text (schedule_from K (opening K s) names))) 1048576 ≡ false = grind (arith, nat_tests) in rw over refl);
       })

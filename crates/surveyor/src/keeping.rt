@@ -58,13 +58,7 @@ fn new_file(rt: &HostRuntime, name: &str) -> io::Result<File> {
 }
 
 /// Writes a file beside its name, and gives it that name; where that fails, it is taken away.
-fn moved(
-    rt: &HostRuntime,
-    mut file: File,
-    beside: &str,
-    name: &str,
-    text: &str,
-) -> io::Result<()> {
+fn moved(rt: &HostRuntime, mut file: File, beside: &str, name: &str, text: &str) -> io::Result<()> {
     let filled = file.write_all(text.as_bytes());
     drop(file);
     let written = match filled {
