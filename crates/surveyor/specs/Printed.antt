@@ -53,10 +53,12 @@ pub record IsPlayed (s : Survey) (f : Family) (text : List ℕ) : Type 0 where
   pub whole : text ≡ head_in s.shape f ++ (lines_in s.shape found ++ summary_text s.shape found)
 
 -- a broken campaign of which nothing more can be taken out, as a scenario behind a comment
+abbrev pub least_head : ℕ → ℕ → ℕ → List ℕ
+least_head seed traitors statements = codes "# seed " ++ (decimal seed ++ (codes ": " ++ (decimal traitors ++ (codes " traitors, " ++ (decimal statements ++ codes " statements\n")))))
+
 abbrev pub least_text : Option Breach → List ℕ
 least_text None = codes "# no campaign is broken\n"
-least_text (Some b) =
-    codes "# seed " ++ decimal b.seed ++ codes ": " ++ decimal (length b.plot.traitors) ++ codes " traitors, " ++ decimal (statements b.plot) ++ codes " statements\n" ++ plot_text b.plot
+least_text (Some b) = least_head b.seed (length b.plot.traitors) (statements b.plot) ++ plot_text b.plot
 
 -- the text is that of the least that is left of the seeds' campaigns
 pub record IsShrunken (s : Survey) (f : Family) (text : List ℕ) : Type 0 where

@@ -1,6 +1,6 @@
 -- What files with lines of a survey come to (docs/FORMATS.md, "Surveys").
 use Rattle.std.specs.Prelude.{ℕ, ◌≡◌, ◌≢◌, ◌≤◌, ◌-◌, ◌^◌, IfSome, List, [], ◌∷◌, ◌++◌, length, Option, None, Some}
-use Rattle.std.specs.List.{AllByRecursion, AllZip, Contains}
+use Rattle.std.specs.List.{AllZip}
 use Rattle.std.specs.Io.KnownBytes.{Appends}
 use Rattle.survey.specs.declared.finding.Finding.{Finding}
 use Rattle.survey.specs.Parts.{AreOf, IsPart}
@@ -27,30 +27,14 @@ pub record IsTold (m : Merge) (head : List ℕ) (found : List Finding) : Type 0 
   pub whole : found ≡ joined parts
   pub seeds : AreOf (span_of m.seeds).0 (span_of m.seeds).1 found
 
--- their seeds lie between these
-abbrev pub AreBetween : ℕ → ℕ → List Finding → Type 0
-AreBetween first last found = AllByRecursion (λ f. (first ≤ f.seed) × (f.seed ≤ last)) found
-
--- the least and the greatest seed, where there are some
-abbrev pub AreEnds : List Finding → Option (ℕ × ℕ) → Type 0
-AreEnds found None = found ≡ []
-AreEnds found (Some ends) = AreBetween ends.0 ends.1 found × Contains (seeds_in found) ends.0 × Contains (seeds_in found) ends.1
-
--- the seeds that are said or, where none are, those from the least to the greatest that is told
-abbrev pub AreAsked : Option (ℕ × ℕ) → List Finding → Option (ℕ × ℕ) → Type 0
-AreAsked (Some seeds) found span = span ≡ Some seeds
-AreAsked None found span = AreEnds found span
-
 -- each seed from the first to the last is told just once
 abbrev pub IsCovered : ℕ → ℕ → List Finding → Type 0
 IsCovered first last found = (x : ℕ) → first ≤ x → x ≤ last → times x (seeds_in found) ≡ 1
 
--- where the status is 0 it is so with these seeds; else it is 1
+-- the status is 0 only where it is so with the seeds that are said, if some are; else it is 1
 pub record IsCoveredBy (seeds : Option (ℕ × ℕ)) (found : List Finding) (status : ℕ) : Type 0 where
-  pub span : Option (ℕ × ℕ)
-  pub asked : AreAsked seeds found span
-  pub well : status ≡ 0 → IfSome span (λ s. IsCovered s.0 s.1 found)
-  pub else : status ≢ 0 → status ≡ 1
+  pub well : IfSome seeds (λ s. status ≡ 0 → IsCovered s.0 s.1 found)
+  pub ill : status ≢ 0 → status ≡ 1
 
 -- what the parts come to is printed
 pub record IsSummed (m : Merge) (old new : Option (List ℕ)) (status : ℕ) : Type 0 where

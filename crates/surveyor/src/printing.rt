@@ -27,7 +27,7 @@ pub fn print<O: Output>(out: &mut O, text: &str) -> Result<(), Fault>
 /// # Errors
 ///
 /// `AllocError` where memory is refused.
-pub fn summary(alloc: Global, shape: Shape, findings: &[Finding]) -> Result<String, AllocError>
+fn summary(alloc: Global, shape: Shape, findings: &[Finding]) -> Result<String, AllocError>
     ensures { IfOk result (λ text. string_bytes text ≡ summary_text shape findings.now) }
 {
     match shape {
@@ -36,4 +36,21 @@ pub fn summary(alloc: Global, shape: Shape, findings: &[Finding]) -> Result<Stri
         Shape::Picture => picture(alloc, findings),
         Shape::Lines | Shape::Least => Ok(String::new(alloc)),
     }
+}
+
+/// Prints what is told of campaigns in this shape, where it is told at the end.
+///
+/// # Errors
+///
+/// The output takes no more, or want of memory.
+pub fn put_summary<O: Output>(
+    alloc: Global,
+    out: &mut O,
+    shape: Shape,
+    findings: &[Finding],
+) -> Result<(), Fault>
+    ensures { OnOk result (Appends (O.contents out.old) (O.contents out.new) (summary_text shape findings.now)) }
+{
+    let text = summary(alloc, shape, findings)?;
+    print(out, text.as_str())
 }

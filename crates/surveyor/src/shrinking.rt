@@ -1,10 +1,10 @@
 //! The least of all campaigns in which agreement is broken.
-ghost use Rattle.std.specs.Prelude.{◌≡◌, ◌+◌, List, ℕ, IfOk, OnOk, option_map, string_bytes};
+ghost use Rattle.std.specs.Prelude.{◌≡◌, ◌+◌, List, ℕ, IfOk, OnOk, length, option_map, string_bytes};
 ghost use Rattle.std.specs.Io.KnownBytes.{Appends};
 ghost use Rattle.shrink.specs.Breaches.{IsLeastBreach};
 ghost use Rattle.survey.specs.Plotting.{plot_of};
 ghost use Rattle.surveyor.specs.Asked.{IsSurvey};
-ghost use Rattle.surveyor.specs.Printed.{IsShrunken, least_text};
+ghost use Rattle.surveyor.specs.Printed.{IsShrunken, least_head, least_text};
 
 use crate::asked::Survey;
 use crate::keeping::keep;
@@ -16,7 +16,7 @@ use shrink::{Breach, better, breaches, least, statements};
 use std::alloc::{AllocError, Global};
 use std::thread::Threads;
 use streams::Output;
-use survey::{Family, plot_text};
+use survey::{Family, Plot, plot_text};
 
 /// Prints the least of what is left of the seeds' campaigns when traitors and statements are taken out while agreement stays
 /// broken.
@@ -84,6 +84,25 @@ fn kept(rt: &HostRuntime, asked: &Survey, found: &[Option<Breach>]) -> Result<u6
     Ok(broken)
 }
 
+/// How many traitors a campaign has.
+fn traitors_in(plot: &Plot) -> usize
+    ensures { result ≡ length plot.now.traitors }
+{
+    plot.traitors.len()
+}
+
+/// The comment before what is left of a campaign.
+fn least_head(
+    alloc: Global,
+    seed: u64,
+    traitors: usize,
+    statements: u128,
+) -> Result<String, AllocError>
+    ensures { IfOk result (λ text. string_bytes text ≡ least_head seed traitors statements) }
+{
+    format!(in alloc; "# seed {seed}: {traitors} traitors, {statements} statements\n")
+}
+
 /// What is left of a campaign, as a scenario, behind a comment that says of which.
 fn least_text(alloc: Global, least: Option<&Breach>) -> Result<String, AllocError>
     ensures { IfOk result (λ text. string_bytes text ≡ least_text (option_map (λ breach. breach.now) least.entry)) }
@@ -91,8 +110,8 @@ fn least_text(alloc: Global, least: Option<&Breach>) -> Result<String, AllocErro
     let Some(breach) = least else {
         return String::from_str(alloc, "# no campaign is broken\n");
     };
-    let (traitors, statements) = (breach.plot.traitors.len(), statements(&breach.plot));
-    let seed = breach.seed;
-    let plot = plot_text(alloc, &breach.plot)?;
-    format!(in alloc; "# seed {seed}: {traitors} traitors, {statements} statements\n{plot}")
+    let plot = &breach.plot;
+    let mut out = least_head(alloc, breach.seed, traitors_in(plot), statements(plot))?;
+    out.push_str(plot_text(alloc, plot)?.as_str())?;
+    Ok(out)
 }

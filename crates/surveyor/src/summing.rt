@@ -1,10 +1,10 @@
 //! What files tell.
-ghost use Rattle.std.specs.Prelude.{◌≡◌, IfOk};
-ghost use Rattle.surveyor.specs.Summed.{AreEnds, IsCoveredBy, IsSummed, IsTold, span_of};
+ghost use Rattle.std.specs.Prelude.{◌≡◌, ◌≢◌, IfOk, IfSome, Some, length};
+ghost use Rattle.surveyor.specs.Summed.{IsCoveredBy, IsSummed, IsTold, span_of};
 
 use crate::asked::Merge;
 use crate::input::bytes_of;
-use crate::printing::{print, summary};
+use crate::printing::put_summary;
 use crate::telling::Fault;
 use std::alloc::{AllocError, Global};
 use streams::Output;
@@ -23,7 +23,7 @@ pub fn summed<O: Output>(rt: &HostRuntime, out: &mut O, asked: &Merge) -> Result
     let alloc = rt.alloc();
     let parts = told(rt, asked)?;
     let findings = parts.findings.as_slice();
-    print(out, summary(alloc, asked.shape, findings)?.as_str())?;
+    put_summary(alloc, out, asked.shape, findings)?;
     covered(rt, asked.seeds, findings)
 }
 
@@ -36,16 +36,18 @@ fn told(rt: &HostRuntime, asked: &Merge) -> Result<Parts, Fault>
         head: Vec::new(alloc),
         findings: Vec::new(alloc),
     };
-    let mut first = "";
+    let mut first: Option<&String> = None;
     for name in &asked.names {
-        let name = name.as_str();
-        let bytes = bytes_of(rt, name)?;
+        let bytes = bytes_of(rt, name.as_str())?;
         if parts.head.is_empty() {
-            first = name;
+            first = Some(name);
         }
         match read_part(alloc, &mut parts, bytes.as_slice(), span_of(asked.seeds)) {
             Ok(()) => {}
-            Err(error) => return Err(refused(alloc, name, first, error)),
+            Err(error) => {
+                let first = first.unwrap_or(name);
+                return Err(refused(alloc, name.as_str(), first.as_str(), error));
+            }
         }
     }
     Ok(parts)
@@ -85,9 +87,7 @@ fn refusal(alloc: Global, name: &str, first: &str, error: PartError) -> Result<F
 }
 
 /// The least and the greatest seed of these campaigns.
-fn ends(all: &[Finding]) -> Option<(u64, u64)>
-    ensures { AreEnds all.now result }
-{
+fn ends(all: &[Finding]) -> Option<(u64, u64)> {
     let mut ends: Option<(u64, u64)> = None;
     for finding in all {
         let seed = finding.seed;
@@ -99,23 +99,45 @@ fn ends(all: &[Finding]) -> Option<(u64, u64)>
     ends
 }
 
+/// The seeds that are asked for: those that are said or, where none are, those from the least to the greatest that is told.
+fn asked_for(seeds: Option<(u64, u64)>, all: &[Finding]) -> Option<(u64, u64)>
+    ensures { IfSome seeds (λ s. result ≡ Some s) }
+{
+    match seeds {
+        Some(seeds) => Some(seeds),
+        None => ends(all),
+    }
+}
+
+/// The exit status where these seeds lack, and these are double.
+fn status_of(holes: &[Stretch], doubles: &[Stretch]) -> u8
+    ensures well { result ≡ 0 → (length holes.now ≡ 0) × (length doubles.now ≡ 0) }
+    ensures ill { result ≢ 0 → result ≡ 1 }
+{
+    if !holes.is_empty() {
+        return 1;
+    }
+    if !doubles.is_empty() {
+        return 1;
+    }
+    0
+}
+
 /// Says which seeds lack, and which stand there more than once. The result is the exit status.
 fn covered(rt: &HostRuntime, seeds: Option<(u64, u64)>, all: &[Finding]) -> Result<u8, Fault>
     ensures { IfOk result (IsCoveredBy seeds all.now) }
 {
     let alloc = rt.alloc();
-    let Some((first, last)) = seeds.or(ends(all)) else {
+    let span = asked_for(seeds, all);
+    let Some((first, last)) = span else {
         return Ok(0);
     };
     let holes = holes(alloc, all, first, last)?;
     let doubles = doubles(alloc, all)?;
+    let status = status_of(holes.as_slice(), doubles.as_slice());
     tell_stretches(rt, "hole", holes.as_slice());
     tell_stretches(rt, "double", doubles.as_slice());
-    Ok(if holes.is_empty() && doubles.is_empty() {
-        0
-    } else {
-        1
-    })
+    Ok(status)
 }
 
 /// Says these stretches, as `--seeds` takes them.

@@ -1,7 +1,6 @@
 //! The campaigns of a survey.
-ghost use Rattle.std.specs.Prelude.{◌≡◌, ◌≤◌, ◌≢◌, ◌++◌, IfOk, OnOk};
+ghost use Rattle.std.specs.Prelude.{◌≡◌, ◌≢◌, ◌++◌, OnOk};
 ghost use Rattle.std.specs.Io.KnownBytes.{Appends};
-ghost use Rattle.survey.specs.Heads.{head_text};
 ghost use Rattle.surveyor.specs.Asked.{IsSurvey};
 ghost use Rattle.surveyor.specs.Printed.{IsPrinted, IsSurveyed, added, head_in, lines_in};
 
@@ -9,7 +8,7 @@ use crate::asked::{Shape, Survey};
 use crate::family::family_of;
 use crate::keeping::{keep, open_folder};
 use crate::pieces::{at_once, refused};
-use crate::printing::{print, summary};
+use crate::printing::{print, put_summary};
 use crate::progress::Progress;
 use crate::shrinking::shrunken;
 use crate::telling::Fault;
@@ -75,7 +74,8 @@ fn played<T: Threads + Sync, O: Output>(
         next = until;
         progress.tell(next.saturating_sub(1), broken)?;
     }
-    print(out, summary(alloc, asked.shape, all.as_slice())?.as_str())
+    let told = all.as_slice();
+    put_summary(alloc, out, asked.shape, told)
 }
 
 /// In how many of the campaigns agreement is broken, or the order disobeyed.
