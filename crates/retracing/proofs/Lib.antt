@@ -1,3 +1,4 @@
 mod Reading
 mod Retracing
 mod Stopping
+mod Within

@@ -1,10 +1,11 @@
 -- The schedule of a chronicle's accesses.
-use Rattle.std.proofs.Common.{◌≡◌, ◌<◌, ℕ, List, refl, sym, ap, subst, arith}
+use Rattle.std.proofs.Common.{◌≡◌, ◌<◌, ◌≤◌, ℕ, zero, suc, List, length, refl, sym, ap, subst, arith}
 use Rattle.std.specs.Prelude.{All}
 use Rattle.board.specs.Board.{Access}
 use Rattle.round.specs.Scenario.{Scenario, IsScenario}
 use Rattle.world.specs.declared.schedule.Repeat.{Repeat}
 use Rattle.world.specs.Chronicle.{chronicle_of}
+use Rattle.world.specs.KindLists.{names_in}
 use Rattle.world.specs.Lists.{replayed}
 use Rattle.world.specs.World.{oral_kind}
 use Rattle.world.proofs.Campaigns.{oral_campaigns}
@@ -12,6 +13,12 @@ use Rattle.world.proofs.Lasting.{replayed_complete}
 use Rattle.world.proofs.Replaying.{runs_are_replays}
 use Rattle.explore.specs.Text.{schedule_text}
 use Rattle.trace.specs.Names.{chronicle_told, names_of}
+use Rattle.retracing.specs.Reading.{IsReadAs}
+use Rattle.explore.specs.declared.scheduled.Scheduled.TheVariants.{By}
+use Rattle.explore.specs.Planning.{IsScheduleOf}
+use Rattle.world.specs.Kind.{opening as opening_of}
+use Rattle.retracing.proofs.Reading.{proved_schedules_are_read}
+use Rattle.retracing.proofs.Within.{AreShort, schedule_read}
 use Rattle.retracing.specs.Retraced.{ComesAgain, IsLedgerOfRun, IsRetraced}
 
 -- what an audit replays is a complete run
@@ -28,10 +35,20 @@ few s accesses is h =
     let most = is.few in
     subst (λ (accesses : List Access). All (λ a. a.general < 256) accesses) h.2 (λ k d lt. let e = own k d lt in omega arith)
 
-pub retraced_by : (s : Scenario) (t : List ℕ) (accesses : List Access) (schedule : List (List Repeat)) → {lines : List ℕ} → IsScenario s → accesses ≡ (chronicle_told s t).accesses → ComesAgain s accesses schedule → lines ≡ schedule_text schedule → IsRetraced s t lines
+pub retraced_by : (s : Scenario) (t : List ℕ) (accesses : List Access) (schedule : List (List Repeat)) → {lines : List ℕ} → IsScenario s → accesses ≡ (chronicle_told s t).accesses → ComesAgain s accesses schedule → IsReadAs (schedule_text schedule) schedule → lines ≡ schedule_text schedule → IsRetraced s t lines
 unfolding chronicle_told
-retraced_by s t accesses schedule is e comes written = record {
+retraced_by s t accesses schedule is e comes read written = record {
   schedule = schedule;
   written = written;
+  read = subst (λ (l : List ℕ). IsReadAs l schedule) (sym written) read;
   again = ap chronicle_of (comes (replayed s (names_of t)) (replayed_complete oral_kind s (oral_campaigns s is) (names_of t)) (sym e));
 }
+
+-- the schedule of some names is read again
+pub read_of : (s : Scenario) (names : List (List ℕ)) (schedule : List (List Repeat)) → IsScenario s → AreShort s → length names ≤ 5 → IsScheduleOf oral_kind (opening_of oral_kind s) names (By schedule) → IsReadAs (schedule_text schedule) schedule
+read_of s names schedule is short five made = schedule_read oral_kind s short proved_schedules_are_read is.few names schedule five made.0 made.1
+
+-- a list of names for each round
+pub names_count : (round : ℕ) (ledger : List Access) (k : ℕ) → length (names_in round ledger k) ≡ k
+names_count round ledger zero = refl
+names_count round ledger (suc k) = ap suc (names_count (suc round) ledger k)

@@ -17,6 +17,7 @@ use Rattle.explore.proofs.Deciding.{to_steps}
 use Rattle.explore.proofs.Leading.{replay_completes}
 use Rattle.retracing.specs.Accesses.{accesses_told, general_of, row_told, rows_told, slash, with_general, with_row}
 use Rattle.retracing.specs.Arranged.{BeginsSo, IfFault, IsArranged, IsFirstThatCannot, IsListedAt, IsNever, IsUnarranged, until}
+use Rattle.retracing.specs.Reading.{IsReadAs}
 use Rattle.retracing.specs.declared.fault.AccessFault.{AccessFault}
 use Rattle.retracing.specs.declared.fault.AccessesError.{AccessesError}
 use Rattle.retracing.specs.declared.fault.AccessesError.TheVariants.{At, Memory}
@@ -69,8 +70,8 @@ first_that_cannot s rows round place is h = record {
 }
 
 pub arranged_by : (s : Scenario) (text : List ℕ) (rows : List (List ℕ)) (schedule : List (List Repeat)) (lines : List ℕ) → accesses_told text ≡ Ok rows
-    → IsPlan oral_kind s rows (By schedule) → lines ≡ schedule_text schedule → IsArranged s text lines
-arranged_by s text rows schedule lines told plan written = (rows, told, record { schedule = schedule; written = written; comes = plan.1 })
+    → IsPlan oral_kind s rows (By schedule) → IsReadAs (schedule_text schedule) schedule → lines ≡ schedule_text schedule → IsArranged s text lines
+arranged_by s text rows schedule lines told plan read written = (rows, told, record { schedule = schedule; written = written; read = subst (λ (l : List ℕ). IsReadAs l schedule) (sym written) read; comes = plan.1 })
 
 pub unarranged_by : (s : Scenario) (text : List ℕ) (rows : List (List ℕ)) (round place : ℕ) (fault : AccessFault) → IsScenario s → accesses_told text ≡ Ok rows
     → IsStuckIn oral_kind (opening oral_kind s) rows round place → IsNever rows round place fault → IsUnarranged s text fault

@@ -9,6 +9,7 @@ use Rattle.world.specs.World.{oral_kind}
 use Rattle.explore.specs.Orders.{IsOrder, order_of}
 use Rattle.explore.specs.Text.{schedule_text}
 use Rattle.explore.specs.Walks.{IsCompletion, IsStuckIn}
+use Rattle.retracing.specs.Reading.{IsReadAs}
 use Rattle.retracing.specs.declared.fault.AccessFault.{AccessFault}
 use Rattle.retracing.specs.declared.fault.AccessFault.TheVariants.{Text, Never}
 use Rattle.retracing.specs.declared.fault.AccessesError.{AccessesError}
@@ -25,13 +26,14 @@ until (names ∷ rows) (suc round) place = names ∷ until rows round place
 abbrev pub listed_at : List (List ℕ) → ℕ → ℕ → Option ℕ
 listed_at rows round place = option_and_then (λ row. slice_get row place) (slice_get rows round)
 
--- an order has the rounds before this one, and begins it with the accesses up to this place
+-- an order has just the listed rounds before this one, and begins it with the accesses up to this place
 abbrev pub BeginsSo : List (List ℕ) → ℕ → ℕ → List (List ℕ) → Type 0
 BeginsSo (names ∷ rows) zero place (row ∷ order) = (rest : List ℕ) × (row ≡ take (suc place) names ++ rest)
 BeginsSo (names ∷ rows) (suc round) place (row ∷ order) = (row ≡ names) × BeginsSo rows round place order
 BeginsSo _ _ _ _ = ⊥
 
--- the accesses before this one can come, with it they cannot: he is to make none then, and no complete run has it there
+-- the accesses before this one can come, and behind them, in each earlier round with the others' by number, he is to make none; so no complete run
+-- that has just the listed rounds before has it there
 pub record IsFirstThatCannot (s : Scenario) (rows : List (List ℕ)) (round place : ℕ) : Type 0 where
   pub stuck : IsStuckIn oral_kind (opening oral_kind s) rows round place
   pub before : IsCompletion (until rows round place) (order_of oral_kind s (replayed oral_kind s (until rows round place)))
@@ -41,6 +43,7 @@ pub record IsFirstThatCannot (s : Scenario) (rows : List (List ℕ)) (round plac
 pub record IsArrangement (s : Scenario) (rows : List (List ℕ)) (lines : List ℕ) : Type 0 where
   pub schedule : List (List Repeat)
   pub written : lines ≡ schedule_text schedule
+  pub read : IsReadAs lines schedule
   pub comes : IsCompletion rows (order_of oral_kind s (listed s (lines_by schedule)))
 
 abbrev pub IsArranged : Scenario → List ℕ → List ℕ → Type 0

@@ -10,6 +10,7 @@ use Rattle.world.specs.Schedules.{lines_by}
 use Rattle.world.specs.World.{opening, run}
 use Rattle.explore.specs.Text.{schedule_text}
 use Rattle.trace.specs.Names.{chronicle_told}
+use Rattle.retracing.specs.Reading.{IsReadAs}
 
 -- the accesses of a complete run
 abbrev pub IsLedgerOfRun : Scenario → List Access → Type 0
@@ -24,4 +25,5 @@ ComesAgain s accesses schedule =
 pub record IsRetraced (s : Scenario) (text lines : List ℕ) : Type 0 where
   pub schedule : List (List Repeat)
   pub written : lines ≡ schedule_text schedule
+  pub read : IsReadAs lines schedule
   pub again : chronicle_of (run (opening s) (listed s (lines_by schedule))) ≡ chronicle_told s text

@@ -1,5 +1,5 @@
 //! Schedules by which generals come to the board in an order that is listed.
-ghost use Rattle.std.specs.Prelude.{◌≡◌, ◌∷◌, ℕ, List, [], Ok, Err, IfErr, IfOk, OnOk, string_bytes};
+ghost use Rattle.std.specs.Prelude.{◌≡◌, ◌≤◌, ◌∷◌, ℕ, List, [], Ok, Err, IfErr, IfOk, OnOk, string_bytes, vec_len};
 ghost use Rattle.retracing.specs.Accesses.{accesses_told, general_of, row_told, slash};
 ghost use Rattle.retracing.specs.Arranged.{IfFault, IsArranged, IsListedAt, IsNever, IsUnarranged};
 ghost use Rattle.text.specs.Parts.{pieces};
@@ -7,6 +7,7 @@ ghost use Rattle.text.specs.Stop.{space};
 ghost use Rattle.world.specs.Playing.{lists_in};
 
 use crate::fault::{AccessFault, AccessesError};
+use crate::recalling::recall_short;
 use explore::{Scheduled, schedule_names, schedule_text};
 use round::Scenario;
 use std::alloc::{AllocError, Global};
@@ -66,6 +67,7 @@ fn row_of(alloc: Global, round: u64, text: &[u8]) -> Result<Vec<u8>, AccessesErr
 #[tactic(auto, unfolding(crate::specs::Accesses::accesses_told))]
 fn accesses_of(alloc: Global, text: &str) -> Result<Vec<Vec<u8>>, AccessesError>
     ensures told { IfOk result (λ rows. accesses_told text.now ≡ Ok (lists_in rows.items)) }
+    ensures few { IfOk result (λ rows. vec_len rows ≤ 5) }
     ensures fault { IfErr result (λ e. IfFault e (λ fault. accesses_told text.now ≡ Err fault)) }
 {
     let mut rows = Vec::new(alloc);
@@ -100,7 +102,8 @@ fn never(rows: &[Vec<u8>], round: usize, place: usize) -> AccessFault
 
 /// The text of a schedule, one entry for each access, by which the generals come to the board in the order that this text lists:
 /// in each round the listed ones make their accesses first, and then all go to their ends. Rounds are parted by slashes, and
-/// the generals of a round by spaces.
+/// the generals of a round by spaces. The text is read as its schedule, unless it has more than the 1,048,576 bytes that a
+/// schedule may have.
 ///
 /// # Errors
 ///
@@ -110,6 +113,7 @@ pub fn arranged(alloc: Global, scenario: &Scenario, text: &str) -> Result<String
     ensures unarranged { IfErr result (λ e. IfFault e (IsUnarranged scenario.now text.now)) }
 {
     scenario.recall();
+    recall_short(scenario);
     let rows = accesses_of(alloc, text)?;
     match schedule_names(alloc, scenario.copy(alloc)?, rows.as_slice())? {
         Scheduled::By(schedule) => Ok(schedule_text(alloc, &schedule)?),

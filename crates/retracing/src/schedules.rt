@@ -1,10 +1,13 @@
 //! Schedules by which campaigns come again.
 ghost use Rattle.std.specs.Prelude.{◌≡◌, ◌≢◌, IfOk, IfErr, string_bytes};
+ghost use Rattle.explore.specs.Text.{schedule_text};
+ghost use Rattle.retracing.specs.Reading.{IsReadAs};
 ghost use Rattle.retracing.specs.Retraced.{ComesAgain, IsLedgerOfRun, IsRetraced};
 ghost use Rattle.trace.specs.Audit.{IsFaultOf};
 ghost use Rattle.trace.specs.Laws.{IsSoundText};
 ghost use Rattle.trace.specs.declared.fault.TraceError.TheVariants.{Memory};
 
+use crate::recalling::recall_short;
 use board::Access;
 use explore::{Scheduled, order_in, schedule_names, schedule_text};
 use round::Scenario;
@@ -13,7 +16,8 @@ use trace::{TraceError, sound_chronicle};
 use world::Schedule;
 
 /// The text of a schedule, one entry for each access, by which the scenario's campaign has the chronicle that this text
-/// tells: in each round the generals make their accesses in its order, and then all go to their ends.
+/// tells: in each round the generals make their accesses in its order, and then all go to their ends. It is read as that
+/// schedule, unless it has more than the 1,048,576 bytes that a schedule may have.
 ///
 /// # Errors
 ///
@@ -41,9 +45,11 @@ pub fn schedule_of(
     accesses: &[Access],
 ) -> Result<Schedule, AllocError>
     requires { IsLedgerOfRun scenario.now accesses.now }
-    ensures { IfOk result (λ schedule. ComesAgain scenario.now accesses.now schedule) }
+    ensures again { IfOk result (λ schedule. ComesAgain scenario.now accesses.now schedule) }
+    ensures read { IfOk result (λ schedule. IsReadAs (schedule_text schedule) schedule) }
 {
     scenario.recall();
+    recall_short(scenario);
     let order = order_in(alloc, accesses, scenario.bound() as u8 + 1)?;
     match schedule_names(alloc, scenario.copy(alloc)?, order.as_slice())? {
         Scheduled::By(schedule) => Ok(schedule),

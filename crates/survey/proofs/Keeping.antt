@@ -1,12 +1,8 @@
 -- Where the bound is kept, all is well.
-use Rattle.std.proofs.Common.{ℕ, ◌≡◌, ◌≢◌, Bool, true, false, List, [], ◌∷◌, refl, Option, None, Some}
+use Rattle.std.proofs.Common.{◌≡◌, ◌≢◌, Bool, true, false, [], ◌∷◌, refl, Option, None, Some}
 use Rattle.std.specs.Prelude.{◌&&◌, not}
-use Rattle.std.specs.List.{AllZip}
 use Rattle.world.specs.declared.verdict.Verdict.{Verdict}
 use Rattle.world.specs.Promises.{IsWellUnderBound}
-use Rattle.survey.specs.declared.finding.Finding.{Finding}
-use Rattle.survey.specs.Family.{Family}
-use Rattle.survey.specs.Judging.{IsFindingOf}
 use Rattle.survey.specs.Laws.{KeptAreSound}
 use Rattle.survey.specs.Sums.{is_denied, is_sound}
 

@@ -5,3 +5,6 @@ pub mod Choosing
 pub mod Gathered
 pub mod LineLemmas
 pub mod Keeping
+pub mod Cuts
+pub mod Heads
+pub mod PartLemmas

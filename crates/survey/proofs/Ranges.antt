@@ -1,5 +1,5 @@
 -- Lists that are gathered number by number.
-use Rattle.std.proofs.Common.{ℕ, Bool, cond, ◌+◌, ◌-◌, ◌<◌, ◌≤◌, ◌≡◌, List, [], ◌∷◌, ◌++◌, refl, sym, ap, ◌∙◌, arith, add-one}
+use Rattle.std.proofs.Common.{ℕ, Bool, cond, ◌+◌, ◌-◌, ◌≤◌, ◌≡◌, List, [], ◌∷◌, ◌++◌, sym, ap, ◌∙◌, arith, add-one}
 use Rattle.std.specs.Prelude.{count_by}
 use Rattle.std.specs.List.{AllZip, flat_map, range_with_len}
 use Rattle.std.proofs.lemmas.List.Sums.{sum_by-append}

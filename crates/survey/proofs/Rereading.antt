@@ -1,41 +1,15 @@
 -- A line is read as what it was written of.
-use Rattle.std.proofs.Common.{ℕ, ◌≡◌, ◌<◌, ◌^◌, Bool, true, false, List, ◌∷◌, ◌++◌, refl, sym, ap, ◌∙◌, arith, codes, Option, None, Some, drop}
-use Rattle.std.specs.Prelude.{decimal, nat_lt, not, bytes_eq}
-use Rattle.std.specs.List.{list_all}
+use Rattle.std.proofs.Common.{ℕ, ◌≡◌, ◌<◌, ◌^◌, Bool, true, false, List, refl, ap, ◌∙◌, arith, codes, Option, None, Some}
+use Rattle.std.specs.Prelude.{decimal}
 use Rattle.std.proofs.lemmas.Bool.{lt-ltb}
-use Rattle.std.proofs.lemmas.Bool.Decides.{nat_tests}
-use Rattle.text.specs.Number.{decimal_of}
-use Rattle.text.specs.Parts.{before, from}
-use Rattle.text.specs.Stop.{colon, comma, is_stop, is_within}
-use Rattle.text.specs.declared.stop.Stop.{Stop}
+use Rattle.text.specs.Stop.{comma}
 use Rattle.text.specs.declared.stop.Stop.TheVariants.{Byte}
-use Rattle.text.proofs.BytesLemmas.{all-weaker}
-use Rattle.text.proofs.CutLemmas.{Lacks, before-append, from-append}
-use Rattle.text.proofs.DecimalLemmas.{decimal_of-decimal, digits-decimal}
+use Rattle.text.proofs.CutLemmas.{Lacks}
+use Rattle.text.proofs.DecimalLemmas.{decimal_of-decimal}
 use Rattle.survey.specs.declared.finding.Finding.{Finding}
 use Rattle.survey.specs.Lines.{AreNumbers, answer_text, flag_text, line_text, member}
+use Rattle.survey.proofs.Cuts.{decimal_lacks_brace, decimal_lacks_comma, rest_of, word_of}
 use Rattle.survey.specs.Reading.{answer_told, flag_told, found_by, line_told, number_told, rest, word}
-
-word_of : (stop : Stop) (front w : List ℕ) (c : ℕ) (behind : List ℕ) → Lacks colon front → Lacks stop w → is_stop stop c ≡ true → word stop (member front w (c ∷ behind)) ≡ w
-word_of stop front w c behind free none is =
-    ap (λ x. before stop (drop 1 x)) (from-append colon front 58 (w ++ c ∷ behind) free refl) ∙ before-append stop w c behind none is
-
-rest_of : (stop : Stop) (front w : List ℕ) (c : ℕ) (behind : List ℕ) → Lacks colon front → Lacks stop w → is_stop stop c ≡ true → rest stop (member front w (c ∷ behind)) ≡ c ∷ behind
-rest_of stop front w c behind free none is =
-    ap (λ x. from stop (drop 1 x)) (from-append colon front 58 (w ++ c ∷ behind) free refl) ∙ from-append stop w c behind none is
-
--- no stop stands in a word
-no_comma : (c : ℕ) → is_within 48 57 c ≡ true → not (is_stop comma c) ≡ true
-no_comma c h = grind (arith, nat_tests)
-
-no_brace : (c : ℕ) → is_within 48 57 c ≡ true → not (is_stop (Byte 125) c) ≡ true
-no_brace c h = grind (arith, nat_tests)
-
-decimal_lacks_comma : (n : ℕ) → n < 2 ^ 64 → Lacks comma (decimal n)
-decimal_lacks_comma n lt = all-weaker (is_within 48 57) (λ c. not (is_stop comma c)) no_comma (decimal n) (digits-decimal n lt)
-
-decimal_lacks_brace : (n : ℕ) → n < 2 ^ 64 → Lacks (Byte 125) (decimal n)
-decimal_lacks_brace n lt = all-weaker (is_within 48 57) (λ c. not (is_stop (Byte 125) c)) no_brace (decimal n) (digits-decimal n lt)
 
 flag_lacks : (b : Bool) → Lacks comma (flag_text b)
 flag_lacks true = refl

@@ -1,6 +1,6 @@
 -- Sums of parts.
-use Rattle.std.proofs.Common.{ℕ, ◌+◌, ◌≡◌, Bool, true, false, cond, List, [], ◌∷◌, ◌++◌, length, refl, sym, ap, ◌∙◌, arith, length-append, Option, None, Some}
-use Rattle.std.specs.Prelude.{min, count_by}
+use Rattle.std.proofs.Common.{ℕ, ◌+◌, ◌≡◌, cond, List, [], ◌∷◌, ◌++◌, length, refl, sym, ap, ◌∙◌, arith, length-append, Option, None, Some}
+use Rattle.std.specs.Prelude.{count_by}
 use Rattle.std.proofs.lemmas.List.Sums.{sum_by-append}
 use Rattle.survey.specs.declared.finding.Finding.{Finding}
 use Rattle.survey.specs.declared.sums.Outcome.{Outcome}

@@ -1,6 +1,5 @@
 -- Families of campaigns (own).
 use Rattle.std.specs.Prelude.{ℕ, ◌≤◌, Option, IfSome}
-use Rattle.combine.specs.declared.chosen.Rule.{Rule}
 use Rattle.survey.specs.declared.adversary.Adversary.{Adversary}
 use Rattle.survey.specs.declared.span.Span.{Span}
 use Rattle.survey.specs.declared.manner.Manner.{Manner}

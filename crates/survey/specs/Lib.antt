@@ -6,5 +6,7 @@ pub mod Wording
 pub mod Judging
 pub mod Sums
 pub mod Lines
+pub mod Heads
+pub mod Parts
 pub mod Reading
 pub mod Laws

@@ -1,5 +1,5 @@
 -- The line of what a campaign comes to: an object of JSON (RFC 8259), its members by their names, ascending.
-use Rattle.std.specs.Prelude.{ℕ, ◌≡◌, ◌<◌, ◌^◌, Bool, true, false, List, ◌∷◌, ◌++◌, flat_map, decimal, codes, Option, None, Some}
+use Rattle.std.specs.Prelude.{ℕ, ◌<◌, ◌^◌, Bool, true, false, List, ◌∷◌, ◌++◌, decimal, codes, Option, None, Some}
 use Rattle.survey.specs.declared.finding.Finding.{Finding}
 
 abbrev pub flag_text : Bool → List ℕ

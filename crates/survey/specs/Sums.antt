@@ -1,5 +1,5 @@
 -- Sums of what campaigns come to (own).
-use Rattle.std.specs.Prelude.{ℕ, ◌≡◌, ◌+◌, min, Bool, true, false, ◌&&◌, not, cond, List, [], ◌∷◌, ◌++◌, length, count_by, Option, None, Some}
+use Rattle.std.specs.Prelude.{ℕ, ◌≡◌, ◌+◌, min, Bool, false, ◌&&◌, not, cond, List, [], ◌∷◌, ◌++◌, length, count_by, Option, None, Some}
 use Rattle.world.specs.declared.verdict.Verdict.{Verdict}
 use Rattle.survey.specs.declared.finding.Finding.{Finding}
 use Rattle.survey.specs.declared.sums.Outcome.{Outcome}

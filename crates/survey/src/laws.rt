@@ -1,4 +1,5 @@
 //! Laws of surveys: each function does nothing, and its contract is the law.
+ghost use Rattle.survey.specs.Heads.{HeadsTellFamilies};
 ghost use Rattle.survey.specs.Laws.{KeptAreSound};
 ghost use Rattle.survey.specs.Sums.{SumsOfParts};
 
@@ -11,4 +12,9 @@ pub fn sums_of_parts()
 /// ordered.
 pub fn kept_are_sound()
     ensures { KeptAreSound }
+{}
+
+/// Families whose lines have the same head have the same campaigns, seed by seed.
+pub fn heads_tell_families()
+    ensures { HeadsTellFamilies }
 {}

@@ -52,7 +52,7 @@ unfoldable pub name : Group → List ℕ
 name g = codes "n = " ++ (decimal g.generals ++ (codes ", m = " ++ (decimal g.bound ++ codes "</text>")))
 
 unfoldable pub base : ℕ → List ℕ
-base row = codes "<path class=\"base\" d=\"M120 " ++ (decimal (80 + 44 * row) ++ codes "h700\"/>")
+base row = codes "<path class=\"base\" d=\"M120 " ++ (decimal (74 + 44 * row) ++ codes "h700\"/>")
 
 unfoldable pub limit : ℕ → Group → List ℕ
 limit row g = codes "<path class=\"limit\" d=\"M" ++ (decimal (120 + 50 * ((g.generals - 1) / 3 + 1)) ++ (codes " " ++ (decimal (44 + 44 * row) ++ codes "v44\"/>\n")))
@@ -68,7 +68,7 @@ start_of row g false = []
 unfoldable pub kept : ℕ → Group → List ℕ
 kept row g =
     cond (g.sums.kept.count == 0) []
-    (codes "<rect class=\"kept\" x=\"" ++ (decimal (120 + 50 * g.traitors) ++ (codes "\" y=\"" ++ (decimal (44 + 44 * row) ++ codes "\" width=\"50\" height=\"44\"/>"))))
+    (codes "<rect class=\"kept\" x=\"" ++ (decimal (120 + 50 * g.traitors) ++ (codes "\" y=\"" ++ (decimal (44 + 44 * row) ++ codes "\" width=\"50\" height=\"44\"/>\n"))))
 
 -- of the whole so much as fail of the campaigns
 abbrev pub share_of : ℕ → Group → ℕ
@@ -82,7 +82,7 @@ unfoldable pub side : Group → List ℕ
 side g = codes "<rect class=\"bar\" x=\"" ++ (decimal (125 + 50 * g.traitors) ++ codes "\"")
 
 unfoldable pub rise : ℕ → ℕ → List ℕ
-rise row height = codes " y=\"" ++ (decimal (80 + 44 * row - height) ++ (codes "\" width=\"40\" height=\"" ++ (decimal height ++ codes "\"/></g>")))
+rise row height = codes " y=\"" ++ (decimal (74 + 44 * row - height) ++ (codes "\" width=\"40\" height=\"" ++ (decimal height ++ codes "\"/></g>")))
 
 abbrev pub bar : ℕ → Group → List ℕ
 bar row g = side g ++ rise row (share_of 28 g)
@@ -91,12 +91,19 @@ unfoldable pub percent : Group → List ℕ
 percent g = cond (share_of 100 g == 0 && nat_lt 0 g.failed) (codes "&lt;1%") (decimal (share_of 100 g) ++ codes "%")
 
 unfoldable pub place : ℕ → Group → List ℕ
-place row g = codes "<text class=\"share\" x=\"" ++ (decimal (145 + 50 * g.traitors) ++ (codes "\" y=\"" ++ (decimal (86 + 44 * row) ++ codes "\">")))
+place row g = codes "<text class=\"share\" x=\"" ++ (decimal (145 + 50 * g.traitors) ++ (codes "\" y=\"" ++ (decimal (85 + 44 * row) ++ codes "\">")))
 
 abbrev pub cell : ℕ → Group → List ℕ
-cell row g = kept row g ++ counts g ++ bar row g ++ place row g ++ percent g ++ codes "</text>\n"
+cell row g = counts g ++ bar row g ++ place row g ++ percent g ++ codes "</text>\n"
 
--- the groups, from the row and the group before them on
+-- the grounds of the groups, from the row and the group before them on; they lie below all lines
+abbrev pub grounds : ℕ → Option Group → List Group → List ℕ
+grounds row before [] = []
+grounds row before (g ∷ groups) =
+    let here = row + cond (begins before g) 1 0 in
+    kept here g ++ grounds here (Some g) groups
+
+-- the groups themselves
 abbrev pub cells : ℕ → Option Group → List Group → List ℕ
 cells row before [] = []
 cells row before (g ∷ groups) =
@@ -104,4 +111,4 @@ cells row before (g ∷ groups) =
     start_of here g (begins before g) ++ cell here g ++ cells here (Some g) groups
 
 unfoldable pub picture_text : List Group → List ℕ
-picture_text groups = start ++ size (94 + 44 * rows_of groups) ++ head ++ columns ++ cells 0 None groups ++ codes "</svg>\n"
+picture_text groups = start ++ size (94 + 44 * rows_of groups) ++ head ++ columns ++ grounds 0 None groups ++ cells 0 None groups ++ codes "</svg>\n"

@@ -1,7 +1,7 @@
 //! The sums of a survey as a picture in SVG: in how many campaigns the loyal fail, over the number of traitors.
 ghost use Rattle.std.specs.Prelude.{◌≡◌, ◌++◌, ◌<◌, IfOk, None, OnOk, string_bytes};
 ghost use Rattle.survey_tables.specs.Groups.{groups_of};
-ghost use Rattle.survey_tables.specs.Pictures.{bar, base, begins, cell, cells, column, columns, counts, head, kept, label, limit, name, percent, picture_text, place, rise, rows_of, share_of, side, size, stand, start, start_of};
+ghost use Rattle.survey_tables.specs.Pictures.{bar, base, begins, cell, cells, column, columns, counts, grounds, head, kept, label, limit, name, percent, picture_text, place, rise, rows_of, share_of, side, size, stand, start, start_of};
 
 use crate::group::Group;
 use crate::grouping::groups;
@@ -113,7 +113,7 @@ fn put_name(out: &mut String, group: &Group) -> Result<(), AllocError>
 fn put_base(out: &mut String, row: u64) -> Result<(), AllocError>
     ensures { OnOk result (string_bytes out.new ≡ string_bytes out.old ++ base row) }
 {
-    let y = 80 + 44 * u128::from(row);
+    let y = 74 + 44 * u128::from(row);
     write!(out, "<path class=\"base\" d=\"M120 {y}h700\"/>")
 }
 
@@ -160,7 +160,7 @@ fn put_kept(out: &mut String, row: u64, group: &Group) -> Result<(), AllocError>
     let y = 44 + 44 * u128::from(row);
     write!(
         out,
-        "<rect class=\"kept\" x=\"{x}\" y=\"{y}\" width=\"50\" height=\"44\"/>"
+        "<rect class=\"kept\" x=\"{x}\" y=\"{y}\" width=\"50\" height=\"44\"/>\n"
     )
 }
 
@@ -187,7 +187,7 @@ fn put_side(out: &mut String, group: &Group) -> Result<(), AllocError>
 fn put_rise(out: &mut String, row: u64, height: u128) -> Result<(), AllocError>
     ensures { OnOk result (string_bytes out.new ≡ string_bytes out.old ++ rise row height) }
 {
-    let y = (80 + 44 * u128::from(row)).saturating_sub(height);
+    let y = (74 + 44 * u128::from(row)).saturating_sub(height);
     write!(out, " y=\"{y}\" width=\"40\" height=\"{height}\"/></g>")
 }
 
@@ -217,7 +217,7 @@ fn put_place(out: &mut String, row: u64, group: &Group) -> Result<(), AllocError
     ensures { OnOk result (string_bytes out.new ≡ string_bytes out.old ++ place row group.now) }
 {
     let x = 145 + 50 * u64::from(group.traitors);
-    let y = 86 + 44 * u128::from(row);
+    let y = 85 + 44 * u128::from(row);
     write!(out, "<text class=\"share\" x=\"{x}\" y=\"{y}\">")
 }
 
@@ -225,12 +225,27 @@ fn put_place(out: &mut String, row: u64, group: &Group) -> Result<(), AllocError
 fn put_cell(out: &mut String, row: u64, group: &Group) -> Result<(), AllocError>
     ensures { OnOk result (string_bytes out.new ≡ string_bytes out.old ++ cell row group.now) }
 {
-    put_kept(out, row, group)?;
     put_counts(out, group)?;
     put_bar(out, row, group)?;
     put_place(out, row, group)?;
     put_percent(out, group)?;
     out.push_str("</text>\n")
+}
+
+/// Adds the grounds of the groups, row by row.
+fn put_grounds(out: &mut String, groups: &[Group]) -> Result<(), AllocError>
+    ensures { OnOk result (string_bytes out.new ≡ string_bytes out.old ++ grounds 0 None groups.now) }
+{
+    let mut row: u64 = 0;
+    let mut before = None;
+    for group in groups {
+        if begins(before, group) {
+            row += 1;
+        }
+        put_kept(out, row, group)?;
+        before = Some(*group);
+    }
+    Ok(())
 }
 
 /// Adds what a row begins with, if the group begins one.
@@ -271,6 +286,7 @@ fn drawn(alloc: Global, groups: &[Group]) -> Result<String, AllocError>
     put_size(&mut out, 94 + 44 * u128::from(rows_of(groups)))?;
     out.push_str(head())?;
     put_columns(&mut out)?;
+    put_grounds(&mut out, groups)?;
     put_groups(&mut out, groups)?;
     out.push_str("</svg>\n")?;
     Ok(out)

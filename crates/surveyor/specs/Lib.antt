@@ -1,3 +1,5 @@
 pub mod Numbers
 pub mod Asked
 pub mod Words
+pub mod Printed
+pub mod Summed

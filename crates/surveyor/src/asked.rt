@@ -100,6 +100,8 @@ const BREAK: &str = "--break is printed, or with --table as a table alone";
 
 const MERGE: &str = "--sum plays nothing: beside it stand --seeds, --table and --svg alone";
 
+const ONCE: &str = "standard input is read once";
+
 const KEEP: &str = "--break keeps nothing: what it prints can be sent to a file";
 
 /// An option with a value.
@@ -377,6 +379,9 @@ fn merge_of(alloc: Global, found: &ArgMatches, names: &[&str]) -> Result<Merge, 
     let shape = printed(found).map_err(AskedError::Value)?;
     if does_play(found) || shape == Shape::Lines || shape == Shape::Least {
         return Err(AskedError::Value(MERGE));
+    }
+    if names.iter().filter(|name| **name == "-").count() > 1 {
+        return Err(AskedError::Value(ONCE));
     }
     let seeds = match found.get_str("seeds") {
         None => None,

@@ -4,12 +4,11 @@ ghost use Rattle.surveyor.specs.Asked.{IsSurvey};
 ghost use Rattle.surveyor.specs.Words.{IsFamilyOf, IsNamed};
 
 use crate::asked::Survey;
+use crate::input::bytes_of;
 use crate::telling::Fault;
 use asm::assemble;
 use codec::encode;
 use std::alloc::Global;
-use std::fs::read_to_string;
-use std::io::ErrorKind;
 use survey::{Adversary, Family};
 use verify::{VerifyError, verify};
 
@@ -45,15 +44,14 @@ fn adversary_of(rt: &HostRuntime, word: &str) -> Result<Adversary, Fault>
     }
 }
 
-/// The bytecode of a file of assembly, in hex. The verifier must accept it.
+/// The bytecode of a file of assembly, or of standard input, in hex. The verifier must accept it.
 fn hex_of(rt: &HostRuntime, name: &str) -> Result<String, Fault> {
     let alloc = rt.alloc();
-    let text = match read_to_string(rt, name) {
-        Ok(text) => text,
-        Err(error) if error.kind() == ErrorKind::OutOfMemory => return Err(Fault::Memory),
-        Err(_) => return Err(Fault::Unread(String::from_str(alloc, name)?)),
+    let bytes = bytes_of(rt, name)?;
+    let Ok(text) = str::from_utf8(bytes.as_slice()) else {
+        return Err(Fault::Unread(String::from_str(alloc, name)?));
     };
-    let program = match assemble(alloc, text.as_str()) {
+    let program = match assemble(alloc, text) {
         Ok(program) => program,
         Err(error) => return Err(Fault::Refused(format!(in alloc; "refused {error}")?)),
     };

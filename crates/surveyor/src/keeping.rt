@@ -1,6 +1,6 @@
 //! Campaigns that are kept in a folder.
 use crate::telling::Fault;
-use std::fs::{File, remove_file, rename};
+use std::fs::{File, OpenOptions, create_dir, metadata, remove_file, rename};
 use std::io::{self, ErrorKind, Write};
 
 /// Writes the campaign of a seed to FOLDER/SEED.toml: beside it first, so that no half of it ever stands there;
@@ -8,48 +8,65 @@ use std::io::{self, ErrorKind, Write};
 ///
 /// # Errors
 ///
-/// The file cannot be written.
+/// The file cannot be written, or one stands where it is to be written first.
 pub fn keep(rt: &HostRuntime, folder: &str, seed: u64, text: &str) -> Result<(), Fault> {
     let alloc = rt.alloc();
     let name = format!(in alloc; "{folder}/{seed}.toml")?;
     let beside = format!(in alloc; "{folder}/.{seed}.toml.new")?;
-    match written(rt, beside.as_str(), name.as_str(), text) {
+    let written = match new_file(rt, beside.as_str()) {
+        Ok(file) => moved(rt, file, beside.as_str(), name.as_str(), text),
+        Err(error) => Err(error),
+    };
+    match written {
         Ok(()) => Ok(()),
         Err(error) if error.kind() == ErrorKind::OutOfMemory => Err(Fault::Memory),
-        Err(_) => {
-            let _ = remove_file(rt, beside.as_str());
-            Err(Fault::Unwritten(Some(name)))
-        }
+        Err(_) => Err(Fault::Unwritten(Some(name))),
     }
 }
 
-/// Writes a file to the folder, and takes it away again.
+/// Makes the folder of this name, where there is none, and tries whether it takes files.
 ///
 /// # Errors
 ///
-/// The folder is not there, or takes no file.
-pub fn try_folder(rt: &HostRuntime, folder: &str) -> Result<(), Fault> {
+/// It is no folder and cannot be made, or it takes no file.
+pub fn open_folder(rt: &HostRuntime, folder: &str) -> Result<(), Fault> {
     let alloc = rt.alloc();
     let name = format!(in alloc; "{folder}/.survey.new")?;
-    match tried(rt, name.as_str()) {
+    match opened(rt, folder, name.as_str()) {
         Ok(()) => Ok(()),
         Err(error) if error.kind() == ErrorKind::OutOfMemory => Err(Fault::Memory),
         Err(_) => Err(Fault::Unwritten(Some(String::from_str(alloc, folder)?))),
     }
 }
 
-/// Writes a file, and takes it away again.
-fn tried(rt: &HostRuntime, name: &str) -> io::Result<()> {
-    let file = File::create(rt, name)?;
+/// Makes the folder, where there is none, writes a file of this name, and takes it away again.
+fn opened(rt: &HostRuntime, folder: &str, name: &str) -> io::Result<()> {
+    if metadata(rt, folder).is_err() {
+        create_dir(rt, folder)?;
+    }
+    let file = new_file(rt, name)?;
     drop(file);
     remove_file(rt, name)
 }
 
-/// Writes a file beside its name, and gives it that name.
-fn written(rt: &HostRuntime, beside: &str, name: &str, text: &str) -> io::Result<()> {
-    let mut file = File::create(rt, beside)?;
-    file.write_all(text.as_bytes())?;
-    file.flush()?;
+/// A file of this name that was not there.
+fn new_file(rt: &HostRuntime, name: &str) -> io::Result<File> {
+    OpenOptions::new()
+        .write(true)
+        .create_new(true)
+        .open(rt, name)
+}
+
+/// Writes a file beside its name, and gives it that name; where that fails, it is taken away.
+fn moved(rt: &HostRuntime, mut file: File, beside: &str, name: &str, text: &str) -> io::Result<()> {
+    let filled = file.write_all(text.as_bytes());
     drop(file);
-    rename(rt, beside, name)
+    let written = match filled {
+        Ok(()) => rename(rt, beside, name),
+        Err(error) => Err(error),
+    };
+    if written.is_err() {
+        let _ = remove_file(rt, beside);
+    }
+    written
 }

@@ -3,7 +3,9 @@
 #![tactic(auto)]
 
 mod asked;
+mod breaking;
 mod family;
+mod input;
 mod keeping;
 mod numbers;
 mod pieces;
@@ -15,7 +17,7 @@ mod surveying;
 mod telling;
 
 use asked::{Asked, AskedError, request};
-use shrinking::broken;
+use breaking::broken;
 use std::process::ExitCode;
 use std::thread::Threads;
 use std::{env, io};
@@ -40,9 +42,15 @@ fn called<T: Threads + Sync>(rt: &HostRuntime, threads: &T) -> Result<u8, Fault>
         texts.push(word.as_str())?;
     }
     match request(alloc, texts.as_slice()) {
-        Ok(Asked::Survey(survey)) => surveyed(rt, threads, &survey),
-        Ok(Asked::Break(survey, is_table)) => broken(rt, threads, &survey, is_table),
-        Ok(Asked::Merge(merge)) => summed(rt, &merge),
+        Ok(Asked::Survey(survey)) => {
+            surveyed(rt, threads, &mut rt.stdout(), &survey)?;
+            Ok(0)
+        }
+        Ok(Asked::Break(survey, is_table)) => {
+            broken(rt, threads, &mut rt.stdout(), &survey, is_table)?;
+            Ok(0)
+        }
+        Ok(Asked::Merge(merge)) => summed(rt, &mut rt.stdout(), &merge),
         Err(AskedError::Words(error)) => Ok(unasked(rt, error)?),
         Err(AskedError::Value(why)) => {
             let _ = rt.eprintln(format_args!("error: {why}"));

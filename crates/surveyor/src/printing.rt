@@ -1,8 +1,12 @@
 //! What is printed.
+ghost use Rattle.std.specs.Prelude.{◌≡◌, IfOk, OnOk, string_bytes};
+ghost use Rattle.std.specs.Io.KnownBytes.{Appends};
+ghost use Rattle.surveyor.specs.Printed.{summary_text};
+
 use crate::asked::Shape;
 use crate::telling::Fault;
 use std::alloc::{AllocError, Global};
-use std::io::Write;
+use streams::Output;
 use survey::Finding;
 use survey_tables::{picture, sums_text, table};
 
@@ -10,11 +14,12 @@ use survey_tables::{picture, sums_text, table};
 ///
 /// # Errors
 ///
-/// Standard output takes no more.
-pub fn print(rt: &HostRuntime, text: &str) -> Result<(), Fault> {
-    let mut stdout = rt.stdout();
-    stdout.write_all(text.as_bytes())?;
-    Ok(stdout.flush()?)
+/// The output takes no more.
+pub fn print<O: Output>(out: &mut O, text: &str) -> Result<(), Fault>
+    ensures { OnOk result (Appends (O.contents out.old) (O.contents out.new) text.now) }
+{
+    out.put(text.as_bytes())?;
+    Ok(())
 }
 
 /// What is told of campaigns in this shape, where it is told at the end.
@@ -22,11 +27,30 @@ pub fn print(rt: &HostRuntime, text: &str) -> Result<(), Fault> {
 /// # Errors
 ///
 /// `AllocError` where memory is refused.
-pub fn summary(alloc: Global, shape: Shape, findings: &[Finding]) -> Result<String, AllocError> {
+fn summary(alloc: Global, shape: Shape, findings: &[Finding]) -> Result<String, AllocError>
+    ensures { IfOk result (λ text. string_bytes text ≡ summary_text shape findings.now) }
+{
     match shape {
         Shape::Sums => sums_text(alloc, findings),
         Shape::Table => table(alloc, findings),
         Shape::Picture => picture(alloc, findings),
         Shape::Lines | Shape::Least => Ok(String::new(alloc)),
     }
+}
+
+/// Prints what is told of campaigns in this shape, where it is told at the end.
+///
+/// # Errors
+///
+/// The output takes no more, or want of memory.
+pub fn put_summary<O: Output>(
+    alloc: Global,
+    out: &mut O,
+    shape: Shape,
+    findings: &[Finding],
+) -> Result<(), Fault>
+    ensures { OnOk result (Appends (O.contents out.old) (O.contents out.new) (summary_text shape findings.now)) }
+{
+    let text = summary(alloc, shape, findings)?;
+    print(out, text.as_str())
 }

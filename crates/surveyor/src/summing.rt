@@ -1,10 +1,14 @@
 //! What files tell.
+ghost use Rattle.std.specs.Prelude.{◌≡◌, ◌≢◌, IfOk, IfSome, Some, length};
+ghost use Rattle.surveyor.specs.Summed.{IsCoveredBy, IsSummed, IsTold, span_of};
+
 use crate::asked::Merge;
-use crate::printing::{print, summary};
+use crate::input::bytes_of;
+use crate::printing::put_summary;
 use crate::telling::Fault;
-use std::fs::read;
-use std::io::ErrorKind;
-use survey::{Finding, read_line};
+use std::alloc::{AllocError, Global};
+use streams::Output;
+use survey::{Finding, PartError, Parts, read_part};
 use survey_tables::{Stretch, doubles, holes};
 
 /// Prints what the lines of files come to, and says on standard error which seeds lack, and which stand there more than once.
@@ -13,56 +17,73 @@ use survey_tables::{Stretch, doubles, holes};
 /// # Errors
 ///
 /// What keeps it from its end.
-pub fn summed(rt: &HostRuntime, asked: &Merge) -> Result<u8, Fault> {
+pub fn summed<O: Output>(rt: &HostRuntime, out: &mut O, asked: &Merge) -> Result<u8, Fault>
+    ensures { IfOk result (IsSummed asked.now (O.contents out.old) (O.contents out.new)) }
+{
     let alloc = rt.alloc();
-    let mut all = Vec::new(alloc);
-    for name in &asked.names {
-        let bytes = match read(rt, name.as_str()) {
-            Ok(bytes) => bytes,
-            Err(error) if error.kind() == ErrorKind::OutOfMemory => return Err(Fault::Memory),
-            Err(_) => return Err(Fault::Unread(String::from_str(alloc, name.as_str())?)),
-        };
-        add_lines(rt, asked, name.as_str(), bytes.as_slice(), &mut all)?;
-    }
-    print(rt, summary(alloc, asked.shape, all.as_slice())?.as_str())?;
-    covered(rt, asked, all.as_slice())
+    let parts = told(rt, asked)?;
+    let findings = parts.findings.as_slice();
+    put_summary(alloc, out, asked.shape, findings)?;
+    covered(rt, asked.seeds, findings)
 }
 
-/// Adds what the lines of a file tell.
-fn add_lines(
-    rt: &HostRuntime,
-    asked: &Merge,
-    name: &str,
-    bytes: &[u8],
-    all: &mut Vec<Finding>,
-) -> Result<(), Fault> {
+/// What the lines of the files tell.
+fn told(rt: &HostRuntime, asked: &Merge) -> Result<Parts, Fault>
+    ensures { IfOk result (λ parts. IsTold asked.now parts.head.items parts.findings.items) }
+{
     let alloc = rt.alloc();
-    let mut number: u64 = 0;
-    for line in bytes.split_inclusive(|byte| *byte == b'\n') {
-        number = number.saturating_add(1);
-        match read_line(alloc, line)? {
-            Some(finding) if is_asked(asked, finding.seed) => all.push(finding)?,
-            Some(finding) => {
-                let seed = finding.seed;
-                let told = format!(in alloc;
-                    "refused {name} line {number}: seed {seed} is none of --seeds"
-                )?;
-                return Err(Fault::Refused(told));
-            }
-            None => {
-                return Err(Fault::Refused(format!(in alloc; "refused {name} line {number}")?));
+    let mut parts = Parts {
+        head: Vec::new(alloc),
+        findings: Vec::new(alloc),
+    };
+    let mut first: Option<&String> = None;
+    for name in &asked.names {
+        let bytes = bytes_of(rt, name.as_str())?;
+        if parts.head.is_empty() {
+            first = Some(name);
+        }
+        match read_part(alloc, &mut parts, bytes.as_slice(), span_of(asked.seeds)) {
+            Ok(()) => {}
+            Err(error) => {
+                let first = first.unwrap_or(name);
+                return Err(refused(alloc, name.as_str(), first.as_str(), error));
             }
         }
     }
-    Ok(())
+    Ok(parts)
 }
 
-/// Whether a seed is one of those that are said, if some are.
-fn is_asked(asked: &Merge, seed: u64) -> bool {
-    match asked.seeds {
-        None => true,
-        Some((first, last)) => first <= seed && seed <= last,
+/// The first and the last seed that may be told: all, where none are said.
+fn span_of(seeds: Option<(u64, u64)>) -> (u64, u64)
+    ensures { result ≡ span_of seeds }
+{
+    match seeds {
+        None => (0, u64::MAX),
+        Some(seeds) => seeds,
     }
+}
+
+/// Why a file is no part of the survey that the first one with lines begins.
+fn refused(alloc: Global, name: &str, first: &str, error: PartError) -> Fault {
+    match refusal(alloc, name, first, error) {
+        Ok(fault) => fault,
+        Err(_) => Fault::Memory,
+    }
+}
+
+/// The line that says why.
+fn refusal(alloc: Global, name: &str, first: &str, error: PartError) -> Result<Fault, AllocError> {
+    let line = match error {
+        PartError::Line(number) => format!(in alloc; "refused {name} line {number}")?,
+        PartError::Family(number) => format!(in alloc;
+            "refused {name} line {number}: another family than that of {first}"
+        )?,
+        PartError::Seed(number, seed) => format!(in alloc;
+            "refused {name} line {number}: seed {seed} is none of --seeds"
+        )?,
+        PartError::Memory => return Ok(Fault::Memory),
+    };
+    Ok(Fault::Refused(line))
 }
 
 /// The least and the greatest seed of these campaigns.
@@ -78,21 +99,45 @@ fn ends(all: &[Finding]) -> Option<(u64, u64)> {
     ends
 }
 
+/// The seeds that are asked for: those that are said or, where none are, those from the least to the greatest that is told.
+fn asked_for(seeds: Option<(u64, u64)>, all: &[Finding]) -> Option<(u64, u64)>
+    ensures { IfSome seeds (λ s. result ≡ Some s) }
+{
+    match seeds {
+        Some(seeds) => Some(seeds),
+        None => ends(all),
+    }
+}
+
+/// The exit status where these seeds lack, and these are double.
+fn status_of(holes: &[Stretch], doubles: &[Stretch]) -> u8
+    ensures well { result ≡ 0 → (length holes.now ≡ 0) × (length doubles.now ≡ 0) }
+    ensures ill { result ≢ 0 → result ≡ 1 }
+{
+    if !holes.is_empty() {
+        return 1;
+    }
+    if !doubles.is_empty() {
+        return 1;
+    }
+    0
+}
+
 /// Says which seeds lack, and which stand there more than once. The result is the exit status.
-fn covered(rt: &HostRuntime, asked: &Merge, all: &[Finding]) -> Result<u8, Fault> {
+fn covered(rt: &HostRuntime, seeds: Option<(u64, u64)>, all: &[Finding]) -> Result<u8, Fault>
+    ensures { IfOk result (IsCoveredBy seeds all.now) }
+{
     let alloc = rt.alloc();
-    let Some((first, last)) = asked.seeds.or(ends(all)) else {
+    let span = asked_for(seeds, all);
+    let Some((first, last)) = span else {
         return Ok(0);
     };
     let holes = holes(alloc, all, first, last)?;
     let doubles = doubles(alloc, all)?;
+    let status = status_of(holes.as_slice(), doubles.as_slice());
     tell_stretches(rt, "hole", holes.as_slice());
     tell_stretches(rt, "double", doubles.as_slice());
-    Ok(if holes.is_empty() && doubles.is_empty() {
-        0
-    } else {
-        1
-    })
+    Ok(status)
 }
 
 /// Says these stretches, as `--seeds` takes them.

@@ -1,48 +1,57 @@
 //! The campaigns of a survey.
+ghost use Rattle.std.specs.Prelude.{◌≡◌, ◌≢◌, ◌++◌, OnOk};
+ghost use Rattle.std.specs.Io.KnownBytes.{Appends};
 ghost use Rattle.surveyor.specs.Asked.{IsSurvey};
+ghost use Rattle.surveyor.specs.Printed.{IsPrinted, IsSurveyed, added, head_in, lines_in};
 
 use crate::asked::{Shape, Survey};
 use crate::family::family_of;
-use crate::keeping::{keep, try_folder};
+use crate::keeping::{keep, open_folder};
 use crate::pieces::{at_once, refused};
-use crate::printing::{print, summary};
-use crate::progress::tell_progress;
+use crate::printing::{print, put_summary};
+use crate::progress::Progress;
 use crate::shrinking::shrunken;
 use crate::telling::Fault;
 use std::thread::Threads;
-use survey::{Family, Finding, campaign_text, is_sound, survey};
+use streams::Output;
+use survey::{Family, Finding, campaign_text, head, is_sound, survey};
 use survey_tables::lines_text;
 
-/// Plays the campaigns of a survey, and prints what is asked for. The result is the exit status.
+/// Plays the campaigns of a survey, and prints what is asked for.
 ///
 /// # Errors
 ///
 /// What keeps it from its end.
-pub fn surveyed<T: Threads + Sync>(
+pub fn surveyed<T: Threads + Sync, O: Output>(
     rt: &HostRuntime,
     threads: &T,
+    out: &mut O,
     asked: &Survey,
-) -> Result<u8, Fault>
+) -> Result<(), Fault>
     requires { IsSurvey asked.now }
+    ensures { OnOk result (IsSurveyed asked.now (O.contents out.old) (O.contents out.new)) }
 {
     let family = family_of(rt, asked)?;
     if let Some(folder) = &asked.keep {
-        try_folder(rt, folder.as_str())?;
+        open_folder(rt, folder.as_str())?;
     }
     if asked.shape == Shape::Least {
-        return shrunken(rt, threads, asked, &family);
+        return shrunken(rt, threads, out, asked, &family);
     }
-    played(rt, threads, asked, &family)
+    played(rt, threads, out, asked, &family)
 }
 
 /// Plays the campaigns, and prints their lines or what they come to.
-fn played<T: Threads + Sync>(
+fn played<T: Threads + Sync, O: Output>(
     rt: &HostRuntime,
     threads: &T,
+    out: &mut O,
     asked: &Survey,
     family: &Family,
-) -> Result<u8, Fault>
-    requires { IsSurvey asked.now }
+) -> Result<(), Fault>
+    requires asked { IsSurvey asked.now }
+    requires shape { asked.now.shape ≢ Shape.Least }
+    ensures { OnOk result (IsPrinted asked.now family.now (O.contents out.old) (O.contents out.new)) }
 {
     let alloc = rt.alloc();
     let end = asked.last + 1;
@@ -50,22 +59,23 @@ fn played<T: Threads + Sync>(
     let mut all: Vec<Finding> = Vec::new(alloc);
     let mut next = asked.first;
     let mut broken: u64 = 0;
-    for _ in 0..(end - asked.first) / many + 1 {
-        if next < end {
-            let until = next.saturating_add(many).min(end);
-            let found = match survey(threads, alloc, family, next, until) {
-                Ok(found) => found,
-                Err(error) => return Err(refused(next, until, error)),
-            };
-            put(rt, asked, family, found.as_slice())?;
-            broken = broken.saturating_add(broken_in(found.as_slice()));
-            add(asked, &mut all, found.as_slice())?;
-            next = until;
-            tell_progress(rt, asked.first, next.saturating_sub(1), asked.last, broken)?;
-        }
+    let mut progress = Progress::of(rt, asked.first, asked.last);
+    put_head(rt, out, asked.shape, family)?;
+    while next < end {
+        let until = next.saturating_add(many).min(end);
+        let found = match survey(threads, alloc, family, next, until) {
+            Ok(found) => found,
+            Err(error) => return Err(refused(next, until, error)),
+        };
+        put_lines(rt, out, asked.shape, found.as_slice())?;
+        keep_broken(rt, asked, family, found.as_slice())?;
+        broken = broken.saturating_add(broken_in(found.as_slice()));
+        add(asked.shape, &mut all, found.as_slice())?;
+        next = until;
+        progress.tell(next.saturating_sub(1), broken)?;
     }
-    print(rt, summary(alloc, asked.shape, all.as_slice())?.as_str())?;
-    Ok(0)
+    let told = all.as_slice();
+    put_summary(alloc, out, asked.shape, told)
 }
 
 /// In how many of the campaigns agreement is broken, or the order disobeyed.
@@ -80,29 +90,60 @@ fn broken_in(found: &[Finding]) -> u64 {
 }
 
 /// Adds campaigns to those that are summed, unless lines are printed alone.
-fn add(asked: &Survey, all: &mut Vec<Finding>, found: &[Finding]) -> Result<(), Fault> {
-    if asked.shape == Shape::Lines {
+fn add(shape: Shape, all: &mut Vec<Finding>, found: &[Finding]) -> Result<(), Fault>
+    ensures { OnOk result (all.new.items ≡ all.old.items ++ added shape found.now) }
+{
+    if shape == Shape::Lines {
         return Ok(());
     }
-    for finding in found {
-        all.push(*finding)?;
-    }
+    all.extend_from_slice(found)?;
     Ok(())
 }
 
-/// Prints the lines of these campaigns, where lines are asked for, and keeps those in which agreement is
-/// broken, or the order disobeyed.
-fn put(rt: &HostRuntime, asked: &Survey, family: &Family, found: &[Finding]) -> Result<(), Fault> {
-    let alloc = rt.alloc();
-    if asked.shape == Shape::Lines {
-        print(rt, lines_text(alloc, found)?.as_str())?;
+/// Prints the head of lines, where lines are asked for.
+fn put_head<O: Output>(
+    rt: &HostRuntime,
+    out: &mut O,
+    shape: Shape,
+    family: &Family,
+) -> Result<(), Fault>
+    ensures { OnOk result (Appends (O.contents out.old) (O.contents out.new) (head_in shape family.now)) }
+{
+    if shape != Shape::Lines {
+        return Ok(());
     }
-    if let Some(folder) = &asked.keep {
-        for finding in found {
-            if !is_sound(finding.verdict) {
-                let text = campaign_text(alloc, family, finding.seed)?;
-                keep(rt, folder.as_str(), finding.seed, text.as_str())?;
-            }
+    print(out, head(rt.alloc(), family)?.as_str())
+}
+
+/// Prints the lines of these campaigns, where lines are asked for.
+fn put_lines<O: Output>(
+    rt: &HostRuntime,
+    out: &mut O,
+    shape: Shape,
+    found: &[Finding],
+) -> Result<(), Fault>
+    ensures { OnOk result (Appends (O.contents out.old) (O.contents out.new) (lines_in shape found.now)) }
+{
+    if shape != Shape::Lines {
+        return Ok(());
+    }
+    print(out, lines_text(rt.alloc(), found)?.as_str())
+}
+
+/// Keeps those of the campaigns in which agreement is broken, or the order disobeyed, where a folder is named.
+fn keep_broken(
+    rt: &HostRuntime,
+    asked: &Survey,
+    family: &Family,
+    found: &[Finding],
+) -> Result<(), Fault> {
+    let Some(folder) = &asked.keep else {
+        return Ok(());
+    };
+    for finding in found {
+        if !is_sound(finding.verdict) {
+            let text = campaign_text(rt.alloc(), family, finding.seed)?;
+            keep(rt, folder.as_str(), finding.seed, text.as_str())?;
         }
     }
     Ok(())

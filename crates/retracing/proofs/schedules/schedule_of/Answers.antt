@@ -1,5 +1,24 @@
-use Rattle.retracing.proofs.Retracing.{few}
+use Rattle.std.proofs.Common.{◌≡◌, ◌≤◌, ◌+◌, ◌∙◌, List, ℕ, length, ap, subst, arith}
+use Rattle.round.specs.Scenario.{Scenario}
+use Rattle.world.specs.Kind.{opening}
+use Rattle.world.specs.Playing.{lists_in}
+use Rattle.world.specs.World.{oral_kind}
+use Rattle.explore.specs.declared.scheduled.Scheduled.TheVariants.{By}
+use Rattle.explore.specs.Planning.{IsScheduleOf}
+use Rattle.retracing.proofs.Retracing.{few, names_count, read_of}
 use Rattle.retracing.proofs.schedules.schedule_of.Goals as goal
 
 pub order_in-requires : goal.order_in-requires
 order_in-requires c = few c.args.scenario.now c.args.accesses.now c.recall.ensures c.requires
+
+pub returns-clause-read : goal.returns-clause-read
+returns-clause-read c =
+    let s = c.args.scenario.now in
+    let given : lists_in c.as_slice.result.now ≡ lists_in c.in_ok-order.order.items = ap lists_in c.as_slice.ensures.value in
+    let made = subst (λ (t : Scenario). IsScheduleOf oral_kind (opening oral_kind t) (lists_in c.as_slice.result.now) (By c.in-By.schedule)) c.in_ok-copy.ensures
+    (rw c.in-By.is at c.in_ok-schedule.ensures.made) in
+    let count : length (lists_in c.as_slice.result.now) ≡ c.bound.result + 1 = ap length (given ∙ c.in_ok-order.ensures) ∙ names_count 1 c.args.accesses.now (c.bound.result + 1) in
+    let bound = c.bound.ensures.same in
+    let rounds = c.recall.ensures.rounds in
+    let short : length (lists_in c.as_slice.result.now) ≤ 5 = omega arith in
+    read_of s (lists_in c.as_slice.result.now) c.in-By.schedule c.recall.ensures c.recall_short.ensures short made

@@ -1,4 +1,4 @@
-use Rattle.std.proofs.Common.{ℕ, ◌++◌}
+use Rattle.std.proofs.Common.{ℕ}
 use Rattle.survey.specs.Plotting.{drawn_for, signed_lies}
 use Rattle.survey.proofs.Ranges.{range_pieces}
 use Rattle.survey.proofs.plotting.signed_of.Goals as goal

@@ -1,9 +1,5 @@
-use Rattle.std.proofs.Common.{ℕ, ◌+◌, ◌-◌, ◌≡◌, ◌++◌, ◌∷◌, [], true, false, List, map, ap, ◌∙◌, arith, append_assoc}
-use Rattle.std.specs.Prelude.{nat_lt}
-use Rattle.survey.specs.Draws.{draw}
-use Rattle.survey.specs.Family.{Family}
-use Rattle.survey.specs.Plot.{Traitor}
-use Rattle.survey.specs.Plotting.{chosen, traitor_of}
+use Rattle.std.proofs.Common.{◌∙◌, arith}
+use Rattle.survey.specs.Plotting.{traitor_of}
 use Rattle.survey.proofs.Choosing.{chosen_on, passed_on}
 use Rattle.survey.proofs.plotting.traitors_of.Goals as goal
 use Rattle.survey.proofs.plotting.traitors_of.Goals.{then-is_chosen+in_ok-traitor_of+in_ok-push, else-is_chosen}

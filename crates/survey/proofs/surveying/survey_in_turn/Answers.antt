@@ -1,6 +1,5 @@
 use Rattle.std.proofs.Common.{◌+◌, ◌-◌, ◌≡◌, arith}
 use Rattle.std.specs.Prelude.{min}
-use Rattle.std.specs.List.{AllZip, range_with_len}
 use Rattle.survey.specs.Judging.{IsFindingOf}
 use Rattle.survey.proofs.Ranges.{zip_on}
 use Rattle.survey.proofs.surveying.survey_in_turn.Goals as goal

@@ -1,0 +1,17 @@
+//! A call that does nothing but look: it recalls, for the proof of its caller, what the type of its argument keeps.
+ghost use Rattle.std.specs.Prelude.{◌≡◌, ◌≤◌, ℕ, List, Some, length};
+ghost use Rattle.insn.specs.declared.insn.Insn.{Insn};
+ghost use Rattle.round.specs.Scenario.{program_of};
+
+use round::Scenario;
+
+/// Does nothing. No program of a scenario has more than 4,096 instructions.
+pub(crate) fn recall_short(scenario: &Scenario)
+    ensures { (g : ℕ) (program : List Insn) → program_of scenario.now g ≡ Some program → length program ≤ 4096 }
+{
+    for general in 0..scenario.generals() {
+        if let Some(program) = scenario.seat(general).program() {
+            let _instructions = program.program().len();
+        }
+    }
+}

@@ -1,0 +1,108 @@
+//! The head of lines: the family whose campaigns they tell.
+ghost use Rattle.std.specs.Prelude.{◌≡◌, ◌++◌, IfOk, OnOk, string_bytes};
+ghost use Rattle.survey.specs.Heads.{adversary_word, head_end, head_front, head_middle, head_text, is_head, manner_word, patience_word};
+
+use crate::adversary::Adversary;
+use crate::family::Family;
+use crate::manner::Manner;
+use crate::putting::put_numbered;
+use crate::span::Span;
+use combine::Rule;
+use std::alloc::{AllocError, Global};
+
+/// What the traitors do.
+fn adversary_word(alloc: Global, adversary: &Adversary) -> Result<String, AllocError>
+    ensures { IfOk result (λ word. string_bytes word ≡ adversary_word adversary.now) }
+{
+    match adversary {
+        Adversary::Lies => String::from_str(alloc, "\"lies\""),
+        Adversary::Silent => String::from_str(alloc, "\"silent\""),
+        Adversary::Collude => String::from_str(alloc, "\"collude\""),
+        Adversary::Given(hex) => format!(in alloc; "\"0x{hex}\""),
+    }
+}
+
+/// How orders are sent.
+fn manner_word(manner: Manner) -> &'static str
+    ensures { result.now ≡ manner_word manner }
+{
+    match manner {
+        Manner::Oral(Rule::Majority) => "\"majority\"",
+        Manner::Oral(Rule::Median) => "\"median\"",
+        Manner::Signed => "\"signed\"",
+    }
+}
+
+/// For how long traitors are waited for.
+fn patience_word(alloc: Global, patience: Option<u32>) -> Result<String, AllocError>
+    ensures { IfOk result (λ word. string_bytes word ≡ patience_word patience) }
+{
+    match patience {
+        None => String::from_str(alloc, "null"),
+        Some(steps) => format!(in alloc; "{steps}"),
+    }
+}
+
+/// Adds a word behind its name.
+fn put_word(out: &mut String, name: &str, word: &str) -> Result<(), AllocError>
+    ensures { OnOk result (string_bytes out.new ≡ string_bytes out.old ++ name.now ++ word.now) }
+{
+    out.push_str(name)?;
+    out.push_str(word)
+}
+
+/// Adds for how many traitors generals provide, and how many generals there are.
+fn put_front(out: &mut String, bound: Span, generals: Span) -> Result<(), AllocError>
+    ensures { OnOk result (string_bytes out.new ≡ string_bytes out.old ++ head_front bound generals) }
+{
+    put_numbered(out, ",\"bound_high\":", u64::from(bound.high))?;
+    put_numbered(out, ",\"bound_low\":", u64::from(bound.low))?;
+    put_numbered(out, ",\"generals_high\":", u64::from(generals.high))?;
+    put_numbered(out, ",\"generals_low\":", u64::from(generals.low))?;
+    Ok(())
+}
+
+/// Adds how orders are sent, and for how long traitors are waited for.
+fn put_middle(out: &mut String, manner: &str, patience: &str) -> Result<(), AllocError>
+    ensures { OnOk result (string_bytes out.new ≡ string_bytes out.old ++ head_middle manner.now patience.now) }
+{
+    put_word(out, ",\"line\":\"family\",\"manner\":", manner)?;
+    put_word(out, ",\"patience\":", patience)?;
+    Ok(())
+}
+
+/// Adds how many traitors there are, and the end of the line.
+fn put_end(out: &mut String, traitors: Span) -> Result<(), AllocError>
+    ensures { OnOk result (string_bytes out.new ≡ string_bytes out.old ++ head_end traitors) }
+{
+    put_numbered(out, ",\"traitors_high\":", u64::from(traitors.high))?;
+    put_numbered(out, ",\"traitors_low\":", u64::from(traitors.low))?;
+    out.push_str("}\n")?;
+    Ok(())
+}
+
+/// The head of lines that tell the family's campaigns: an object of JSON, and a line feed.
+///
+/// # Errors
+///
+/// `AllocError` where memory is refused.
+pub fn head(alloc: Global, family: &Family) -> Result<String, AllocError>
+    ensures { IfOk result (λ text. string_bytes text ≡ head_text family.now) }
+{
+    let adversary = adversary_word(alloc, family.adversary())?;
+    let patience = patience_word(alloc, family.patience())?;
+    let mut out = String::new(alloc);
+    put_word(&mut out, "{\"adversary\":", adversary.as_str())?;
+    put_front(&mut out, family.bound(), family.generals())?;
+    put_middle(&mut out, manner_word(family.manner()), patience.as_str())?;
+    put_end(&mut out, family.traitors())?;
+    Ok(out)
+}
+
+/// Whether a line begins as a head does.
+pub(crate) fn is_head(line: &[u8]) -> bool
+    ensures { result ≡ is_head line.now }
+{
+    let front = &line[..line.len().min(13)];
+    front == b"{\"adversary\":".as_slice()
+}

@@ -1,0 +1,138 @@
+//! Parts of a survey, read line by line.
+ghost use Rattle.std.specs.Prelude.{◌≡◌, ◌≢◌, ◌↔◌, ◌++◌, ◌∷◌, ℕ, List, [], IfSome, IsTrue, OnOk};
+ghost use Rattle.survey.specs.Heads.{IsHead};
+ghost use Rattle.survey.specs.Parts.{Adds, AddsAll, IsReadOn, IsSized};
+
+use crate::finding::Finding;
+use crate::heading::is_head;
+use crate::parts::{PartError, Parts};
+use crate::reading::read_line;
+use std::alloc::{AllocError, Global};
+use text::{Stop, find};
+
+/// The first line, with its line feed, and what stands behind it; none where no line feed is there.
+fn first_line(bytes: &[u8]) -> Option<(&[u8], &[u8])>
+    ensures line { IfSome result (λ cut. (front : List ℕ) × (cut.0.now ≡ front ++ 10 ∷ [])) }
+    ensures whole { IfSome result (λ cut. bytes.now ≡ cut.0.now ++ cut.1.now) }
+{
+    let end = find(Stop::Byte(b'\n'), bytes);
+    if end < bytes.len() {
+        return Some(bytes.split_at(end + 1));
+    }
+    None
+}
+
+/// Takes the head of a part, which must be that of the parts before.
+fn take_head(head: &mut Vec<u8>, line: &[u8]) -> Result<(), PartError>
+    ensures taken { OnOk result (head.new.items ≡ line.now) }
+    ensures same { OnOk result (head.old.items ≢ [] → head.new.items ≡ head.old.items) }
+{
+    if head.is_empty() {
+        head.extend_from_slice(line)?;
+        return Ok(());
+    }
+    if head.as_slice() == line {
+        return Ok(());
+    }
+    Err(PartError::Family(1))
+}
+
+/// Whether a campaign has these numbers.
+fn is_sized(finding: &Finding) -> bool
+    ensures { IsTrue result ↔ IsSized finding.now }
+{
+    finding.generals <= 13
+        && finding.bound <= 4
+        && finding.bound + 2 <= finding.generals
+        && finding.traitors <= u64::from(finding.generals)
+}
+
+/// Adds the campaign that the line of this number tells, of one of the seeds from the first to the last, if it is not the head
+/// once more.
+fn add_row(
+    alloc: Global,
+    head: &[u8],
+    number: u64,
+    line: &[u8],
+    seeds: (u64, u64),
+    findings: &mut Vec<Finding>,
+) -> Result<(), PartError>
+    requires { IsHead head.now }
+    ensures { OnOk result (Adds head.now line.now seeds.0 seeds.1 findings.old.items findings.new.items) }
+{
+    if is_head(line) {
+        if line == head {
+            return Ok(());
+        }
+        return Err(PartError::Family(number));
+    }
+    let Some(finding) = read_line(alloc, line)? else {
+        return Err(PartError::Line(number));
+    };
+    if !is_sized(&finding) {
+        return Err(PartError::Line(number));
+    }
+    let seed = finding.seed;
+    if seed < seeds.0 || seeds.1 < seed {
+        return Err(PartError::Seed(number, seed));
+    }
+    findings.push(finding)?;
+    Ok(())
+}
+
+/// Adds the campaigns that lines behind a head tell, from the second line on.
+fn add_rows(
+    alloc: Global,
+    head: &[u8],
+    lines: &[u8],
+    seeds: (u64, u64),
+    findings: &mut Vec<Finding>,
+) -> Result<(), PartError>
+    requires { IsHead head.now }
+    ensures { OnOk result (AddsAll head.now lines.now seeds.0 seeds.1 findings.old.items findings.new.items) }
+{
+    let mut rest = lines;
+    let mut number: u64 = 2;
+    while !rest.is_empty() {
+        let Some((line, behind)) = first_line(rest) else {
+            return Err(PartError::Line(number));
+        };
+        add_row(alloc, head, number, line, seeds, findings)?;
+        rest = behind;
+        number = number.saturating_add(1);
+    }
+    Ok(())
+}
+
+/// Reads a part of a survey behind others: its first line is the head, which is theirs, and the other lines are those of
+/// campaigns of the seeds from the first to the last, or the head again. An empty text is a part too.
+///
+/// # Errors
+///
+/// The first line that is none of these, or want of memory.
+pub fn read_part(
+    alloc: Global,
+    parts: &mut Parts,
+    bytes: &[u8],
+    seeds: (u64, u64),
+) -> Result<(), PartError>
+    ensures { OnOk result (IsReadOn parts.old.head.items parts.new.head.items bytes.now seeds.0 seeds.1 parts.old.findings.items parts.new.findings.items) }
+{
+    if bytes.is_empty() {
+        return Ok(());
+    }
+    let Some((line, behind)) = first_line(bytes) else {
+        return Err(PartError::Line(1));
+    };
+    if !is_head(line) {
+        return Err(PartError::Line(1));
+    }
+    take_head(&mut parts.head, line)?;
+    add_rows(
+        alloc,
+        parts.head.as_slice(),
+        behind,
+        seeds,
+        &mut parts.findings,
+    )
+}

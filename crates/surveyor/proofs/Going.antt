@@ -1,0 +1,132 @@
+-- A survey goes on piece by piece.
+use Rattle.std.proofs.Common.{ℕ, zero, suc, ◌+◌, ◌-◌, ◌≤◌, ◌≡◌, ◌≢◌, List, [], ◌∷◌, ◌++◌, refl, sym, ap, subst, ◌∙◌, arith, append_assoc, append-nil, Option}
+use Rattle.std.specs.Prelude.{flat_map}
+use Rattle.std.specs.List.{AllZip, range_with_len}
+use Rattle.std.specs.Io.KnownBytes.{Appends}
+use Rattle.std.proofs.KnownBytes.{Appends-trans}
+use Rattle.rayon.proofs.ListFacts.{AllZip-append}
+use Rattle.survey.specs.declared.finding.Finding.{Finding}
+use Rattle.survey.specs.Family.{Family}
+use Rattle.survey.specs.Judging.{IsFindingOf}
+use Rattle.survey.specs.Lines.{line_text}
+use Rattle.surveyor.specs.declared.asked.Shape.{Shape}
+use Rattle.surveyor.specs.declared.asked.Shape.TheVariants.{Sums, Lines, Table, Picture, Least}
+use Rattle.surveyor.specs.declared.asked.Survey.{Survey}
+use Rattle.surveyor.specs.Printed.{IsPlayed, IsPrinted, IsToldIn, added, head_in, lines_in, summary_text}
+
+-- numbers up to a middle, and from there on
+range_both : (a n m : ℕ) → range_with_len a (n + m) ≡ range_with_len a n ++ range_with_len (a + n) m
+range_both a zero m = (let e : a ≡ a + 0 = omega arith in let f : 0 + m ≡ m = omega arith in λ i. range_with_len (e i) (f i))
+range_both a (suc n) m =
+    let e : suc n + m ≡ suc (n + m) = omega arith in
+    let f : a + 1 + n ≡ a + suc n = omega arith in
+    ap (range_with_len a) e ∙ (ap (λ (l : List ℕ). a ∷ l) (range_both (a + 1) n m) ∙ (λ i. a ∷ (range_with_len (a + 1) n ++ range_with_len (f i) m)))
+
+pub zip_both : {B : Type 0} (R : ℕ → B → Type 0) (a b c : ℕ) (xs ys : List B) → a ≤ b → b ≤ c → AllZip R (range_with_len a (b - a)) xs → AllZip R (range_with_len b (c - b)) ys → AllZip R (range_with_len a (c - a)) (xs ++ ys)
+zip_both R a b c xs ys low high h k =
+    let whole : c - a ≡ (b - a) + (c - b) = omega arith in
+    let middle : a + (b - a) ≡ b = omega arith in
+    let cut : range_with_len a (c - a) ≡ range_with_len a (b - a) ++ range_with_len b (c - b) = ap (range_with_len a) whole ∙ (range_both a (b - a) (c - b) ∙ (λ i. range_with_len a (b - a) ++ range_with_len (middle i) (c - b))) in
+    subst (λ (l : List ℕ). AllZip R l (xs ++ ys)) (sym cut) (AllZip-append R (range_with_len a (b - a)) (range_with_len b (c - b)) xs ys h k)
+
+texts_both : (xs ys : List Finding) → flat_map line_text (xs ++ ys) ≡ flat_map line_text xs ++ flat_map line_text ys
+texts_both [] ys = refl
+texts_both (x ∷ xs) ys = ap (λ (l : List ℕ). line_text x ++ l) (texts_both xs ys) ∙ sym (append_assoc (line_text x) (flat_map line_text xs) (flat_map line_text ys))
+
+lines_both : (shape : Shape) (xs ys : List Finding) → lines_in shape (xs ++ ys) ≡ lines_in shape xs ++ lines_in shape ys
+lines_both Sums xs ys = refl
+lines_both Lines xs ys = texts_both xs ys
+lines_both Table xs ys = refl
+lines_both Picture xs ys = refl
+lines_both Least xs ys = refl
+
+no_lines : (shape : Shape) → lines_in shape [] ≡ []
+no_lines Sums = refl
+no_lines Lines = refl
+no_lines Table = refl
+no_lines Picture = refl
+no_lines Least = refl
+
+none_added : (shape : Shape) → added shape [] ≡ []
+none_added Sums = refl
+none_added Lines = refl
+none_added Table = refl
+none_added Picture = refl
+none_added Least = refl
+
+added_both : (shape : Shape) (xs ys : List Finding) → added shape (xs ++ ys) ≡ added shape xs ++ added shape ys
+added_both Sums xs ys = refl
+added_both Lines xs ys = refl
+added_both Table xs ys = refl
+added_both Picture xs ys = refl
+added_both Least xs ys = refl
+
+summed_added : (shape : Shape) (found : List Finding) → summary_text shape (added shape found) ≡ summary_text shape found
+summed_added Sums found = refl
+summed_added Lines found = refl
+summed_added Table found = refl
+summed_added Picture found = refl
+summed_added Least found = refl
+
+-- the campaigns up to the next seed are played, and what there is to print of them so far is printed
+pub record IsUnderWay (s : Survey) (f : Family) (start now : Option (List ℕ)) (next : ℕ) (all : List Finding) : Type 0 where
+  pub from : s.first ≤ next
+  pub until : next ≤ s.last + 1
+  pub found : List Finding
+  pub so_far : AllZip (IsFindingOf f) (range_with_len s.first (next - s.first)) found
+  pub kept : all ≡ added s.shape found
+  pub written : Appends start now (head_in s.shape f ++ lines_in s.shape found)
+
+pub begins : (s : Survey) (f : Family) (start now : Option (List ℕ)) (next : ℕ) (all : List Finding) → next ≡ s.first → s.first ≤ s.last → all ≡ [] → Appends start now (head_in s.shape f) → IsUnderWay s f start now next all
+begins s f start now next all is some none head =
+    let zero_long : next - s.first ≡ 0 = omega arith in
+    let text : head_in s.shape f ≡ head_in s.shape f ++ lines_in s.shape [] = sym (append-nil (head_in s.shape f)) ∙ ap (λ (l : List ℕ). head_in s.shape f ++ l) (sym (no_lines s.shape)) in
+    record {
+      from = omega arith;
+      until = omega arith;
+      found = [];
+      so_far = subst (λ (n : ℕ). AllZip (IsFindingOf f) (range_with_len s.first n) []) (sym zero_long) tt;
+      kept = none ∙ sym (none_added s.shape);
+      written = subst (λ (l : List ℕ). Appends start now l) text head;
+    }
+
+pub goes : (s : Survey) (f : Family) (start now later : Option (List ℕ)) (next to : ℕ) (all more after : List Finding) → IsUnderWay s f start now next all → next ≤ to → to ≤ s.last + 1
+    → AllZip (IsFindingOf f) (range_with_len next (to - next)) more → Appends now later (lines_in s.shape more) → after ≡ all ++ added s.shape more → IsUnderWay s f start later to after
+goes s f start now later next to all more after w low high played lines is =
+    let from = w.from in
+    let front = head_in s.shape f ++ lines_in s.shape w.found in
+    let text : front ++ lines_in s.shape more ≡ head_in s.shape f ++ lines_in s.shape (w.found ++ more) =
+    append_assoc (head_in s.shape f) (lines_in s.shape w.found) (lines_in s.shape more) ∙ ap (λ (l : List ℕ). head_in s.shape f ++ l) (sym (lines_both s.shape w.found more)) in
+    record {
+      from = omega arith;
+      until = high;
+      found = w.found ++ more;
+      so_far = zip_both (IsFindingOf f) s.first next to w.found more from low w.so_far played;
+      kept = is ∙ (ap (λ (l : List Finding). l ++ added s.shape more) w.kept ∙ sym (added_both s.shape w.found more));
+      written = subst (λ (l : List ℕ). Appends start later l) text (Appends-trans start now later front (lines_in s.shape more) w.written lines);
+    }
+
+told_in : (shape : Shape) (s : Survey) (f : Family) (text : List ℕ) → shape ≢ Least → IsPlayed s f text → IsToldIn shape s f text
+told_in Sums s f text ne h = h
+told_in Lines s f text ne h = h
+told_in Table s f text ne h = h
+told_in Picture s f text ne h = h
+told_in Least s f text ne h = absurd (ne refl)
+
+pub ends : (s : Survey) (f : Family) (start now last : Option (List ℕ)) (next : ℕ) (all : List Finding) → s.shape ≢ Least → IsUnderWay s f start now next all → s.last + 1 ≤ next → Appends now last (summary_text s.shape all) → IsPrinted s f start last
+ends s f start now last next all ne w done summary =
+    let until = w.until in
+    let end : next ≡ s.last + 1 = omega arith in
+    let front = head_in s.shape f ++ lines_in s.shape w.found in
+    let same : summary_text s.shape all ≡ summary_text s.shape w.found = ap (summary_text s.shape) w.kept ∙ summed_added s.shape w.found in
+    let text : front ++ summary_text s.shape all ≡ head_in s.shape f ++ (lines_in s.shape w.found ++ summary_text s.shape w.found) =
+    ap (λ (l : List ℕ). front ++ l) same ∙ append_assoc (head_in s.shape f) (lines_in s.shape w.found) (summary_text s.shape w.found) in
+    record {
+      text = front ++ summary_text s.shape all;
+      told = told_in s.shape s f (front ++ summary_text s.shape all) ne (record {
+        found = w.found;
+        all = subst (λ (n : ℕ). AllZip (IsFindingOf f) (range_with_len s.first (n - s.first)) w.found) end w.so_far;
+        whole = text;
+      });
+      written = Appends-trans start now last front (summary_text s.shape all) w.written summary;
+    }

@@ -1,0 +1,37 @@
+use Rattle.std.proofs.Common.{◌+◌, ◌≤◌, ◌∙◌, ◌++◌, List, ap, subst, arith}
+use Rattle.std.proofs.lemmas.Result.{on_ok_weaker}
+use Rattle.std.specs.Io.KnownBytes.{Appends}
+use Rattle.survey.specs.declared.finding.Finding.{Finding}
+use Rattle.surveyor.specs.Printed.{added, lines_in, summary_text}
+use Rattle.surveyor.proofs.Going.{ends, goes}
+use Rattle.surveyor.proofs.surveying.played.Goals as goal
+
+pub loop-next-preserved : goal.loop-next-preserved
+loop-next-preserved g c =
+    let s = c.args.asked.now in
+    let now = g.O.Output.contents c.loop-next.out in
+    let later = g.O.Output.contents c.put_lines.new.out in
+    let a = c.min-until.ensures in
+    let b = c.saturating_add.ensures in
+    let t = c.loop-next-test.true in
+    let m = c.at_once-many.ensures in
+    let i = c.requires.asked.inside in
+    let low : c.loop-next.next ≤ c.min-until.result = omega arith in
+    let high : c.min-until.result ≤ s.last + 1 = omega arith in
+    goes s c.args.family.now (g.O.Output.contents c.args.out.now) now later c.loop-next.next c.min-until.result c.loop-next.all.items c.in-Ok.found.items c.add.new.all.items
+    c.loop-next.invariant low high c.in-Ok.ensures.found
+    (subst (λ (l : List Finding). Appends now later (lines_in s.shape l)) c.as_slice.ensures.value c.in_ok-put_lines.ensures)
+    (c.in_ok-add.ensures ∙ ap (λ (l : List Finding). c.loop-next.all.items ++ added s.shape l) c.as_slice-in-loop-next-3.ensures.value)
+
+pub returns : goal.returns
+returns g c =
+    let s = c.args.asked.now in
+    let now = g.O.Output.contents c.loop-next.out in
+    let last = g.O.Output.contents c.put_summary.new.out in
+    let t = c.loop-next-test.false in
+    let done : s.last + 1 ≤ c.loop-next.next = omega arith in
+    on_ok_weaker c.put_summary.result
+    (λ (told : Appends now last (summary_text s.shape c.as_slice-told.result.now)).
+    ends s c.args.family.now (g.O.Output.contents c.args.out.now) now last c.loop-next.next c.loop-next.all.items c.requires.shape c.loop-next.invariant done
+    (subst (λ (l : List Finding). Appends now last (summary_text s.shape l)) c.as_slice-told.ensures.value told))
+    c.put_summary.ensures

@@ -1,0 +1,9 @@
+use Rattle.std.proofs.Common.{◌-◌}
+use Rattle.surveyor.proofs.Going.{IsUnderWay}
+use Rattle.surveyor.proofs.surveying.played.Given as goal
+
+abbrev pub invariant-loop-next : goal.invariant-loop-next
+invariant-loop-next g l = IsUnderWay l.asked l.family (g.O.Output.contents l.fn.out) (g.O.Output.contents l.out) l.next l.all.items
+
+abbrev pub decreases-loop-next : goal.decreases-loop-next
+decreases-loop-next g l = l.end - l.next

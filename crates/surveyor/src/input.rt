@@ -1,0 +1,27 @@
+//! Files that are read.
+use crate::telling::Fault;
+use std::fs::read;
+use std::io::{self, ErrorKind, Read};
+
+/// All bytes of the file of this name, or of standard input where that is a hyphen.
+///
+/// # Errors
+///
+/// It cannot be read.
+pub fn bytes_of(rt: &HostRuntime, name: &str) -> Result<Vec<u8>, Fault> {
+    match taken(rt, name) {
+        Ok(bytes) => Ok(bytes),
+        Err(error) if error.kind() == ErrorKind::OutOfMemory => Err(Fault::Memory),
+        Err(_) => Err(Fault::Unread(String::from_str(rt.alloc(), name)?)),
+    }
+}
+
+/// The bytes, or why they are not read.
+fn taken(rt: &HostRuntime, name: &str) -> io::Result<Vec<u8>> {
+    if name != "-" {
+        return read(rt, name);
+    }
+    let mut bytes = Vec::new(rt.alloc());
+    rt.stdin().read_to_end(&mut bytes)?;
+    Ok(bytes)
+}
