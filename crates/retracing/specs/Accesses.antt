@@ -16,8 +16,8 @@ slash = Byte 47
 unfoldable pub general_of : List ℕ → Option ℕ
 general_of part = decimal_of part >>= λ n. if nat_lt n 13 then Some n else None
 
--- the generals of a round's parts, behind those before, where a part between two spaces may be empty; else the first part that is no
--- number of a general, in this round
+-- the generals of a round's parts, behind those before, where a part between two spaces may be empty; else the first
+-- part that is no number of a general, in this round
 abbrev pub with_general : ℕ → List ℕ → Option ℕ → (ℕ → Result (List ℕ) AccessFault) → Result (List ℕ) AccessFault
 with_general round before None rest = Err (Text round (suc (length before)))
 with_general round before (Some general) rest = rest general
@@ -25,16 +25,19 @@ with_general round before (Some general) rest = rest general
 abbrev pub row_told : ℕ → List ℕ → List (List ℕ) → Result (List ℕ) AccessFault
 row_told round before [] = Ok before
 row_told round before ([] ∷ parts) = row_told round before parts
-row_told round before ((c ∷ cs) ∷ parts) = with_general round before (general_of (c ∷ cs)) (λ general. row_told round (before ++ general ∷ []) parts)
+row_told round before ((c ∷ cs) ∷ parts) =
+    with_general round before (general_of (c ∷ cs)) (λ general. row_told round (before ++ general ∷ []) parts)
 
 -- the rounds from this one on, behind those before: a sixth one is none
-abbrev pub with_row : ℕ → Result (List ℕ) AccessFault → (List ℕ → Result (List (List ℕ)) AccessFault) → Result (List (List ℕ)) AccessFault
+abbrev pub with_row : ℕ → Result (List ℕ) AccessFault → (List ℕ → Result (List (List ℕ)) AccessFault) →
+    Result (List (List ℕ)) AccessFault
 with_row round (Err fault) rest = Err fault
 with_row round (Ok row) rest = if nat_lt 5 round then Err (Text round 1) else rest row
 
 abbrev pub rows_told : List (List ℕ) → ℕ → List (List ℕ) → Result (List (List ℕ)) AccessFault
 rows_told before round [] = Ok before
-rows_told before round (part ∷ parts) = with_row round (row_told round [] (pieces space part)) (λ row. rows_told (before ++ row ∷ []) (suc round) parts)
+rows_told before round (part ∷ parts) =
+    with_row round (row_told round [] (pieces space part)) (λ row. rows_told (before ++ row ∷ []) (suc round) parts)
 
 -- what a text lists: rounds parted by slashes, in each the generals who come, parted by spaces
 unfoldable pub accesses_told : List ℕ → Result (List (List ℕ)) AccessFault

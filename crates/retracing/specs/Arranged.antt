@@ -32,14 +32,16 @@ BeginsSo (names ∷ rows) zero place (row ∷ order) = (rest : List ℕ) × (row
 BeginsSo (names ∷ rows) (suc round) place (row ∷ order) = (row ≡ names) × BeginsSo rows round place order
 BeginsSo _ _ _ _ = ⊥
 
--- the accesses before this one can come, and behind them, in each earlier round with the others' by number, he is to make none; so no complete run
--- that has just the listed rounds before has it there
+-- the accesses before this one can come, and behind them, in each earlier round with the others' by number, he is to
+-- make none; so no complete run that has just the listed rounds before has it there
 pub record IsFirstThatCannot (s : Scenario) (rows : List (List ℕ)) (round place : ℕ) : Type 0 where
   pub stuck : IsStuckIn oral_kind (opening oral_kind s) rows round place
-  pub before : IsCompletion (until rows round place) (order_of oral_kind s (replayed oral_kind s (until rows round place)))
+  pub before : IsCompletion (until rows round place)
+      (order_of oral_kind s (replayed oral_kind s (until rows round place)))
   pub never : (order : List (List ℕ)) → IsOrder oral_kind s order → BeginsSo rows round place order → ⊥
 
--- the lines are the text of a schedule by which the accesses come in this order in each round, and behind them the others' by number
+-- the lines are the text of a schedule by which the accesses come in this order in each round, and behind them the
+-- others' by number
 pub record IsArrangement (s : Scenario) (rows : List (List ℕ)) (lines : List ℕ) : Type 0 where
   pub schedule : List (List Repeat)
   pub written : lines ≡ schedule_text schedule
@@ -57,7 +59,8 @@ abbrev pub IsNever : List (List ℕ) → ℕ → ℕ → AccessFault → Type 0
 IsNever rows r p (Text round place) = ⊥
 IsNever rows r p (Never round place general) = (round ≡ suc r) × (place ≡ suc p) × (listed_at rows r p ≡ Some general)
 
--- the text lists no accesses, by this first fault, or this is the first that cannot come: the round and the place from 1
+-- the text lists no accesses, by this first fault, or this is the first that cannot come: the round and the place from
+-- 1
 abbrev pub IsUnarranged : Scenario → List ℕ → AccessFault → Type 0
 IsUnarranged s text (Text round place) = accesses_told text ≡ Err (Text round place)
 IsUnarranged s text (Never round place general) = (rows : List (List ℕ)) × (accesses_told text ≡ Ok rows)

@@ -13,10 +13,12 @@ pub record IsEntry (r : Repeat) : Type 0 where
   pub least : 1 ≤ r.times
   pub most : r.times ≤ 4096
 
--- the text of a schedule of such entries, of at most five lines and so many bytes as a schedule may have, is read as that schedule
+-- the text of a schedule of such entries, of at most five lines and so many bytes as a schedule may have, is read as
+-- that schedule
 abbrev pub SchedulesAreRead : Type 0
 SchedulesAreRead =
-    (lines : List (List Repeat)) → AllByRecursion (AllByRecursion IsEntry) lines → length lines ≤ 5 → length (schedule_text lines) ≤ 1048576 →
+    (lines : List (List Repeat)) → AllByRecursion (AllByRecursion IsEntry) lines → length lines ≤ 5 →
+    length (schedule_text lines) ≤ 1048576 →
     schedule_told (schedule_text lines) ≡ Ok lines
 
 -- a text of so many bytes as a schedule may have is read as this schedule, and a longer one is refused

@@ -19,7 +19,8 @@ IsLedgerOfRun s accesses = (events : List Event) × IsComplete s events × ((run
 -- played by the schedule, each complete run with these accesses comes again
 abbrev pub ComesAgain : Scenario → List Access → List (List Repeat) → Type 0
 ComesAgain s accesses schedule =
-    (events : List Event) → IsComplete s events → (run (opening s) events).ledger ≡ accesses → run (opening s) (listed s (lines_by schedule)) ≡ run (opening s) events
+    (events : List Event) → IsComplete s events → (run (opening s) events).ledger ≡ accesses →
+    run (opening s) (listed s (lines_by schedule)) ≡ run (opening s) events
 
 -- the lines are the text of a schedule by which the campaign has the chronicle that a text tells
 pub record IsRetraced (s : Scenario) (text lines : List ℕ) : Type 0 where

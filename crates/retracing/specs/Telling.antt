@@ -7,7 +7,8 @@ use Rattle.retracing.specs.declared.fault.AccessesError.TheVariants.{At, Memory}
 
 abbrev pub fault_told : AccessFault → List ℕ
 fault_told (Text round place) = codes "X5 round " ++ decimal round ++ codes " access " ++ decimal place
-fault_told (Never round place general) = codes "X6 round " ++ decimal round ++ codes " access " ++ decimal place ++ codes " general " ++ decimal general
+fault_told (Never round place general) =
+    codes "X6 round " ++ decimal round ++ codes " access " ++ decimal place ++ codes " general " ++ decimal general
 
 abbrev pub told : AccessesError → List ℕ
 told (At fault) = fault_told fault

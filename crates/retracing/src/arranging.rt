@@ -35,8 +35,10 @@ fn general_of(part: &[u8]) -> Option<u8>
 
 /// Takes in what stands between two spaces: the number of one more general of this round, or nothing.
 fn take_in(row: &mut Vec<u8>, round: u64, part: &[u8]) -> Result<(), AccessesError>
-    ensures taken { OnOk result ((parts : List (List ℕ)) → row_told round row.new.items parts ≡ row_told round row.old.items (part.now ∷ parts)) }
-    ensures fault { IfErr result (λ e. IfFault e (λ fault. (parts : List (List ℕ)) → row_told round row.old.items (part.now ∷ parts) ≡ Err fault)) }
+    ensures taken { OnOk result ((parts : List (List ℕ)) →
+        row_told round row.new.items parts ≡ row_told round row.old.items (part.now ∷ parts)) }
+    ensures fault { IfErr result (λ e. IfFault e (λ fault. (parts : List (List ℕ)) →
+        row_told round row.old.items (part.now ∷ parts) ≡ Err fault)) }
 {
     if part.is_empty() {
         return Ok(());
@@ -100,14 +102,15 @@ fn never(rows: &[Vec<u8>], round: usize, place: usize) -> AccessFault
     }
 }
 
-/// The text of a schedule, one entry for each access, by which the generals come to the board in the order that this text lists:
-/// in each round the listed ones make their accesses first, and then all go to their ends. Rounds are parted by slashes, and
-/// the generals of a round by spaces. The text is read as its schedule, unless it has more than the 1,048,576 bytes that a
-/// schedule may have.
+/// The text of a schedule, one entry for each access, by which the generals come to the board in the order that this
+/// text lists: in each round the listed ones make their accesses first, and then all go to their ends. Rounds are
+/// parted by slashes, and the generals of a round by spaces. The text is read as its schedule, unless it has more than
+/// the 1,048,576 bytes that a schedule may have.
 ///
 /// # Errors
 ///
-/// The first part of the text that is no number of a general, the first access that cannot come there, or want of memory.
+/// The first part of the text that is no number of a general, the first access that cannot come there, or want of
+/// memory.
 pub fn arranged(alloc: Global, scenario: &Scenario, text: &str) -> Result<String, AccessesError>
     ensures arranged { IfOk result (λ lines. IsArranged scenario.now text.now (string_bytes lines)) }
     ensures unarranged { IfErr result (λ e. IfFault e (IsUnarranged scenario.now text.now)) }

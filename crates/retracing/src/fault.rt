@@ -8,7 +8,8 @@ use std::fmt;
 /// What is wrong with a text that lists accesses.
 #[derive(Clone, Copy, Debug, PartialEq, Eq, Drop)]
 pub enum AccessFault {
-    /// In this round the part at this place is no number of a general, 0 to 12; or it is a sixth round. Both count from 1.
+    /// In this round the part at this place is no number of a general, 0 to 12; or it is a sixth round. Both count from
+    /// 1.
     Text(u64, u64),
     /// In this round the access at this place, of this general, is the first that cannot come there. Both count from 1.
     Never(u64, u64, u8),

@@ -16,8 +16,8 @@ use trace::{TraceError, sound_chronicle};
 use world::Schedule;
 
 /// The text of a schedule, one entry for each access, by which the scenario's campaign has the chronicle that this text
-/// tells: in each round the generals make their accesses in its order, and then all go to their ends. It is read as that
-/// schedule, unless it has more than the 1,048,576 bytes that a schedule may have.
+/// tells: in each round the generals make their accesses in its order, and then all go to their ends. It is read as
+/// that schedule, unless it has more than the 1,048,576 bytes that a schedule may have.
 ///
 /// # Errors
 ///

@@ -21,7 +21,8 @@ abbrev pub is_below : ℕ → ℕ → ℕ → ℕ → ℕ → ℕ → Bool
 is_below a b c d e f = nat_lt a d || (a == d && (nat_lt b e || (b == e && nat_lt c f)))
 
 abbrev pub is_before : Breach → Breach → Bool
-is_before a b = is_below (length a.plot.traitors) (statements a.plot) a.seed (length b.plot.traitors) (statements b.plot) b.seed
+is_before a b =
+    is_below (length a.plot.traitors) (statements a.plot) a.seed (length b.plot.traitors) (statements b.plot) b.seed
 
 -- what is left of a campaign, which a seed has given
 pub record IsBreachOf (p : Plot) (by : ℕ) (b : Breach) : Type 0 where
@@ -76,4 +77,5 @@ pub record IsBreaking (f : Family) (n m : ℕ) (span : Span) (first end : ℕ) (
 
 -- no number of traitors of the span breaks it
 abbrev pub NoneBreaks : Family → ℕ → ℕ → Span → ℕ → ℕ → Type 0
-NoneBreaks f n m span first end = (t : ℕ) → span.low ≤ t → t ≤ span.high → AreAllSound (plot_of (narrowed f n m t)) first end
+NoneBreaks f n m span first end =
+    (t : ℕ) → span.low ≤ t → t ≤ span.high → AreAllSound (plot_of (narrowed f n m t)) first end

@@ -39,7 +39,8 @@ without_lie p place index = record p { traitors = slice_set p.traitors place (qu
 -- one traitor, or one of his statements, is taken out
 pub data IsLess (p : Plot) : Plot → Type 0 where
   loyal : (place : ℕ) → place < length p.traitors → IsLess p (without_traitor p place)
-  silent : (place index : ℕ) → place < length p.traitors → index < length (traitor_at p place).lies → IsLess p (without_lie p place index)
+  silent : (place index : ℕ) → place < length p.traitors → index < length (traitor_at p place).lies →
+      IsLess p (without_lie p place index)
 
 -- the campaign, or one of which more was taken out
 pub data IsPartOf (p : Plot) : Plot → Type 0 where

@@ -144,8 +144,8 @@ pub(crate) fn fewest_traitors(alloc: Global, plot: Plot) -> Result<Plot, Scenari
     Ok(left)
 }
 
-/// The campaign without each statement of the traitor at this place without which, the later ones being said, it is still
-/// broken.
+/// The campaign without each statement of the traitor at this place without which, the later ones being said, it is
+/// still broken.
 fn fewest_lies_of(alloc: Global, plot: Plot, place: usize) -> Result<Plot, ScenarioError>
     requires place { place < length plot.traitors }
     requires broken { IsBroken plot }

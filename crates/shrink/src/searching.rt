@@ -30,7 +30,8 @@ pub fn breach_of(alloc: Global, family: &Family, seed: u64) -> Result<Option<Bre
     }
 }
 
-/// The same of each seed from `first` up to `end`, without that, by as many threads as there are processors, or why not.
+/// The same of each seed from `first` up to `end`, without that, by as many threads as there are processors, or why
+/// not.
 fn gathered<R: Threads + Sync>(
     rt: &R,
     alloc: Global,
@@ -38,7 +39,8 @@ fn gathered<R: Threads + Sync>(
     first: u64,
     end: u64,
 ) -> Result<Result<Vec<Option<Breach>>, ScenarioError>, AllocError>
-    ensures { IfOk result (λ all. IfOk all (λ found. AllZip (IsShrunk (plot_of family.now)) (nat_range first end) found.items)) }
+    ensures { IfOk result (λ all. IfOk all
+        (λ found. AllZip (IsShrunk (plot_of family.now)) (nat_range first end) found.items)) }
 {
     (first..end)
         .into_par_iter()
@@ -93,8 +95,8 @@ pub fn least(found: Vec<Option<Breach>>) -> Option<Breach>
     least
 }
 
-/// The least of what is left of the seeds' campaigns from `first` up to `end`, without that; none where agreement is broken in
-/// none of them.
+/// The least of what is left of the seeds' campaigns from `first` up to `end`, without that; none where agreement is
+/// broken in none of them.
 pub fn least_breach<R: Threads + Sync>(
     rt: &R,
     alloc: Global,
@@ -107,8 +109,8 @@ pub fn least_breach<R: Threads + Sync>(
     Ok(least(breaches(rt, alloc, family, first, end)?))
 }
 
-/// With the fewest traitors of the span by whom agreement is broken in a campaign of these seeds, the least of what is left of
-/// the campaigns in which so many break it; none where no number of them breaks it.
+/// With the fewest traitors of the span by whom agreement is broken in a campaign of these seeds, the least of what is
+/// left of the campaigns in which so many break it; none where no number of them breaks it.
 pub fn breaking<R: Threads + Sync>(
     rt: &R,
     alloc: Global,

@@ -7,7 +7,8 @@ use scenario::ScenarioError;
 use std::alloc::Global;
 use survey::Plot;
 
-/// The campaign after one walk over its traitors and one over their statements, on each of which what can be taken out is.
+/// The campaign after one walk over its traitors and one over their statements, on each of which what can be taken out
+/// is.
 fn walked(alloc: Global, plot: Plot) -> Result<Plot, ScenarioError>
     requires { IsBroken plot }
     ensures broken { IfOk result IsBroken }
@@ -17,8 +18,8 @@ fn walked(alloc: Global, plot: Plot) -> Result<Plot, ScenarioError>
     fewest_lies(alloc, fewer)
 }
 
-/// What is left of the campaign where traitors and statements are taken out, one after the other, while it is broken: its loyal
-/// lieutenants decide unlike, or not as a loyal commander has ordered. None where it is not broken.
+/// What is left of the campaign where traitors and statements are taken out, one after the other, while it is broken:
+/// its loyal lieutenants decide unlike, or not as a loyal commander has ordered. None where it is not broken.
 ///
 /// # Errors
 ///

@@ -4,7 +4,8 @@ use Rattle.survey.specs.declared.adversary.Adversary.{Adversary}
 use Rattle.survey.specs.declared.span.Span.{Span}
 use Rattle.survey.specs.declared.manner.Manner.{Manner}
 
--- how many generals, how many traitors they provide for, how many there are, how orders are sent, how long traitors are waited for, what they do
+-- how many generals, how many traitors they provide for, how many there are, how orders are sent, how long traitors are
+-- waited for, what they do
 pub record Family : Type 0 where
   pub generals : Span
   pub bound : Span

@@ -1,4 +1,5 @@
--- The head of lines: the family whose campaigns they tell, an object of JSON (RFC 8259), its members by their names, ascending.
+-- The head of lines: the family whose campaigns they tell, an object of JSON (RFC 8259), its members by their names,
+-- ascending.
 use Rattle.std.specs.Prelude.{ℕ, ◌≡◌, ◌<◌, ◌^◌, ◌==◌, not, true, Bool, IfSome, List, [], ◌∷◌, ◌++◌, take, decimal, bytes_eq, codes, Option, None, Some, string_bytes}
 use Rattle.std.specs.List.{list_all}
 use Rattle.combine.specs.declared.chosen.Rule.TheVariants.{Majority, Median}
@@ -44,13 +45,16 @@ head_text f =
 abbrev pub head_front : Span → Span → List ℕ
 head_front bound generals =
     codes ",\"bound_high\":" ++ (decimal bound.high ++ (codes ",\"bound_low\":" ++ (decimal bound.low
-    ++ (codes ",\"generals_high\":" ++ (decimal generals.high ++ (codes ",\"generals_low\":" ++ decimal generals.low))))))
+    ++ (codes ",\"generals_high\":"
+    ++ (decimal generals.high ++ (codes ",\"generals_low\":" ++ decimal generals.low))))))
 
 abbrev pub head_middle : List ℕ → List ℕ → List ℕ
-head_middle manner patience = codes ",\"line\":\"family\",\"manner\":" ++ (manner ++ (codes ",\"patience\":" ++ patience))
+head_middle manner patience =
+    codes ",\"line\":\"family\",\"manner\":" ++ (manner ++ (codes ",\"patience\":" ++ patience))
 
 abbrev pub head_end : Span → List ℕ
-head_end traitors = codes ",\"traitors_high\":" ++ (decimal traitors.high ++ (codes ",\"traitors_low\":" ++ (decimal traitors.low ++ codes "}\n")))
+head_end traitors = codes ",\"traitors_high\":"
+    ++ (decimal traitors.high ++ (codes ",\"traitors_low\":" ++ (decimal traitors.low ++ codes "}\n")))
 
 -- a line that begins as a head does
 abbrev pub is_head : List ℕ → Bool
@@ -72,5 +76,6 @@ pub record IsTold (f : Family) : Type 0 where
 
 -- families with the same head have the same campaigns: each seed gives the same text; and each family has a head
 pub record HeadsTellFamilies : Type 0 where
-  pub campaigns : (f g : Family) (seed : ℕ) → IsTold f → IsTold g → head_text f ≡ head_text g → campaign_text f seed ≡ campaign_text g seed
+  pub campaigns : (f g : Family) (seed : ℕ) → IsTold f → IsTold g → head_text f ≡ head_text g →
+      campaign_text f seed ≡ campaign_text g seed
   pub heads : (f : Family) → IsHead (head_text f)

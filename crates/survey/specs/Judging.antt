@@ -42,7 +42,8 @@ scenario_in (Signed s) = s
 abbrev pub traitors_in : Scenario → ℕ
 traitors_in s = count_by (is_traitor s) (range_with_len 0 s.generals)
 
--- what is found by this seed of the campaign that a text tells: its numbers, and the verdict on it; where its bound holds all is well
+-- what is found by this seed of the campaign that a text tells: its numbers, and the verdict on it; where its bound
+-- holds all is well
 pub record IsFound (text : List ℕ) (by : ℕ) (found : Finding) : Type 0 where
   pub campaign : Campaign
   pub told : TellsAny text campaign

@@ -40,5 +40,6 @@ front_text f =
 
 abbrev pub back_text : Finding → List ℕ
 back_text f =
-    codes ",\"line\":\"campaign\",\"obeyed\":" ++ (answer_text f.verdict.obeyed ++ (codes ",\"seed\":" ++ (decimal f.seed
+    codes ",\"line\":\"campaign\",\"obeyed\":"
+    ++ (answer_text f.verdict.obeyed ++ (codes ",\"seed\":" ++ (decimal f.seed
     ++ (codes ",\"traitors\":" ++ (decimal f.traitors ++ codes "}\n")))))

@@ -57,7 +57,8 @@ pub record Adds (head line : List ℕ) (first last : ℕ) (before after : List F
   pub behind : after ≡ before ++ found_in (row ∷ [])
   pub seeds : AreOf first last (found_in (row ∷ []))
 
--- a part is read behind others: its head is theirs, if they have one, and its campaigns, each of one of these seeds, stand behind theirs
+-- a part is read behind others: its head is theirs, if they have one, and its campaigns, each of one of these seeds,
+-- stand behind theirs
 pub record IsReadOn (before head bytes : List ℕ) (first last : ℕ) (old new : List Finding) : Type 0 where
   pub told : List Finding
   pub part : IsPart head bytes told

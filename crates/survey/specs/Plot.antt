@@ -9,7 +9,8 @@ pub record Traitor : Type 0 where
   pub counts : Bool
   pub lies : List Lie
 
--- a campaign of generals whom general 0 commands, the traitors ascending; in place of what they say the bytecode of them all, in hex
+-- a campaign of generals whom general 0 commands, the traitors ascending; in place of what they say the bytecode of
+-- them all, in hex
 pub record Plot : Type 0 where
   pub generals : ℕ
   pub bound : ℕ

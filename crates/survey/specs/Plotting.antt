@@ -13,8 +13,8 @@ use Rattle.survey.specs.Draws.{draw, within}
 use Rattle.survey.specs.Family.{Family}
 use Rattle.survey.specs.Plot.{Plot, Traitor}
 
--- at the places 0 to 3 are the generals, the bound, the traitors and the order; from 4 on who is a traitor; from 32 on what
--- each general says, 32 places for each
+-- at the places 0 to 3 are the generals, the bound, the traitors and the order; from 4 on who is a traitor; from 32 on
+-- what each general says, 32 places for each
 abbrev pub drawn_for : ℕ → ℕ → ℕ → ℕ
 drawn_for seed g place = draw seed (32 + 32 * g + place)
 
@@ -27,11 +27,13 @@ bound_of f seed = min (within f.bound (draw seed 1)) (min 4 (generals_of f seed 
 abbrev pub count_of : Family → ℕ → ℕ
 count_of f seed = min (within f.traitors (draw seed 2)) (generals_of f seed)
 
--- of so many generals from g on so many are chosen, each choice as likely as another (Knuth, volume 2, section 3.4.2, algorithm S)
+-- of so many generals from g on so many are chosen, each choice as likely as another (Knuth, volume 2, section 3.4.2,
+-- algorithm S)
 abbrev pub chosen : ℕ → ℕ → ℕ → ℕ → List ℕ
 chosen seed g zero needed = []
 chosen seed g (suc more) needed =
-    cond (nat_lt (draw seed (4 + g) % suc more) needed) (g ∷ chosen seed (g + 1) more (needed - 1)) (chosen seed (g + 1) more needed)
+    cond (nat_lt (draw seed (4 + g) % suc more) needed) (g ∷ chosen seed (g + 1) more (needed - 1))
+    (chosen seed (g + 1) more needed)
 
 -- 0 or 1 by what was drawn, or the parity of the count
 abbrev pub said_by : Bool → ℕ → Said
@@ -73,7 +75,8 @@ given_in (Given hex) = Some (string_bytes hex)
 given_in _ = None
 
 abbrev pub traitor_of : Family → ℕ → ℕ → ℕ → Traitor
-traitor_of f seed n g = record { general = g; counts = do_count f.adversary; lies = lies_by f.adversary f.manner seed n g }
+traitor_of f seed n g =
+    record { general = g; counts = do_count f.adversary; lies = lies_by f.adversary f.manner seed n g }
 
 -- the campaign that the seed gives
 unfoldable pub plot_of : Family → ℕ → Plot

@@ -16,7 +16,8 @@ abbrev pub rest : Stop → List ℕ → List ℕ
 rest stop bytes = from stop (drop 1 (from colon bytes))
 
 abbrev pub flag_told : List ℕ → Option Bool
-flag_told bytes = if bytes_eq bytes (codes "true") then Some true else if bytes_eq bytes (codes "false") then Some false else None
+flag_told bytes =
+    if bytes_eq bytes (codes "true") then Some true else if bytes_eq bytes (codes "false") then Some false else None
 
 abbrev pub answer_told : List ℕ → Option (Option Bool)
 answer_told bytes = if bytes_eq bytes (codes "null") then Some None else flag_told bytes >>= λ b. Some (Some b)
@@ -35,7 +36,13 @@ found_by alike bound generals kept obeyed seed traitors =
     answer_told obeyed >>= λ o.
     number_told (2 ^ 64) seed >>= λ s.
     number_told (2 ^ 64) traitors >>= λ t.
-    Some (record { seed = s; generals = n; bound = m; traitors = t; verdict = record { alike = a; obeyed = o; bound = k } })
+    Some (record {
+      seed = s;
+      generals = n;
+      bound = m;
+      traitors = t;
+      verdict = record { alike = a; obeyed = o; bound = k };
+    })
 
 -- by the words behind the colons of a line, of which the fifth says what the line is
 unfoldable pub line_told : List ℕ → Option Finding
@@ -47,4 +54,5 @@ line_told a =
     let f = rest comma e in
     let g = rest comma f in
     let h = rest comma g in
-    found_by (word comma a) (word comma b) (word comma c) (word comma d) (word comma f) (word comma g) (word (Byte 125) h)
+    found_by (word comma a) (word comma b) (word comma c) (word comma d) (word comma f) (word comma g)
+    (word (Byte 125) h)

@@ -56,7 +56,8 @@ numbers_text p =
     ++ (codes "\ncommander = 0\norder = " ++ (decimal p.order ++ codes "\n")))))
 
 unfoldable pub plot_text : Plot → List ℕ
-plot_text p = numbers_text p ++ manner_text p.manner ++ patience_text p.patience ++ flat_map (traitor_text p.given) p.traitors
+plot_text p =
+    numbers_text p ++ manner_text p.manner ++ patience_text p.patience ++ flat_map (traitor_text p.given) p.traitors
 
 -- the text of the campaign that a seed gives
 abbrev pub campaign_text : Family → ℕ → List ℕ

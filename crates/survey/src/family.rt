@@ -44,9 +44,9 @@ impl Model for Family {
 impl Family {
     ghost use Rattle.survey.specs.Family.{Family as Seen, IsFamily};
 
-    /// The family of campaigns of so many generals, 2 to 13, who provide for so many traitors (more than 4, or than all generals
-    /// but 2, are cut to these) and have so many among them (more than all are cut to all), whose orders are sent so, where a
-    /// traitor is waited for this many steps, 1 to 4,096, or until he ends, and does this.
+    /// The family of campaigns of so many generals, 2 to 13, who provide for so many traitors (more than 4, or than all
+    /// generals but 2, are cut to these) and have so many among them (more than all are cut to all), whose orders are
+    /// sent so, where a traitor is waited for this many steps, 1 to 4,096, or until he ends, and does this.
     pub fn new(
         generals: Span,
         bound: Span,
@@ -55,8 +55,22 @@ impl Family {
         patience: Option<u32>,
         adversary: Adversary,
     ) -> Family
-        requires { IsFamily (record { generals = generals; bound = bound; traitors = traitors; manner = manner; patience = patience; adversary = adversary }) }
-        ensures { result ≡ record { generals = generals; bound = bound; traitors = traitors; manner = manner; patience = patience; adversary = adversary } }
+        requires { IsFamily (record {
+          generals = generals;
+          bound = bound;
+          traitors = traitors;
+          manner = manner;
+          patience = patience;
+          adversary = adversary;
+        }) }
+        ensures { result ≡ record {
+          generals = generals;
+          bound = bound;
+          traitors = traitors;
+          manner = manner;
+          patience = patience;
+          adversary = adversary;
+        } }
     {
         Family {
             generals,

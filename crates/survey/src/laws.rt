@@ -8,8 +8,8 @@ pub fn sums_of_parts()
     ensures { SumsOfParts }
 {}
 
-/// In no campaign that a seed gives is the bound kept while the loyal lieutenants decide unlike, or not as a loyal commander has
-/// ordered.
+/// In no campaign that a seed gives is the bound kept while the loyal lieutenants decide unlike, or not as a loyal
+/// commander has ordered.
 pub fn kept_are_sound()
     ensures { KeptAreSound }
 {}

@@ -47,8 +47,8 @@ fn is_sized(finding: &Finding) -> bool
         && finding.traitors <= u64::from(finding.generals)
 }
 
-/// Adds the campaign that the line of this number tells, of one of the seeds from the first to the last, if it is not the head
-/// once more.
+/// Adds the campaign that the line of this number tells, of one of the seeds from the first to the last, if it is not
+/// the head once more.
 fn add_row(
     alloc: Global,
     head: &[u8],
@@ -104,8 +104,8 @@ fn add_rows(
     Ok(())
 }
 
-/// Reads a part of a survey behind others: its first line is the head, which is theirs, and the other lines are those of
-/// campaigns of the seeds from the first to the last, or the head again. An empty text is a part too.
+/// Reads a part of a survey behind others: its first line is the head, which is theirs, and the other lines are those
+/// of campaigns of the seeds from the first to the last, or the head again. An empty text is a part too.
 ///
 /// # Errors
 ///
@@ -116,7 +116,8 @@ pub fn read_part(
     bytes: &[u8],
     seeds: (u64, u64),
 ) -> Result<(), PartError>
-    ensures { OnOk result (IsReadOn parts.old.head.items parts.new.head.items bytes.now seeds.0 seeds.1 parts.old.findings.items parts.new.findings.items) }
+    ensures { OnOk result (IsReadOn parts.old.head.items parts.new.head.items bytes.now seeds.0 seeds.1
+        parts.old.findings.items parts.new.findings.items) }
 {
     if bytes.is_empty() {
         return Ok(());

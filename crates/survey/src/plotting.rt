@@ -99,7 +99,8 @@ fn oral_of(
     generals: u8,
     general: u8,
 ) -> Result<Vec<Lie>, AllocError>
-    ensures { IfOk result (λ lies. lies.items ≡ flat_map (λ r. oral_lies counts general r (drawn_for seed general r)) (range_with_len 0 generals)) }
+    ensures { IfOk result (λ lies. lies.items
+        ≡ flat_map (λ r. oral_lies counts general r (drawn_for seed general r)) (range_with_len 0 generals)) }
 {
     let mut lies = Vec::new(alloc);
     for receiver in 0..generals {
@@ -116,7 +117,8 @@ fn oral_of(
 
 /// What a general signs and passes on.
 fn signed_of(alloc: Global, counts: bool, seed: u64, general: u8) -> Result<Vec<Lie>, AllocError>
-    ensures { IfOk result (λ lies. lies.items ≡ flat_map (λ r. signed_lies counts general (drawn_for seed general r)) (range_with_len 0 4)) }
+    ensures { IfOk result (λ lies. lies.items
+        ≡ flat_map (λ r. signed_lies counts general (drawn_for seed general r)) (range_with_len 0 4)) }
 {
     let mut lies = Vec::new(alloc);
     for place in 0..4 {
@@ -213,7 +215,8 @@ fn traitors_of(
     generals: u8,
     count: u8,
 ) -> Result<Vec<Traitor>, AllocError>
-    ensures { IfOk result (λ traitors. traitors.items ≡ map (traitor_of family.now seed generals) (chosen seed 0 generals count)) }
+    ensures { IfOk result (λ traitors. traitors.items
+        ≡ map (traitor_of family.now seed generals) (chosen seed 0 generals count)) }
 {
     let mut needed = count;
     let mut traitors = Vec::new(alloc);

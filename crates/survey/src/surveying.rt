@@ -16,7 +16,8 @@ use std::thread::Threads;
 /// How many campaigns are worth a thread of their own: one of them takes 8 us to some milliseconds.
 const LEAST_PIECE: usize = 32;
 
-/// What the campaigns of the family come to that the seeds give from `first` up to `end`, without that, one after the other.
+/// What the campaigns of the family come to that the seeds give from `first` up to `end`, without that, one after the
+/// other.
 ///
 /// # Errors
 ///
@@ -45,22 +46,24 @@ fn gathered<R: Threads + Sync>(
     first: u64,
     end: u64,
 ) -> Result<Result<Vec<Finding>, ScenarioError>, AllocError>
-    ensures found { IfOk result (λ all. IfOk all (λ findings. AllZip (IsFindingOf family.now) (nat_range first end) findings.items)) }
+    ensures found { IfOk result
+        (λ all. IfOk all (λ findings. AllZip (IsFindingOf family.now) (nat_range first end) findings.items)) }
     ensures refused { IfOk result (λ all. IfErr all (λ e. e ≢ Memory → IsRefusedIn family.now first end e)) }
 {
     (first..end)
         .into_par_iter()
         .map(
             |seed: u64| -> Result<Finding, ScenarioError>
-                ensures { IfOk result (IsFindingOf family.entry.now seed) × IfErr result (IsRefusedBy family.entry.now seed) }
+                ensures { IfOk result (IsFindingOf family.entry.now seed)
+                    × IfErr result (IsRefusedBy family.entry.now seed) }
             { judged(alloc, family, seed) },
         )
         .with_min_len(LEAST_PIECE)
         .collect(rt, alloc)
 }
 
-/// What the campaigns of the family come to that the seeds give from `first` up to `end`, without that, by as many threads as
-/// there are processors.
+/// What the campaigns of the family come to that the seeds give from `first` up to `end`, without that, by as many
+/// threads as there are processors.
 ///
 /// # Errors
 ///

@@ -23,7 +23,8 @@ fn put_said(out: &mut String, said: Said) -> Result<(), AllocError>
 
 /// Adds a call whose first argument is a number.
 fn put_sway(out: &mut String, receiver: u8, said: Said) -> Result<(), AllocError>
-    ensures { OnOk result (string_bytes out.new ≡ string_bytes out.old ++ call_text (decimal receiver) (said_text said) (codes "sway")) }
+    ensures { OnOk result (string_bytes out.new ≡ string_bytes out.old
+        ++ call_text (decimal receiver) (said_text said) (codes "sway")) }
 {
     out.push_str("mov r1, ")?;
     put_number(out, u64::from(receiver))?;
@@ -36,7 +37,8 @@ fn put_sway(out: &mut String, receiver: u8, said: Said) -> Result<(), AllocError
 
 /// Adds a call whose second argument is a number of receivers.
 fn put_chain(out: &mut String, said: Said, receivers: u16, helper: &str) -> Result<(), AllocError>
-    ensures { OnOk result (string_bytes out.new ≡ string_bytes out.old ++ call_text (said_text said) (decimal receivers) helper.now) }
+    ensures { OnOk result (string_bytes out.new ≡ string_bytes out.old
+        ++ call_text (said_text said) (decimal receivers) helper.now) }
 {
     out.push_str("mov r1, ")?;
     put_said(out, said)?;
@@ -49,7 +51,8 @@ fn put_chain(out: &mut String, said: Said, receivers: u16, helper: &str) -> Resu
 
 /// Adds a call with one argument.
 fn put_honest(out: &mut String, receiver: u8) -> Result<(), AllocError>
-    ensures { OnOk result (string_bytes out.new ≡ string_bytes out.old ++ codes "mov r1, " ++ decimal receiver ++ codes "\ncall honest\n") }
+    ensures { OnOk result (string_bytes out.new ≡ string_bytes out.old ++ codes "mov r1, " ++ decimal receiver
+        ++ codes "\ncall honest\n") }
 {
     out.push_str("mov r1, ")?;
     put_number(out, u64::from(receiver))?;
@@ -102,7 +105,8 @@ fn put_program(out: &mut String, traitor: &Traitor) -> Result<(), AllocError>
 /// Adds what a traitor's program is read from.
 #[tactic(auto, unfolding(crate::specs::Wording::source_text))]
 fn put_source(out: &mut String, given: Option<&str>, traitor: &Traitor) -> Result<(), AllocError>
-    ensures { OnOk result (string_bytes out.new ≡ string_bytes out.old ++ source_text (option_map (λ hex. hex.now) given.entry) traitor.now) }
+    ensures { OnOk result (string_bytes out.new ≡ string_bytes out.old
+        ++ source_text (option_map (λ hex. hex.now) given.entry) traitor.now) }
 {
     let Some(hex) = given else {
         out.push_str("\nasm = \"\"\"\n")?;
@@ -117,7 +121,8 @@ fn put_source(out: &mut String, given: Option<&str>, traitor: &Traitor) -> Resul
 /// Adds a traitor's table.
 #[tactic(auto, unfolding(crate::specs::Wording::traitor_text))]
 fn put_traitor(out: &mut String, given: Option<&str>, traitor: &Traitor) -> Result<(), AllocError>
-    ensures { OnOk result (string_bytes out.new ≡ string_bytes out.old ++ traitor_text (option_map (λ hex. hex.now) given.entry) traitor.now) }
+    ensures { OnOk result (string_bytes out.new ≡ string_bytes out.old
+        ++ traitor_text (option_map (λ hex. hex.now) given.entry) traitor.now) }
 {
     put_numbered(out, "\n[[traitor]]\ngeneral = ", u64::from(traitor.general))?;
     put_source(out, given, traitor)?;
@@ -130,7 +135,8 @@ fn put_traitors(
     given: Option<&str>,
     traitors: &[Traitor],
 ) -> Result<(), AllocError>
-    ensures { OnOk result (string_bytes out.new ≡ string_bytes out.old ++ flat_map (traitor_text (option_map (λ hex. hex.now) given.entry)) traitors.now) }
+    ensures { OnOk result (string_bytes out.new ≡ string_bytes out.old
+        ++ flat_map (traitor_text (option_map (λ hex. hex.now) given.entry)) traitors.now) }
 {
     for traitor in traitors {
         put_traitor(out, given, traitor)?;

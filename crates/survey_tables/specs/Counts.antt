@@ -14,4 +14,5 @@ abbrev pub campaigns_text : ℕ → List ℕ
 campaigns_text campaigns = codes "campaigns " ++ (decimal campaigns ++ codes "\n")
 
 unfoldable pub sums_text : Sums → List ℕ
-sums_text s = campaigns_text s.campaigns ++ tally_text (codes "bound kept") s.kept ++ tally_text (codes "agreement broken") s.broken ++ tally_text (codes "order disobeyed") s.disobeyed
+sums_text s = campaigns_text s.campaigns ++ tally_text (codes "bound kept") s.kept
+    ++ tally_text (codes "agreement broken") s.broken ++ tally_text (codes "order disobeyed") s.disobeyed

@@ -21,7 +21,8 @@ is_in x stretches = list_any (is_within x) stretches
 
 -- in the stretches stand just the seeds from the first to the last that stand nowhere
 abbrev pub AreHoles : ℕ → ℕ → List ℕ → List Stretch → Type 0
-AreHoles first last seeds stretches = (x : ℕ) → is_in x stretches ≡ (nat_le first x && (nat_le x last && (times x seeds == 0)))
+AreHoles first last seeds stretches =
+    (x : ℕ) → is_in x stretches ≡ (nat_le first x && (nat_le x last && (times x seeds == 0)))
 
 -- in the stretches stand just the seeds that stand there twice or more
 abbrev pub AreDoubles : List ℕ → List Stretch → Type 0
@@ -39,7 +40,8 @@ stretch a b = cond (nat_le a b) (record { first = a; last = b } ∷ []) []
 -- from the next seed to the last: what lies before each of these, which are ascending, and behind them
 abbrev pub gaps : ℕ → List ℕ → ℕ → List Stretch
 gaps next [] last = stretch next last
-gaps next (s ∷ seeds) last = cond (nat_lt next s) (stretch next (min (s - 1) last)) [] ++ gaps (max next (s + 1)) seeds last
+gaps next (s ∷ seeds) last =
+    cond (nat_lt next s) (stretch next (min (s - 1) last)) [] ++ gaps (max next (s + 1)) seeds last
 
 -- of ascending seeds those that stand twice
 abbrev pub repeated : List ℕ → List ℕ
@@ -50,7 +52,10 @@ repeated (a ∷ b ∷ seeds) = cond (a == b) (b ∷ []) [] ++ repeated (b ∷ se
 -- the stretches of ascending seeds, of which the first has come from one seed to another
 abbrev pub stretches_from : ℕ → ℕ → List ℕ → List Stretch
 stretches_from a b [] = record { first = a; last = b } ∷ []
-stretches_from a b (s ∷ seeds) = cond (nat_le s (b + 1)) (stretches_from a (max b s) seeds) (record { first = a; last = b } ∷ stretches_from s s seeds)
+stretches_from a b (s ∷ seeds) = cond (nat_le s (b + 1)) (stretches_from a (max b s) seeds) (record {
+  first = a;
+  last = b;
+} ∷ stretches_from s s seeds)
 
 abbrev pub stretches : List ℕ → List Stretch
 stretches [] = []

@@ -21,7 +21,13 @@ failed_in fs = count_by (λ (f : Finding). not (is_sound f.verdict)) fs
 -- campaigns of these numbers as a group, if there are some
 abbrev pub group_of : ℕ → ℕ → List Finding → ℕ → List Group
 group_of n m fs t =
-    cond (length (of_traitors t fs) == 0) [] (record { generals = n; bound = m; traitors = t; sums = sums_of (of_traitors t fs); failed = failed_in (of_traitors t fs) } ∷ [])
+    cond (length (of_traitors t fs) == 0) [] (record {
+      generals = n;
+      bound = m;
+      traitors = t;
+      sums = sums_of (of_traitors t fs);
+      failed = failed_in (of_traitors t fs);
+    } ∷ [])
 
 -- by up to 13 traitors, up to 4 that are provided for, up to 13 generals
 unfoldable pub groups_in : ℕ → ℕ → List Finding → List Group

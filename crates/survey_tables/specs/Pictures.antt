@@ -7,7 +7,8 @@ unfoldable pub start : List ℕ
 start = codes "<svg xmlns=\"http://www.w3.org/2000/svg\" role=\"img\" width=\"840\""
 
 unfoldable pub size : ℕ → List ℕ
-size height = codes " height=\"" ++ (decimal height ++ (codes "\" viewBox=\"0 0 840 " ++ (decimal height ++ codes "\">\n")))
+size height =
+    codes " height=\"" ++ (decimal height ++ (codes "\" viewBox=\"0 0 840 " ++ (decimal height ++ codes "\">\n")))
 
 -- what it shows, what it looks like, and what stands above its rows
 unfoldable pub head : List ℕ
@@ -26,7 +27,8 @@ head =
 
 -- the number above a column, and the numbers above all
 unfoldable pub column : ℕ → List ℕ
-column t = codes "<text class=\"share\" x=\"" ++ (decimal (145 + 50 * t) ++ (codes "\" y=\"84\">" ++ (decimal t ++ codes "</text>\n")))
+column t = codes "<text class=\"share\" x=\""
+    ++ (decimal (145 + 50 * t) ++ (codes "\" y=\"84\">" ++ (decimal t ++ codes "</text>\n")))
 
 abbrev pub columns : List ℕ
 columns = flat_map column (range_with_len 0 14)
@@ -44,7 +46,8 @@ rows_from before (g ∷ groups) = cond (begins before g) 1 0 + rows_from (Some g
 abbrev pub rows_of : List Group → ℕ
 rows_of groups = rows_from None groups
 
--- a row's numbers, the line on which its bars stand, and the line n = 3m + 1: behind the greatest m with 3m + 1 of its generals or fewer
+-- a row's numbers, the line on which its bars stand, and the line n = 3m + 1: behind the greatest m with 3m + 1 of its
+-- generals or fewer
 unfoldable pub stand : ℕ → List ℕ
 stand row = codes "<text x=\"10\" y=\"" ++ (decimal (72 + 44 * row) ++ codes "\">")
 
@@ -55,7 +58,9 @@ unfoldable pub base : ℕ → List ℕ
 base row = codes "<path class=\"base\" d=\"M120 " ++ (decimal (74 + 44 * row) ++ codes "h700\"/>")
 
 unfoldable pub limit : ℕ → Group → List ℕ
-limit row g = codes "<path class=\"limit\" d=\"M" ++ (decimal (120 + 50 * ((g.generals - 1) / 3 + 1)) ++ (codes " " ++ (decimal (44 + 44 * row) ++ codes "v44\"/>\n")))
+limit row g = codes "<path class=\"limit\" d=\"M"
+    ++ (decimal (120 + 50 * ((g.generals - 1) / 3 + 1))
+    ++ (codes " " ++ (decimal (44 + 44 * row) ++ codes "v44\"/>\n")))
 
 abbrev pub label : ℕ → Group → List ℕ
 label row g = stand row ++ name g ++ base row ++ limit row g
@@ -68,7 +73,9 @@ start_of row g false = []
 unfoldable pub kept : ℕ → Group → List ℕ
 kept row g =
     cond (g.sums.kept.count == 0) []
-    (codes "<rect class=\"kept\" x=\"" ++ (decimal (120 + 50 * g.traitors) ++ (codes "\" y=\"" ++ (decimal (44 + 44 * row) ++ codes "\" width=\"50\" height=\"44\"/>\n"))))
+    (codes "<rect class=\"kept\" x=\""
+    ++ (decimal (120 + 50 * g.traitors)
+    ++ (codes "\" y=\"" ++ (decimal (44 + 44 * row) ++ codes "\" width=\"50\" height=\"44\"/>\n"))))
 
 -- of the whole so much as fail of the campaigns
 abbrev pub share_of : ℕ → Group → ℕ
@@ -82,7 +89,8 @@ unfoldable pub side : Group → List ℕ
 side g = codes "<rect class=\"bar\" x=\"" ++ (decimal (125 + 50 * g.traitors) ++ codes "\"")
 
 unfoldable pub rise : ℕ → ℕ → List ℕ
-rise row height = codes " y=\"" ++ (decimal (74 + 44 * row - height) ++ (codes "\" width=\"40\" height=\"" ++ (decimal height ++ codes "\"/></g>")))
+rise row height = codes " y=\""
+    ++ (decimal (74 + 44 * row - height) ++ (codes "\" width=\"40\" height=\"" ++ (decimal height ++ codes "\"/></g>")))
 
 abbrev pub bar : ℕ → Group → List ℕ
 bar row g = side g ++ rise row (share_of 28 g)
@@ -91,7 +99,8 @@ unfoldable pub percent : Group → List ℕ
 percent g = cond (share_of 100 g == 0 && nat_lt 0 g.failed) (codes "&lt;1%") (decimal (share_of 100 g) ++ codes "%")
 
 unfoldable pub place : ℕ → Group → List ℕ
-place row g = codes "<text class=\"share\" x=\"" ++ (decimal (145 + 50 * g.traitors) ++ (codes "\" y=\"" ++ (decimal (85 + 44 * row) ++ codes "\">")))
+place row g = codes "<text class=\"share\" x=\""
+    ++ (decimal (145 + 50 * g.traitors) ++ (codes "\" y=\"" ++ (decimal (85 + 44 * row) ++ codes "\">")))
 
 abbrev pub cell : ℕ → Group → List ℕ
 cell row g = counts g ++ bar row g ++ place row g ++ percent g ++ codes "</text>\n"
@@ -111,4 +120,5 @@ cells row before (g ∷ groups) =
     start_of here g (begins before g) ++ cell here g ++ cells here (Some g) groups
 
 unfoldable pub picture_text : List Group → List ℕ
-picture_text groups = start ++ size (94 + 44 * rows_of groups) ++ head ++ columns ++ grounds 0 None groups ++ cells 0 None groups ++ codes "</svg>\n"
+picture_text groups = start ++ size (94 + 44 * rows_of groups) ++ head ++ columns ++ grounds 0 None groups
+    ++ cells 0 None groups ++ codes "</svg>\n"

@@ -66,7 +66,8 @@ fn failed_in(findings: &[Finding]) -> u64
     count
 }
 
-/// Adds the group of those campaigns that have so many traitors, of generals who provide for so many, if there are some.
+/// Adds the group of those campaigns that have so many traitors, of generals who provide for so many, if there are
+/// some.
 fn push_group(
     alloc: Global,
     groups: &mut Vec<Group>,
@@ -91,7 +92,8 @@ fn push_group(
     Ok(())
 }
 
-/// Adds the groups of campaigns of so many generals who provide for so many traitors, which these are, by their traitors.
+/// Adds the groups of campaigns of so many generals who provide for so many traitors, which these are, by their
+/// traitors.
 #[tactic(auto, unfolding(crate::specs::Groups::groups_in))]
 fn push_groups(
     alloc: Global,
@@ -116,7 +118,8 @@ fn push_bound(
     generals: u8,
     bound: u8,
 ) -> Result<(), AllocError>
-    ensures { OnOk result (groups.new.items ≡ groups.old.items ++ groups_in generals bound (of_bound bound findings.now)) }
+    ensures { OnOk result (groups.new.items ≡ groups.old.items
+        ++ groups_in generals bound (of_bound bound findings.now)) }
 {
     let some = of_bound(alloc, findings, bound)?;
     push_groups(alloc, groups, some.as_slice(), generals, bound)
@@ -145,13 +148,15 @@ fn push_generals(
     findings: &[Finding],
     generals: u8,
 ) -> Result<(), AllocError>
-    ensures { OnOk result (groups.new.items ≡ groups.old.items ++ groups_by_bound generals (of_generals generals findings.now)) }
+    ensures { OnOk result (groups.new.items ≡ groups.old.items
+        ++ groups_by_bound generals (of_generals generals findings.now)) }
 {
     let some = of_generals(alloc, findings, generals)?;
     push_bounds(alloc, groups, some.as_slice(), generals)
 }
 
-/// The campaigns by their numbers of generals, bounds and traitors, each ascending; only numbers of which there are campaigns.
+/// The campaigns by their numbers of generals, bounds and traitors, each ascending; only numbers of which there are
+/// campaigns.
 ///
 /// # Errors
 ///

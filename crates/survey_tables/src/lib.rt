@@ -1,4 +1,5 @@
-//! What is told of many campaigns: which seeds lack, a table of their sums, and a picture. What is said of it stands in specs/.
+//! What is told of many campaigns: which seeds lack, a table of their sums, and a picture. What is said of it stands in
+//! specs/.
 #![tactic(auto)]
 
 mod cell;

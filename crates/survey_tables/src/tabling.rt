@@ -73,7 +73,8 @@ fn header() -> &'static str
     " generals bound traitors campaigns     kept   first   broken   first disobeyed   first   failed\n"
 }
 
-/// The table of what these campaigns come to: a row for each numbers of generals, bound and traitors of which there are some.
+/// The table of what these campaigns come to: a row for each numbers of generals, bound and traitors of which there are
+/// some.
 ///
 /// # Errors
 ///

@@ -54,7 +54,9 @@ pub record IsPlayed (s : Survey) (f : Family) (text : List ℕ) : Type 0 where
 
 -- a broken campaign of which nothing more can be taken out, as a scenario behind a comment
 abbrev pub least_head : ℕ → ℕ → ℕ → List ℕ
-least_head seed traitors statements = codes "# seed " ++ (decimal seed ++ (codes ": " ++ (decimal traitors ++ (codes " traitors, " ++ (decimal statements ++ codes " statements\n")))))
+least_head seed traitors statements = codes "# seed "
+    ++ (decimal seed ++ (codes ": "
+    ++ (decimal traitors ++ (codes " traitors, " ++ (decimal statements ++ codes " statements\n")))))
 
 abbrev pub least_text : Option Breach → List ℕ
 least_text None = codes "# no campaign is broken\n"

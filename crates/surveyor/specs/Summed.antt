@@ -18,7 +18,8 @@ abbrev pub joined : List (List Finding) → List Finding
 joined [] = []
 joined (part ∷ parts) = part ++ joined parts
 
--- these texts, one for each name, are parts of one survey, whose lines tell just these campaigns, each of one of the seeds
+-- these texts, one for each name, are parts of one survey, whose lines tell just these campaigns, each of one of the
+-- seeds
 pub record IsTold (m : Merge) (head : List ℕ) (found : List Finding) : Type 0 where
   pub texts : List (List ℕ)
   pub parts : List (List Finding)

@@ -13,8 +13,8 @@ use std::thread::Threads;
 use streams::Output;
 use survey::{Family, Span, plot_text};
 
-/// Prints for each number of generals and each bound that they can have the fewest traitors by whom agreement is broken in a
-/// seed's campaign, and the least of what is left of these.
+/// Prints for each number of generals and each bound that they can have the fewest traitors by whom agreement is broken
+/// in a seed's campaign, and the least of what is left of these.
 ///
 /// # Errors
 ///

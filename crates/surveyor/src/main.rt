@@ -1,5 +1,5 @@
-//! `surveyor`, the program behind `byzlab survey`: plays the campaigns that the seeds of a family give, and counts how they
-//! come out.
+//! `surveyor`, the program behind `byzlab survey`: plays the campaigns that the seeds of a family give, and counts how
+//! they come out.
 #![tactic(auto)]
 
 mod asked;

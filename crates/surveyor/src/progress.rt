@@ -6,9 +6,9 @@ use std::time::Instant;
 /// How many signs a bar has.
 const SIGNS: u64 = 20;
 
-/// How far a survey of the seeds from the first to the last has come, told on standard error: on a terminal in place of what was
-/// told before, and elsewhere once a minute, on a line of its own. The next seed is that from which `--seeds` goes on, should
-/// the survey be interrupted.
+/// How far a survey of the seeds from the first to the last has come, told on standard error: on a terminal in place of
+/// what was told before, and elsewhere once a minute, on a line of its own. The next seed is that from which `--seeds`
+/// goes on, should the survey be interrupted.
 #[derive(Drop)]
 pub struct Progress<'a> {
     rt: &'a HostRuntime,

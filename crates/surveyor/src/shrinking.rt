@@ -18,8 +18,8 @@ use std::thread::Threads;
 use streams::Output;
 use survey::{Family, Plot, plot_text};
 
-/// Prints the least of what is left of the seeds' campaigns when traitors and statements are taken out while agreement stays
-/// broken.
+/// Prints the least of what is left of the seeds' campaigns when traitors and statements are taken out while agreement
+/// stays broken.
 ///
 /// # Errors
 ///
@@ -32,7 +32,8 @@ pub fn shrunken<T: Threads + Sync, O: Output>(
     family: &Family,
 ) -> Result<(), Fault>
     requires { IsSurvey asked.now }
-    ensures { OnOk result ((text : List ℕ) × IsShrunken asked.now family.now text × Appends (O.contents out.old) (O.contents out.new) text) }
+    ensures { OnOk result ((text : List ℕ) × IsShrunken asked.now family.now text
+        × Appends (O.contents out.old) (O.contents out.new) text) }
 {
     let least = least_left(rt, threads, asked, family)?;
     print(out, least_text(rt.alloc(), least.as_ref())?.as_str())

@@ -11,8 +11,8 @@ use streams::Output;
 use survey::{Finding, PartError, Parts, read_part};
 use survey_tables::{Stretch, doubles, holes};
 
-/// Prints what the lines of files come to, and says on standard error which seeds lack, and which stand there more than once.
-/// The result is the exit status: 1 where there are such seeds.
+/// Prints what the lines of files come to, and says on standard error which seeds lack, and which stand there more than
+/// once. The result is the exit status: 1 where there are such seeds.
 ///
 /// # Errors
 ///
@@ -99,7 +99,8 @@ fn ends(all: &[Finding]) -> Option<(u64, u64)> {
     ends
 }
 
-/// The seeds that are asked for: those that are said or, where none are, those from the least to the greatest that is told.
+/// The seeds that are asked for: those that are said or, where none are, those from the least to the greatest that is
+/// told.
 fn asked_for(seeds: Option<(u64, u64)>, all: &[Finding]) -> Option<(u64, u64)>
     ensures { IfSome seeds (λ s. result ≡ Some s) }
 {
