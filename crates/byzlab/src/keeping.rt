@@ -1,4 +1,7 @@
 //! Files that are written besides an answer.
+ghost use Rattle.std.specs.Prelude.{◌≡◌, IfErr, length};
+ghost use Rattle.byzlab.specs.Kept.{IsKeptIn, IsUnwritten, Tells};
+
 use std::alloc::AllocError;
 use std::fs::{File, create_dir, metadata, remove_file, rename};
 use std::io::{self, ErrorKind, Write};
@@ -13,6 +16,11 @@ pub enum Unkept {
 }
 
 impl From<AllocError> for Unkept {
+    ghost use Rattle.byzlab.specs.declared.keeping.Unkept.TheVariants.{Memory};
+    ghost use Rattle.std.specs.Prelude.{◌≡◌};
+
+    ghost from_gives = { λ _ unkept. unkept ≡ Memory };
+
     fn from(_error: AllocError) -> Unkept {
         Unkept::Memory
     }
@@ -23,7 +31,9 @@ impl From<AllocError> for Unkept {
 /// # Errors
 ///
 /// It cannot be written, or want of memory.
-pub fn write_whole(rt: &HostRuntime, name: &str, bytes: &[u8]) -> Result<(), Unkept> {
+pub fn write_whole(rt: &HostRuntime, name: &str, bytes: &[u8]) -> Result<(), Unkept>
+    ensures { IfErr result (Tells (λ told. told ≡ name.now)) }
+{
     let alloc = rt.alloc();
     let beside = format!(in alloc; "{name}.new")?;
     match written(rt, beside.as_str(), name, bytes) {
@@ -45,7 +55,9 @@ fn written(rt: &HostRuntime, beside: &str, name: &str, bytes: &[u8]) -> io::Resu
 }
 
 /// That the file or the folder of this name cannot be written.
-fn unwritten(rt: &HostRuntime, name: &str, kind: ErrorKind) -> Unkept {
+fn unwritten(rt: &HostRuntime, name: &str, kind: ErrorKind) -> Unkept
+    ensures { IsUnwritten name.now kind result }
+{
     if kind == ErrorKind::OutOfMemory {
         return Unkept::Memory;
     }
@@ -60,7 +72,9 @@ fn unwritten(rt: &HostRuntime, name: &str, kind: ErrorKind) -> Unkept {
 /// # Errors
 ///
 /// It is no folder and cannot be made, or want of memory.
-fn make_folder(rt: &HostRuntime, name: &str) -> Result<(), Unkept> {
+fn make_folder(rt: &HostRuntime, name: &str) -> Result<(), Unkept>
+    ensures { IfErr result (Tells (λ told. told ≡ name.now)) }
+{
     match metadata(rt, name) {
         Ok(found) if found.is_dir() => Ok(()),
         Ok(_) => Err(unwritten(rt, name, ErrorKind::NotADirectory)),
@@ -82,7 +96,9 @@ pub fn keep(
     folder: &str,
     scenario: &[u8],
     schedules: &[String],
-) -> Result<(), Unkept> {
+) -> Result<(), Unkept>
+    ensures { IfErr result (Tells (IsKeptIn folder.now (length schedules.now))) }
+{
     let alloc = rt.alloc();
     make_folder(rt, folder)?;
     let name = format!(in alloc; "{folder}/scenario.toml")?;
