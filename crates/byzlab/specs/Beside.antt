@@ -19,7 +19,8 @@ path_in (Some folder) name = folder ++ codes "/" ++ name
 -- a name that begins with a slash is a path; any other is one from the scenario's folder
 abbrev pub IsPathBy : Bool → List ℕ → List ℕ → List ℕ → Type 0
 IsPathBy true scenario name path = path ≡ name
-IsPathBy false scenario name path = (folder : Option (List ℕ)) × IsFolderOf scenario folder × (path ≡ path_in folder name)
+IsPathBy false scenario name path =
+    (folder : Option (List ℕ)) × IsFolderOf scenario folder × (path ≡ path_in folder name)
 
 abbrev pub IsPathOf : List ℕ → List ℕ → List ℕ → Type 0
 IsPathOf scenario name path = IsPathBy (slice_index name 0 == slash) scenario name path

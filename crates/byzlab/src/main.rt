@@ -78,7 +78,8 @@ fn in_turn<T: Threads + Wait + Sync>(
     requests: &[Vec<&str>],
 ) -> io::Result<u8>
     ensures status { IfOk result (λ status. status ≤ 3) }
-    ensures mistaken { IfOk result (λ status. status ≡ 2 → Any (λ request. asked (words_of request.items) ≡ None) requests.now) }
+    ensures mistaken { IfOk result (λ status. status ≡ 2 →
+        Any (λ request. asked (words_of request.items) ≡ None) requests.now) }
 {
     let progress = Progress::of(rt, requests.len());
     let mut worst = 0;
