@@ -10,10 +10,8 @@ mod target;
 mod telling;
 mod watched;
 
-ghost use Rattle.std.specs.Prelude.{◌≡◌, ◌≤◌, Ok, IfOk, IfErr, IfSome, None, Some, false, max, option_map};
-ghost use Rattle.std.specs.List.{Any};
+ghost use Rattle.std.specs.Prelude.{◌≡◌, ◌≤◌, Ok, IfOk, IfErr, IfSome, Some, false, max, option_map};
 ghost use Rattle.std.specs.IoError.{error_kind};
-ghost use Rattle.command_line.specs.Asked.{asked, words_of};
 ghost use Rattle.command_line.specs.Told.{file_of, second_of, seed_of};
 ghost use Rattle.neighbours.specs.Seen.{reads_scenario};
 ghost use Rattle.neighbours.specs.Story.{with_story};
@@ -77,9 +75,7 @@ fn in_turn<T: Threads + Wait + Sync>(
     threads: &T,
     requests: &[Vec<&str>],
 ) -> io::Result<u8>
-    ensures status { IfOk result (λ status. status ≤ 3) }
-    ensures mistaken { IfOk result (λ status. status ≡ 2 →
-        Any (λ request. asked (words_of request.items) ≡ None) requests.now) }
+    ensures { IfOk result (λ status. status ≤ 3) }
 {
     let progress = Progress::of(rt, requests.len());
     let mut worst = 0;
