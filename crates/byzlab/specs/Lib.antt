@@ -1,2 +1,4 @@
+pub mod Beside
 pub mod Files
+pub mod Kept
 pub mod Telling

@@ -1,6 +1,9 @@
 //! The folder of a scenario.
+ghost use Rattle.std.specs.Prelude.{IfOk, option_map, string_bytes};
+ghost use Rattle.byzlab.specs.Beside.{IsFolderOf, IsPathOf};
+
 use neighbours::Folder;
-use std::alloc::Global;
+use std::alloc::{AllocError, Global};
 use std::fs::File;
 use std::io::{self, Read};
 
@@ -13,16 +16,32 @@ pub struct FolderOf<'a> {
 
 impl Folder for FolderOf<'_> {
     fn read(&self, alloc: Global, name: &str) -> io::Result<Vec<u8>> {
-        let mut path = String::new(alloc);
-        if !name.starts_with('/') {
-            if let Some((folder, _)) = self.scenario.rsplit_once('/') {
-                path.push_str(folder)?;
-                path.push('/')?;
-            }
-        }
-        path.push_str(name)?;
+        let path = path_of(alloc, self.scenario, name)?;
         let mut bytes = Vec::new(alloc);
         File::open(self.rt, path.as_str())?.read_to_end(&mut bytes)?;
         Ok(bytes)
+    }
+}
+
+/// The folder in the name of a scenario, where it has one.
+fn folder_of(scenario: &str) -> Option<&str>
+    ensures { IsFolderOf scenario.now (option_map (λ folder. folder.now) result) }
+{
+    match scenario.rsplit_once('/') {
+        Some((folder, _)) => Some(folder),
+        None => None,
+    }
+}
+
+/// The path of a file that a scenario names: from the scenario's folder, unless it begins with a slash.
+fn path_of(alloc: Global, scenario: &str, name: &str) -> Result<String, AllocError>
+    ensures { IfOk result (λ path. IsPathOf scenario.now name.now (string_bytes path)) }
+{
+    if name.starts_with('/') {
+        return String::from_str(alloc, name);
+    }
+    match folder_of(scenario) {
+        Some(folder) => format!(in alloc; "{folder}/{name}"),
+        None => String::from_str(alloc, name),
     }
 }

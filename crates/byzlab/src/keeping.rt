@@ -1,4 +1,7 @@
 //! Files that are written besides an answer.
+ghost use Rattle.std.specs.Prelude.{◌≡◌, IfErr, length};
+ghost use Rattle.byzlab.specs.Kept.{IsKeptIn, IsUnwritten, Tells};
+
 use std::alloc::AllocError;
 use std::fs::{File, create_dir, metadata, remove_file, rename, symlink_metadata};
 use std::io::{self, ErrorKind, Write};
@@ -13,6 +16,11 @@ pub enum Unkept {
 }
 
 impl From<AllocError> for Unkept {
+    ghost use Rattle.byzlab.specs.declared.keeping.Unkept.TheVariants.{Memory};
+    ghost use Rattle.std.specs.Prelude.{◌≡◌};
+
+    ghost from_gives = { λ _ unkept. unkept ≡ Memory };
+
     fn from(_error: AllocError) -> Unkept {
         Unkept::Memory
     }
@@ -25,7 +33,9 @@ impl From<AllocError> for Unkept {
 /// # Errors
 ///
 /// It cannot be written, or the name beside it is taken, or want of memory.
-pub fn write_whole(rt: &HostRuntime, name: &str, bytes: &[u8]) -> Result<(), Unkept> {
+pub fn write_whole(rt: &HostRuntime, name: &str, bytes: &[u8]) -> Result<(), Unkept>
+    ensures { IfErr result (Tells (λ told. told ≡ name.now)) }
+{
     match symlink_metadata(rt, name) {
         Ok(found) if !found.is_file() => write_through(rt, name, bytes),
         _ => write_beside(rt, name, bytes),
@@ -33,7 +43,9 @@ pub fn write_whole(rt: &HostRuntime, name: &str, bytes: &[u8]) -> Result<(), Unk
 }
 
 /// Writes to what has this name.
-fn write_through(rt: &HostRuntime, name: &str, bytes: &[u8]) -> Result<(), Unkept> {
+fn write_through(rt: &HostRuntime, name: &str, bytes: &[u8]) -> Result<(), Unkept>
+    ensures { IfErr result (Tells (λ told. told ≡ name.now)) }
+{
     let ended = match File::create(rt, name) {
         Ok(file) => filled(file, bytes),
         Err(error) => Err(error),
@@ -45,14 +57,13 @@ fn write_through(rt: &HostRuntime, name: &str, bytes: &[u8]) -> Result<(), Unkep
 }
 
 /// Writes a new file beside this name, and gives it the name.
-fn write_beside(rt: &HostRuntime, name: &str, bytes: &[u8]) -> Result<(), Unkept> {
+fn write_beside(rt: &HostRuntime, name: &str, bytes: &[u8]) -> Result<(), Unkept>
+    ensures { IfErr result (Tells (λ told. told ≡ name.now)) }
+{
     let alloc = rt.alloc();
     let beside = format!(in alloc; "{name}.new")?;
     let file = match File::create_new(rt, beside.as_str()) {
         Ok(file) => file,
-        Err(error) if error.kind() == ErrorKind::AlreadyExists => {
-            return Err(unwritten(rt, beside.as_str(), error.kind()));
-        }
         Err(error) => return Err(unwritten(rt, name, error.kind())),
     };
     match named(rt, file, beside.as_str(), name, bytes) {
@@ -77,7 +88,9 @@ fn filled(mut file: File, bytes: &[u8]) -> io::Result<()> {
 }
 
 /// That the file or the folder of this name cannot be written.
-fn unwritten(rt: &HostRuntime, name: &str, kind: ErrorKind) -> Unkept {
+fn unwritten(rt: &HostRuntime, name: &str, kind: ErrorKind) -> Unkept
+    ensures { IsUnwritten name.now kind result }
+{
     if kind == ErrorKind::OutOfMemory {
         return Unkept::Memory;
     }
@@ -92,7 +105,9 @@ fn unwritten(rt: &HostRuntime, name: &str, kind: ErrorKind) -> Unkept {
 /// # Errors
 ///
 /// It is no folder and cannot be made, or want of memory.
-fn make_folder(rt: &HostRuntime, name: &str) -> Result<(), Unkept> {
+fn make_folder(rt: &HostRuntime, name: &str) -> Result<(), Unkept>
+    ensures { IfErr result (Tells (λ told. told ≡ name.now)) }
+{
     match metadata(rt, name) {
         Ok(found) if found.is_dir() => Ok(()),
         Ok(_) => Err(unwritten(rt, name, ErrorKind::NotADirectory)),
@@ -114,7 +129,9 @@ pub fn keep(
     folder: &str,
     scenario: &[u8],
     schedules: &[String],
-) -> Result<(), Unkept> {
+) -> Result<(), Unkept>
+    ensures { IfErr result (Tells (IsKeptIn folder.now (length schedules.now))) }
+{
     let alloc = rt.alloc();
     make_folder(rt, folder)?;
     let name = format!(in alloc; "{folder}/scenario.toml")?;

@@ -10,7 +10,7 @@ mod target;
 mod telling;
 mod watched;
 
-ghost use Rattle.std.specs.Prelude.{◌≡◌, Ok, IfOk, IfErr, IfSome, Some, false, max, option_map};
+ghost use Rattle.std.specs.Prelude.{◌≡◌, ◌≤◌, Ok, IfOk, IfErr, IfSome, Some, false, max, option_map};
 ghost use Rattle.std.specs.IoError.{error_kind};
 ghost use Rattle.command_line.specs.Told.{file_of, second_of, seed_of};
 ghost use Rattle.neighbours.specs.Seen.{reads_scenario};
@@ -56,7 +56,9 @@ fn lacking(rt: &HostRuntime, kind: ErrorKind) -> u8
 }
 
 /// Reads the words, and does each request of theirs, up to the first that is none. The result is the worst exit status.
-fn called<T: Threads + Wait + Sync>(rt: &HostRuntime, threads: &T) -> io::Result<u8> {
+fn called<T: Threads + Wait + Sync>(rt: &HostRuntime, threads: &T) -> io::Result<u8>
+    ensures { IfOk result (λ status. status ≤ 3) }
+{
     let alloc = rt.alloc();
     let words: Vec<String> = env::args(rt)?.skip(1).collect(alloc)?;
     let mut texts: Vec<&str> = Vec::with_capacity(alloc, words.len())?;
@@ -64,10 +66,21 @@ fn called<T: Threads + Wait + Sync>(rt: &HostRuntime, threads: &T) -> io::Result
         texts.push(word.as_str())?;
     }
     let requests = each(alloc, texts.as_slice())?;
+    in_turn(rt, threads, requests.as_slice())
+}
+
+/// Does each request, up to the first that is none or whose output fails. The result is the worst exit status.
+fn in_turn<T: Threads + Wait + Sync>(
+    rt: &HostRuntime,
+    threads: &T,
+    requests: &[Vec<&str>],
+) -> io::Result<u8>
+    ensures { IfOk result (λ status. status ≤ 3) }
+{
     let progress = Progress::of(rt, requests.len());
     let mut worst = 0;
     for (index, words) in requests.iter().enumerate() {
-        let request = match command_line::request(alloc, words.as_slice()) {
+        let request = match command_line::request(rt.alloc(), words.as_slice()) {
             Ok(request) => request,
             Err(error) => return unasked(rt, error),
         };
