@@ -1,5 +1,5 @@
 -- The entries of a schedule that is made of accesses are those that the text of a schedule may have.
-use Rattle.std.proofs.Common.{◌≡◌, ◌≢◌, ℕ, zero, suc, ◌+◌, ◌<◌, ◌≤◌, List, [], ◌∷◌, ◌++◌, length, Bool, true, false, cond, refl, sym, ap, subst, ◌∙◌, ⊎_elim, Option, Some, None, Ok, Err, arith}
+use Rattle.std.proofs.Common.{◌≡◌, ◌≢◌, ℕ, zero, suc, ◌<◌, ◌≤◌, List, [], ◌∷◌, ◌++◌, length, Bool, true, false, cond, refl, sym, ap, subst, ◌∙◌, ⊎_elim, Option, Some, None, arith}
 use Rattle.std.specs.Prelude.{slice_get, slice_set, replicate, nat_le, ◌&&◌}
 use Rattle.std.specs.List.{AllByRecursion, list_all}
 use Rattle.std.proofs.lemmas.Bool.Decides.{nat_tests}
@@ -10,8 +10,6 @@ use Rattle.semantics.specs.Execution.{step}
 use Rattle.round.specs.Activation.{Activation, Turn, Goes, Asks, Ended, has_ended, started, turn, turned}
 use Rattle.round.specs.Letters.{Letter}
 use Rattle.round.specs.Scenario.{Scenario, program_of}
-use Rattle.trace.specs.declared.fault.Fault.TheVariants.{Line}
-use Rattle.trace.specs.declared.fault.TraceError.TheVariants.{At}
 use Rattle.trace.specs.Schedules.{schedule_told}
 use Rattle.world.specs.declared.event.Event.{Event}
 use Rattle.world.specs.declared.event.Event.TheVariants.{Tick, Post, Close}

@@ -1,5 +1,5 @@
 -- The least of what is left, piece by piece.
-use Rattle.std.proofs.Common.{ℕ, ◌+◌, ◌-◌, ◌≤◌, ◌≡◌, List, [], ◌++◌, sym, subst, arith, Option, None}
+use Rattle.std.proofs.Common.{ℕ, ◌-◌, ◌≤◌, ◌≡◌, List, [], ◌++◌, sym, subst, arith, Option, None}
 use Rattle.std.specs.List.{AllZip, range_with_len}
 use Rattle.std.proofs.lemmas.List.Elements.{All-nil}
 use Rattle.survey.specs.Plot.{Plot}

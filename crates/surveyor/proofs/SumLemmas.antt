@@ -1,11 +1,10 @@
 -- What files tell, one behind the other, and whether each seed is told once.
-use Rattle.std.proofs.Common.{ℕ, zero, suc, ◌+◌, ◌≤◌, ◌<◌, ◌≡◌, ◌≢◌, Bool, true, false, List, [], ◌∷◌, ◌++◌, length, take, refl, sym, ap, subst, ◌∙◌, arith, append_assoc, append-nil, length-append, Option, None, Some}
+use Rattle.std.proofs.Common.{ℕ, ◌+◌, ◌≤◌, ◌≡◌, ◌≢◌, false, List, [], ◌∷◌, ◌++◌, length, refl, sym, ap, subst, ◌∙◌, arith, append_assoc, append-nil, length-append, Option, None, Some}
 use Rattle.std.specs.Prelude.{flat_map, nat_le, ◌==◌, ◌&&◌, IfSome}
-use Rattle.std.specs.List.{AllZip, Contains}
+use Rattle.std.specs.List.{AllZip}
 use Rattle.std.proofs.lemmas.Bool.Decides.{nat_tests}
 use Rattle.rayon.proofs.ListFacts.{AllZip-append}
 use Rattle.survey.specs.declared.finding.Finding.{Finding}
-use Rattle.survey.specs.Heads.{IsHead}
 use Rattle.survey.specs.Parts.{AreOf, IsLed, IsOf, IsPart, IsReadOn, found_in, row_text}
 use Rattle.survey.proofs.PartLemmas.{all_both}
 use Rattle.survey_tables.specs.Covering.{AreDoubles, AreHoles, is_in, seeds_in, times}

@@ -1,6 +1,6 @@
 -- What is printed of campaigns, and what is said of the seeds of files (docs/FORMATS.md, "Surveys").
-use Rattle.std.specs.Prelude.{ℕ, ◌≡◌, ◌+◌, ◌≤◌, ◌↔◌, List, [], ◌++◌, length, flat_map, decimal, codes, Option, None, Some, string_bytes}
-use Rattle.std.specs.List.{AllByRecursion, AllZip}
+use Rattle.std.specs.Prelude.{ℕ, ◌≡◌, ◌+◌, List, [], ◌++◌, length, flat_map, decimal, codes, Option, None, Some}
+use Rattle.std.specs.List.{AllZip}
 use Rattle.std.specs.Io.KnownBytes.{Appends}
 use Rattle.rayon.specs.Numbers.{nat_range}
 use Rattle.survey.specs.declared.finding.Finding.{Finding}
@@ -8,7 +8,6 @@ use Rattle.survey.specs.Family.{Family}
 use Rattle.survey.specs.Heads.{head_text}
 use Rattle.survey.specs.Judging.{IsFindingOf}
 use Rattle.survey.specs.Lines.{line_text}
-use Rattle.survey.specs.Parts.{AreOf, IsPart}
 use Rattle.survey.specs.Plotting.{plot_of}
 use Rattle.survey.specs.Sums.{sums_of}
 use Rattle.survey.specs.Wording.{plot_text}
@@ -18,7 +17,6 @@ use Rattle.survey_tables.specs.Pictures.{picture_text}
 use Rattle.survey_tables.specs.Tables.{table_text}
 use Rattle.shrink.specs.declared.breach.Breach.{Breach}
 use Rattle.shrink.specs.Breaches.{IsLeastBreach, statements}
-use Rattle.surveyor.specs.declared.asked.Merge.{Merge}
 use Rattle.surveyor.specs.declared.asked.Shape.{Shape}
 use Rattle.surveyor.specs.declared.asked.Shape.TheVariants.{Sums, Lines, Table, Picture, Least}
 use Rattle.surveyor.specs.declared.asked.Survey.{Survey}
