@@ -131,10 +131,10 @@ fn key() -> &'static str
     ensures { result.now ≡ key }
 {
     "<desc>A column for each general, and a band for each round, from above. In a band a line leads down from who tells something \
-     to whom he tells it, as wide as he tells it of labels, up to 5, and below stands in
-         the column of the receiver what he was told. \
-     Circle and plain line: as an honest relay tells it. Diamond and dashes: something else. Cross and dots: nothing,
-         where \
+     to whom he tells it, as wide as he tells it of labels, up to 5, and below stands in \
+     the column of the receiver what he was told. \
+     Circle and plain line: as an honest relay tells it. Diamond and dashes: something else. Cross and dots: nothing, \
+     where \
      something was to be told. Above the lines stand the accesses to the board, in its order. Square: a traitor.</desc>\n"
 }
 

@@ -22,16 +22,16 @@ fn head() -> &'static str
     ensures { result.now ≡ head }
 {
     "<title>where agreement or the order is broken</title>\n\
-     <desc>Each row: so many generals, n, who provide for so many traitors,
-         m. Each column: so many traitors. A bar: the share of \
-     the campaigns of these numbers in
-         which loyal lieutenants decide unlike, or not as a loyal commander has ordered. Dashes: n = 3m + 1,
-         at so many traitors as m. A ground: \
+     <desc>Each row: so many generals, n, who provide for so many traitors, \
+     m. Each column: so many traitors. A bar: the share of \
+     the campaigns of these numbers in \
+     which loyal lieutenants decide unlike, or not as a loyal commander has ordered. Dashes: n = 3m + 1, \
+     at so many traitors as m. A ground: \
      the campaign's bound is kept.</desc>\n\
-     <style>svg{background:#fff}text{fill:#111;font:14px
-         sans-serif}.bar{fill:#b00020}.base,.limit{fill:none;stroke:#767676}\
-     .limit{stroke:#0b57d0;stroke-width:2;stroke-dasharray:6
-         3}.kept{fill:#d7f0da}.share{font-size:11px;text-anchor:middle}\
+     <style>svg{background:#fff}text{fill:#111;font:14px \
+     sans-serif}.bar{fill:#b00020}.base,.limit{fill:none;stroke:#767676}\
+     .limit{stroke:#0b57d0;stroke-width:2;stroke-dasharray:6 \
+     3}.kept{fill:#d7f0da}.share{font-size:11px;text-anchor:middle}\
      @media(prefers-color-scheme:dark){svg{background:#111}text{fill:#eee}.bar{fill:#ff6b7a}.limit{stroke:#8ab4f8}\
      .kept{fill:#143d1b}}</style>\n\
      <text x=\"10\" y=\"24\">campaigns in which agreement is broken or the order disobeyed, by the number of traitors</text>\n\
