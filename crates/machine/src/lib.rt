@@ -7,6 +7,8 @@ mod arithmetic;
 mod calls;
 mod execution;
 mod flow;
+mod going;
+mod kind;
 mod registers;
 mod replies;
 mod stop;
