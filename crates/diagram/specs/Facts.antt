@@ -1,5 +1,5 @@
 -- Who told whom what in a campaign, by the message table t that its letters tell.
-use Rattle.std.specs.Prelude.{ℕ, zero, suc, ◌+◌, ◌==◌, Bool, true, false, not, ◌&&◌, if◌then◌else◌, List, [], ◌∷◌, ◌++◌, length, take, count_by, Option, nat_eq, unwrap_or}
+use Rattle.std.specs.Prelude.{ℕ, zero, suc, ◌+◌, ◌==◌, Bool, not, ◌&&◌, if◌then◌else◌, List, [], ◌∷◌, ◌++◌, length, take, count_by, nat_eq, unwrap_or}
 use Rattle.std.specs.Bool.{beq}
 use Rattle.std.specs.HashMap.{get, HashMap}
 use Rattle.std.specs.List.{flat_map, list_any}

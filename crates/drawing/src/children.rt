@@ -1,7 +1,6 @@
 //! What a lieutenant was told of the labels that go on from one: they stand together in his tree.
-ghost use Rattle.std.specs.Prelude.{◌≡◌, ◌<◌, ◌≤◌, ◌+◌, ◌-◌, ◌*◌, [], ◌∷◌, ◌++◌, length, map, true, slice_range};
-ghost use Rattle.label.specs.Labels.{labels, others};
-ghost use Rattle.tree.specs.LieutenantTree.{level_of};
+ghost use Rattle.std.specs.Prelude.{◌≡◌, ◌≤◌, ◌+◌, ◌*◌, [], ◌∷◌, ◌++◌, length, map, true, slice_range};
+ghost use Rattle.label.specs.Labels.{others};
 ghost use Rattle.book.specs.Explained.{list_of};
 ghost use Rattle.book.specs.Grammar.{is_place};
 ghost use Rattle.book.specs.Table.{told};
@@ -9,7 +8,6 @@ ghost use Rattle.book.specs.Table.{told};
 use arrayvec::ArrayVec;
 use book::Heard;
 use label::{Label, rank};
-use tree::Tree;
 
 /// The list that the lieutenant combines at a label that only the longest go on from.
 pub(crate) fn last_orders<H: Heard>(table: &H, general: u8, label: &Label) -> ArrayVec<u32, 13>
@@ -39,22 +37,19 @@ fn told_children<'a, H: Heard>(table: &'a H, general: u8, label: &Label) -> &'a 
         (others (H.seen table.now).generals (general ∷ label.now)) }
 {
     let tree = table.tree(general);
-    let size = label.len() as u8;
-    match rank(tree.space(), label) {
-        Ok(rank) => children(tree, size, rank as usize),
+    let space = tree.space();
+    let size = label.generals().len() as u8;
+    let width = usize::from((space.generals - 1).saturating_sub(size));
+    match rank(space, label) {
+        Ok(rank) => part(tree.level(size + 1), width, rank as usize),
         Err(_) => unreachable!(),
     }
 }
 
-/// The part of a tree's level that belongs to the label of this length and rank: to those that go on from it.
-fn children(tree: &Tree, size: u8, rank: usize) -> &[Option<u32>]
-    requires some { 0 < size }
-    requires short { size ≤ tree.now.bound }
-    requires within { rank < length (labels tree.now.generals tree.now.commander tree.now.general size) }
-    ensures { result.now ≡ slice_range (level_of tree.now (size + 1)) (rank * (tree.now.generals - 1 - size))
-        (rank * (tree.now.generals - 1 - size) + (tree.now.generals - 1 - size)) }
+/// The part of a level that belongs to a rank of the level above, of this width.
+fn part(level: &[Option<u32>], width: usize, rank: usize) -> &[Option<u32>]
+    requires { rank * width + width ≤ length level.now }
+    ensures { result.now ≡ slice_range level.now (rank * width) (rank * width + width) }
 {
-    let width = usize::from((tree.space().generals - 1).saturating_sub(size));
-    let first = rank * width;
-    &tree.level(size + 1)[first..first + width]
+    &level[rank * width..rank * width + width]
 }
