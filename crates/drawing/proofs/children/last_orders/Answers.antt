@@ -1,4 +1,4 @@
-use Rattle.std.proofs.Common.{ℕ, ◌<◌, ◌≡◌, ◌∙◌, ◌∷◌, ◌++◌, [], None, Option, ap, arith, get_or, length, lit<, map, refl, sym}
+use Rattle.std.proofs.Common.{◌<◌, ◌≡◌, ◌∙◌, ◌∷◌, ◌++◌, [], None, ap, arith, get_or, length, lit<, map, refl, sym}
 use Rattle.label.specs.Labels.{others}
 use Rattle.book.specs.Explained.{element}
 use Rattle.book.specs.Table.{told}
