@@ -10,8 +10,7 @@ pub loop-telling-preserved : goal.loop-telling-preserved
 loop-telling-preserved c =
     let i = c.loop-telling.telling-index in
     let x : Telling = get_or c.args.tellings.now i nothing_told in
-    let more = told_more c.args.receiver i c.args.tellings.now nothing_told c.loop-telling.strokes.items c.if-branch.strokes.items _ c.loop-telling-test.true c.loop-telling.invariant.1 in
-    (
+    let more = told_more c.args.receiver i c.args.tellings.now nothing_told c.loop-telling.strokes.items c.if-branch.strokes.items _ c.loop-telling-test.true c.loop-telling.invariant.1 in (
       λ q. seen_more q nothing_told c.args.tellings.now i _ _ c.loop-telling-test.true (c.loop-telling.invariant.0 q) (c.in_ok-insert.ensures.updates.0 q),
       more (elim c.if-branch.branch [
         | then-branch+in_ok-push w ↦

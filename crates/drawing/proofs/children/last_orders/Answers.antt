@@ -68,20 +68,18 @@ loop-other-preserved g c =
         v.next-is ∙ no_more (p ∷ w) other c.loop-other.next (on_first p other w v.if-other-general.true) c.loop-other.invariant.1,
       )
       | else-other-general+then-not-has v ↦ (
-        let here = sym v.has.ensures ∙ v.if-not-has.true in
-        let free = off_first p other w v.if-other-general.false here in
-        let read : get_or c.told_children-told.result.now c.loop-other.next None ≡ told t.messages (w ++ other ∷ []) p =
-        child_read (λ j. told t.messages (w ++ j ∷ []) p) t.generals other c.loop-other.next (p ∷ w) c.told_children-told.result.now None c.told_children-told.ensures below free c.loop-other.invariant.1
-        in
-        (
-          rw (v.orders-is, v.push-then-not-has.ensures.items, c.loop-other.invariant.0, v.unwrap_or-then-not-has.ensures)
-          (other_more t 0 w p other (get_or c.told_children-told.result.now c.loop-other.next None) v.if-other-general.false here (read ∙ held_last t 0 (w ++ other ∷ []) p refl)),
-          v.next-is ∙ one_more (p ∷ w) other c.loop-other.next free c.loop-other.invariant.1,
-        )
-      )
+          let here = sym v.has.ensures ∙ v.if-not-has.true in
+          let free = off_first p other w v.if-other-general.false here in
+          let read : get_or c.told_children-told.result.now c.loop-other.next None ≡ told t.messages (w ++ other ∷ []) p =
+          child_read (λ j. told t.messages (w ++ j ∷ []) p) t.generals other c.loop-other.next (p ∷ w) c.told_children-told.result.now None c.told_children-told.ensures below free c.loop-other.invariant.1
+          in (
+            rw (v.orders-is, v.push-then-not-has.ensures.items, c.loop-other.invariant.0, v.unwrap_or-then-not-has.ensures)
+                (other_more t 0 w p other (get_or c.told_children-told.result.now c.loop-other.next None) v.if-other-general.false here (read ∙ held_last t 0 (w ++ other ∷ []) p refl)),
+            v.next-is ∙ one_more (p ∷ w) other c.loop-other.next free c.loop-other.invariant.1,
+          )
+          )
       | else-other-general+else-not-has v ↦
-          let here = sym v.has.ensures ∙ v.if-not-has.false in
-          (
+          let here = sym v.has.ensures ∙ v.if-not-has.false in (
             rw (v.orders-is, c.loop-other.invariant.0) (sym (map_no (element t 0 w p) w other here)),
             v.next-is ∙ no_more (p ∷ w) other c.loop-other.next (on_behind p other w here) c.loop-other.invariant.1,
           )
