@@ -31,7 +31,7 @@ use Rattle.trace.specs.Text.{chronicle_text}
 use Rattle.world.specs.Chronicle.{Chronicle}
 use Rattle.world.specs.declared.schedule.Repeat.{Repeat}
 use Rattle.world.specs.declared.verdict.Verdict.{Verdict}
-use Rattle.campaign_page.specs.Account.{access_heads, access_row, accesses_heading, accesses_part, bound_told, chronicle_heading, chronicle_shown, chronicle_part, course_told, elsewhere_words, general_name, lieutenant_part, lieutenant_told, lieutenant_words, lieutenants_heading, lieutenants_part, parts, picture_heading, picture_name, picture_part, picture_told, program_if, program_part, no_programs, programs_heading, programs_part, programs_told, recorded_words, scenario_heading, scenario_part, schedule_heading, schedule_part, title, unscheduled_words, verdict_heading, verdict_part, verdict_told, view, why_part}
+use Rattle.campaign_page.specs.Account.{access_heads, access_row, accesses_heading, accesses_part, bound_told, chronicle_heading, chronicle_shown, chronicle_part, course_told, elsewhere_words, general_name, lieutenant_part, lieutenant_told, lieutenant_words, lieutenants_heading, lieutenants_part, parts, picture_heading, picture_hint, picture_name, picture_part, picture_told, program_if, program_part, no_programs, programs_heading, programs_part, programs_told, recorded_words, scenario_heading, scenario_part, schedule_heading, schedule_part, title, unscheduled_words, verdict_heading, verdict_part, verdict_told, view, why_part}
 use Rattle.campaign_page.specs.Calls.{named_calls}
 use Rattle.campaign_page.specs.Trees.{item_by, items_below, label_item, node_by, root_told, tree_told}
 use Rattle.campaign_page.specs.Laws.{CampaignPagesAreElements}
@@ -75,7 +75,8 @@ pub svg_content : (svg element : List ℕ) → IsElement element → svg ≡ ele
 svg_content svg element is e =
     let drawn : IsContent svg =
     subst IsContent (sym e) (joined element (codes "\n") (proved_elements_are_elements.content element is) (text (codes "\n") (bare_text (codes "\n") refl))) in
-    below picture_heading (picture picture_name svg) (proved_parts_are_content.picture picture_name svg drawn)
+    below picture_heading (picture picture_name svg ++ paragraph picture_hint)
+    (joined (picture picture_name svg) (paragraph picture_hint) (proved_parts_are_content.picture picture_name svg drawn) (proved_parts_are_content.paragraph picture_hint))
 
 picture_content : (t : MessageTable) (c : Chronicle) → IsContent (picture_part t c)
 picture_content t c = let drawn = proved_diagrams_are_elements t c in svg_content (svg_text t c) drawn.0 drawn.1 drawn.2

@@ -60,6 +60,10 @@ verdict_heading = codes "Verdict, and what was promised"
 unfoldable pub picture_name : List ℕ
 picture_name = codes "Space-time diagram"
 
+-- on paper a wide picture is made narrow, and its letters small
+unfoldable pub picture_hint : List ℕ
+picture_hint = codes "The same picture alone, to enlarge or to print at any size, is what byzlab draw writes."
+
 -- ---- sections
 
 -- the scenario as it is written, with its story at its head
@@ -104,7 +108,7 @@ programs_part s = heading programs_heading ++ programs_told (flat_map (program_p
 
 -- the picture
 abbrev pub picture_told : List ℕ → List ℕ
-picture_told svg = heading picture_heading ++ picture picture_name svg
+picture_told svg = heading picture_heading ++ picture picture_name svg ++ paragraph picture_hint
 
 abbrev pub picture_part : MessageTable → Chronicle → List ℕ
 picture_part t c = picture_told (svg_text t c)

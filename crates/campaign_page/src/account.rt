@@ -1,6 +1,6 @@
 //! A campaign as a page.
 ghost use Rattle.std.specs.Prelude.{◌≡◌, ◌++◌, encode_utf8, flat_map, option_map, string_bytes, IfOk, OnOk};
-ghost use Rattle.campaign_page.specs.Account.{picture_name, chronicle_heading, picture_heading, scenario_heading, chronicle_shown, chronicle_part, page_text, parts, picture_part, picture_told, scenario_part, title, title_words};
+ghost use Rattle.campaign_page.specs.Account.{picture_hint, picture_name, chronicle_heading, picture_heading, scenario_heading, chronicle_shown, chronicle_part, page_text, parts, picture_part, picture_told, scenario_part, title, title_words};
 ghost use Rattle.trace.specs.Text.{chronicle_text};
 
 use crate::accesses::put_accesses;
@@ -9,7 +9,7 @@ use crate::sections::{put_lieutenants, put_programs_of};
 use crate::verdict::put_verdict;
 use book::Heard;
 use diagram::campaign_svg;
-use page::{finish, put_heading, put_lines, put_picture, start};
+use page::{finish, put_heading, put_lines, put_paragraph, put_picture, start};
 use round::Scenario;
 use std::alloc::{AllocError, Global};
 use trace::{Latch, write_chronicle};
@@ -116,12 +116,13 @@ fn put_diagram<H: Heard>(
     put_svg(out, svg.as_str())
 }
 
-/// Adds this picture.
+/// Adds this picture, and where it is to be had alone.
 pub fn put_svg(out: &mut String, svg: &str) -> Result<(), AllocError>
     ensures { OnOk result (string_bytes out.new ≡ string_bytes out.old ++ picture_told svg.now) }
 {
     put_heading(out, picture_heading())?;
-    put_picture(out, picture_name(), svg)
+    put_picture(out, picture_name(), svg)?;
+    put_paragraph(out, picture_hint())
 }
 
 /// Adds the chronicle.
@@ -200,4 +201,12 @@ fn picture_name() -> &'static str
     ensures { result.now ≡ picture_name }
 {
     "Space-time diagram"
+}
+
+/// Where the picture is to be had alone: on paper a wide one is made narrow, and its letters small.
+#[tactic(auto, unfolding(crate::specs::Account::picture_hint))]
+fn picture_hint() -> &'static str
+    ensures { result.now ≡ picture_hint }
+{
+    "The same picture alone, to enlarge or to print at any size, is what byzlab draw writes."
 }

@@ -1,7 +1,7 @@
 -- Each thing that a lieutenant was told has one stroke.
-use Rattle.std.proofs.Common.{ℕ, zero, suc, ◌+◌, ◌-◌, ◌≤◌, ◌≡◌, ◌≢◌, Bool, true, false, ◌&&◌, ◌||◌, cond, List, [], ◌∷◌, ◌++◌, length, length-append, refl, sym, ap, ◌∙◌, append_assoc, append-nil, arith, inl, inr, Option, Some, None}
+use Rattle.std.proofs.Common.{ℕ, zero, suc, ◌+◌, ◌-◌, ◌≤◌, ◌≡◌, ◌≢◌, Bool, true, false, ◌&&◌, ◌||◌, cond, List, [], ◌∷◌, ◌++◌, length, length-append, refl, sym, ap, ◌∙◌, append_assoc, append-nil, arith, inl, inr}
 use Rattle.std.proofs.Math.Seq.{take-append_seam}
-use Rattle.std.proofs.lemmas.Bool.{and_parts, cases_Bool, cond-false, cond_both, eq-eqb, eqb-true, ne_eqb}
+use Rattle.std.proofs.lemmas.Bool.{cases_Bool, cond-false, cond_both, eq-eqb, ne_eqb}
 use Rattle.std.proofs.lemmas.List.Elements.{All-from_recursion}
 use Rattle.std.proofs.lemmas.List.Folds.{list_any-append}
 use Rattle.std.proofs.lemmas.List.Sums.{sum_by-append}
@@ -11,35 +11,9 @@ use Rattle.label.proofs.Places.{all-append}
 use Rattle.book.specs.Table.{MessageTable}
 use Rattle.diagram.specs.declared.stroke.Stroke.{Stroke}
 use Rattle.diagram.specs.declared.telling.Telling.{Telling}
-use Rattle.diagram.specs.Facts.{added, is_alike, is_before, is_same, is_same_told, made, strokes_below, strokes_of, strokes_to, strokes_with, tellings_of}
+use Rattle.diagram.proofs.Sameness.{same_is}
+use Rattle.diagram.specs.Facts.{added, is_before, is_same, made, strokes_below, strokes_of, strokes_to, strokes_with, tellings_of}
 use Rattle.diagram.specs.Laws.{StrokesAreExact, is_of, labels_told}
-
--- ---- what is the same is equal
-
-same_told : (o u : Option ℕ) → is_same_told o u ≡ true → o ≡ u
-same_told (Some a) (Some b) e = ap Some (eqb-true a b e)
-same_told (Some a) None e = cc
-same_told None (Some b) e = cc
-same_told None None e = refl
-
-same_bool : (a b : Bool) → is_alike a b ≡ true → a ≡ b
-same_bool true true e = refl
-same_bool true false e = cc
-same_bool false true e = cc
-same_bool false false e = refl
-
-same_is : (x y : Telling) → is_same x y ≡ true → x ≡ y
-same_is x y e =
-    let a : Bool = x.teller == y.teller in
-    let b : Bool = x.round == y.round in
-    let three = and_parts (a && b && is_same_told x.told y.told) (is_alike x.differs y.differs) e in
-    let two = and_parts (a && b) (is_same_told x.told y.told) three.0 in
-    let one = and_parts a b two.0 in
-    let er : x.round ≡ y.round = eqb-true x.round y.round one.1 in
-    let et : x.teller ≡ y.teller = eqb-true x.teller y.teller one.0 in
-    let eo : x.told ≡ y.told = same_told x.told y.told two.1 in
-    let ed : x.differs ≡ y.differs = same_bool x.differs y.differs three.1 in
-    λ i. record { round = er i; teller = et i; told = eo i; differs = ed i }
 
 -- ---- how many
 

@@ -1,15 +1,11 @@
 -- What is gathered of a list, one of it after another.
 use Rattle.std.proofs.Common.{ℕ, suc, ◌+◌, ◌<◌, ◌≤◌, ◌≡◌, List, ◌∷◌, ◌++◌, length, drop, get_or, ap, sym, ◌∙◌, append_assoc, append-nil, arith}
 use Rattle.std.proofs.lemmas.List.{drop_all, drop_more}
-use Rattle.std.proofs.lemmas.List.Sorted.{IsPermutation-reverse, list_any-IsPermutation}
-use Rattle.std.specs.List.{list_any}
-use Rattle.std.specs.Prelude.{Bool, reverse}
 use Rattle.board.specs.Board.{Access}
 use Rattle.book.specs.Table.{MessageTable}
 use Rattle.diagram.specs.declared.stroke.Stroke.{Stroke}
-use Rattle.diagram.specs.declared.telling.Telling.{Telling}
 use Rattle.diagram.specs.Bands.{access_at, accesses_from}
-use Rattle.diagram.specs.Facts.{added, strokes_below, strokes_to, strokes_with}
+use Rattle.diagram.specs.Facts.{strokes_to, strokes_with}
 use Rattle.diagram.specs.Layout.{access_top}
 
 -- one access more, and all of them
@@ -28,24 +24,6 @@ pub accesses_all : (n round place : ℕ) (xs : List Access) (out whole : List �
 unfolding accesses_from
 accesses_all n round place xs out whole past so =
     sym (append-nil out) ∙ (ap (λ ys. out ++ accesses_from n xs round place ys) (sym (drop_all place xs past)) ∙ so)
-
--- a test that one of a list passes, in the other order
-pub known_backwards : {A : Type 0} (p : A → Bool) (xs : List A) → list_any p (reverse xs) ≡ list_any p xs
-known_backwards p xs = sym (list_any-IsPermutation p xs (reverse xs) (IsPermutation-reverse xs))
-
--- one label more, and all of them
-pub told_more : (p place : ℕ) (tellings : List Telling) (telling : Telling) (old new whole : List Stroke) → place < length tellings → telling ≡ get_or tellings place telling
-    → strokes_below p tellings place old (drop place tellings) ≡ whole → new ≡ added p tellings place old telling
-    → strokes_below p tellings (place + 1) new (drop (place + 1) tellings) ≡ whole
-unfolding strokes_below
-told_more p place tellings telling old new whole within is so e =
-    let rest : List Telling = drop (place + 1) tellings in
-    let left : drop place tellings ≡ telling ∷ rest = drop_more tellings place telling within ∙ ap (λ x. x ∷ rest) (sym is) in
-    ap (λ d. strokes_below p tellings (place + 1) d rest) e ∙ (ap (λ xs. strokes_below p tellings place old xs) (sym left) ∙ so)
-
-pub told_all : (p place : ℕ) (tellings : List Telling) (out whole : List Stroke) → length tellings ≤ place → strokes_below p tellings place out (drop place tellings) ≡ whole → out ≡ whole
-unfolding strokes_below
-told_all p place tellings out whole past so = ap (λ xs. strokes_below p tellings place out xs) (sym (drop_all place tellings past)) ∙ so
 
 -- one receiver more
 pub receiver_more : (t : MessageTable) (order p : ℕ) (old new : List Stroke) → old ≡ strokes_to t order p → new ≡ strokes_with t order p old → new ≡ strokes_to t order (p + 1)

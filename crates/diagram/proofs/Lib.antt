@@ -1,3 +1,5 @@
+pub mod Sameness
+pub mod TallyLemmas
 pub mod ExactLaws
 pub mod FoldLemmas
 pub mod LayoutLemmas

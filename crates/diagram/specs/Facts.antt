@@ -1,6 +1,11 @@
 -- Who told whom what in a campaign, by the message table t that its letters tell.
-use Rattle.std.specs.Prelude.{ℕ, zero, suc, ◌+◌, ◌==◌, Bool, true, false, not, ◌&&◌, if◌then◌else◌, List, [], ◌∷◌, ◌++◌, length, take, count_by, Option, None, Some}
+use Rattle.std.specs.Prelude.{ℕ, zero, suc, ◌+◌, ◌==◌, Bool, not, ◌&&◌, if◌then◌else◌, List, [], ◌∷◌, ◌++◌, length, take, count_by, nat_eq, unwrap_or}
+use Rattle.std.specs.Bool.{beq}
+use Rattle.std.specs.HashMap.{get, HashMap}
 use Rattle.std.specs.List.{flat_map, list_any}
+use Rattle.std.specs.Option.{option_eq}
+use Rattle.std.specs.declared.hash.BuildHasherDefault.{BuildHasherDefault}
+use Rattle.std.specs.declared.hash.FoldHasher.{FoldHasher}
 use Rattle.label.specs.Labels.{others}
 use Rattle.label.specs.Oral.{taken}
 use Rattle.book.specs.Conditions.{is_told}
@@ -41,36 +46,35 @@ tellings_by t k w p j = telling_at t w j p ∷ tellings_below t k (w ++ j ∷ []
 unfoldable pub tellings_of : MessageTable → ℕ → ℕ → List Telling
 tellings_of t order p = first_telling t order p ∷ tellings_below t t.bound (t.commander ∷ []) p
 
--- the same was told, or nothing both times
-abbrev pub is_same_told : Option ℕ → Option ℕ → Bool
-is_same_told (Some one) (Some other) = one == other
-is_same_told None None = true
-is_same_told _ _ = false
-
-abbrev pub is_alike : Bool → Bool → Bool
-is_alike true other = other
-is_alike false other = not other
-
 -- both make one stroke: the same general told the same in the same round
 abbrev pub is_same : Telling → Telling → Bool
 is_same one other =
-    one.teller == other.teller && one.round == other.round && is_same_told one.told other.told
-    && is_alike one.differs other.differs
+    one.round == other.round
+    && (one.teller == other.teller
+    && (option_eq nat_eq one.told other.told && beq one.differs other.differs))
+
+-- of how many labels something was told, by these counts
+abbrev pub count_of : HashMap Telling ℕ (BuildHasherDefault FoldHasher) → Telling → ℕ
+count_of counts telling = unwrap_or (get is_same counts telling) 0
 
 abbrev pub is_before : ℕ → ℕ → Stroke → Bool
 is_before round p stroke = stroke.round == round && stroke.receiver == p
 
--- the stroke to p of what he was told, with this row
-abbrev pub made : ℕ → List Telling → Telling → ℕ → Stroke
-made p tellings telling row = record {
+-- the stroke to p of what he was told of so many labels, with this row
+abbrev pub stroke_of : ℕ → Telling → ℕ → ℕ → Stroke
+stroke_of p telling labels row = record {
   round = telling.round;
   teller = telling.teller;
   receiver = p;
   told = telling.told;
   differs = telling.differs;
-  labels = count_by (is_same telling) tellings;
+  labels = labels;
   row = row;
 }
+
+-- that of all labels of which he was told the same
+abbrev pub made : ℕ → List Telling → Telling → ℕ → Stroke
+made p tellings telling row = stroke_of p telling (count_by (is_same telling) tellings) row
 
 -- with the stroke of what p was told, which has this place among all that he was, where none before it is the same
 unfoldable pub added : ℕ → List Telling → ℕ → List Stroke → Telling → List Stroke

@@ -1,13 +1,14 @@
 //! The strokes of a campaign, by the message table that its letters tell.
-ghost use Rattle.std.specs.Prelude.{◌≡◌, ◌<◌, ◌≤◌, IfOk, OnOk, count_by, length, take};
-ghost use Rattle.std.specs.List.{list_any};
-ghost use Rattle.diagram.specs.Facts.{added, is_alike, is_before, is_same, is_same_told, made, strokes_below, strokes_of, strokes_with};
+ghost use Rattle.std.specs.Prelude.{◌≡◌, ◌<◌, ◌+◌, ◌^◌, false, IfOk, OnOk, count_by};
+ghost use Rattle.diagram.specs.Facts.{count_of, is_before, is_same, stroke_of, strokes_below, strokes_of, strokes_with};
+ghost use Rattle.diagram.specs.declared.telling.Telling.{Telling};
 
 use crate::stroke::Stroke;
 use crate::telling::Telling;
 use crate::tellings::tellings;
 use book::Heard;
 use std::alloc::{AllocError, Global};
+use std::collections::{HashMap, HashSet};
 
 /// Who told whom what, where the commander was given this order: by receiver, in the order of his tree's labels, what
 /// one general told him of several labels of one length alike as one stroke.
@@ -42,55 +43,56 @@ fn push_received<H: Heard>(
         return Ok(());
     }
     let tellings = tellings(alloc, table, order, receiver)?;
-    push_told(strokes, receiver, tellings.as_slice())
+    push_told(alloc, strokes, receiver, tellings.as_slice())
 }
 
 /// Adds what a lieutenant was told of the labels of his tree.
 fn push_told(
+    alloc: Global,
     strokes: &mut Vec<Stroke>,
     receiver: u8,
     tellings: &[Telling],
 ) -> Result<(), AllocError>
     ensures { OnOk result (strokes.new.items ≡ strokes_below receiver tellings.now 0 strokes.old.items tellings.now) }
 {
-    for (place, telling) in tellings.iter().enumerate() {
-        push_stroke(strokes, receiver, tellings, place, telling)?;
+    let counts = counted(alloc, tellings)?;
+    let mut seen = HashSet::new(alloc);
+    for telling in tellings {
+        if seen.insert(*telling)? {
+            let labels = counts.get(telling).copied().unwrap_or(0);
+            let row = rows(strokes.as_slice(), telling.round, receiver);
+            strokes.push(stroke_of(receiver, telling, labels, row))?;
+        }
     }
     Ok(())
 }
 
-/// Adds the stroke of what was told of a label, which has this place, where none before it is the same.
-#[tactic(auto, unfolding(crate::specs::Facts::added))]
-fn push_stroke(
-    strokes: &mut Vec<Stroke>,
-    receiver: u8,
-    tellings: &[Telling],
-    place: usize,
-    telling: &Telling,
-) -> Result<(), AllocError>
-    requires place { place ≤ length tellings.now }
-    ensures { OnOk result (strokes.new.items ≡ added receiver tellings.now place strokes.old.items telling.now) }
+/// Of how many labels each thing was told.
+fn counted(alloc: Global, tellings: &[Telling]) -> Result<HashMap<Telling, usize>, AllocError>
+    ensures { IfOk result (λ counts. (q : Telling) → count_of counts q ≡ count_by (is_same q) tellings.now) }
 {
-    if is_known(tellings, place, telling) {
-        return Ok(());
+    let mut counts = HashMap::new(alloc);
+    for telling in tellings {
+        count_one(&mut counts, telling)?;
     }
-    let row = rows(strokes.as_slice(), telling.round, receiver);
-    strokes.push(made(receiver, tellings, telling, row))?;
+    Ok(counts)
+}
+
+/// Counts one label more of which this was told.
+fn count_one(counts: &mut HashMap<Telling, usize>, telling: &Telling) -> Result<(), AllocError>
+    requires { count_of counts.old telling.now + 1 < 2 ^ 64 }
+    ensures counted { OnOk result (count_of counts.new telling.now ≡ count_of counts.old telling.now + 1) }
+    ensures others { OnOk result ((q : Telling) → is_same telling.now q ≡ false
+        → count_of counts.new q ≡ count_of counts.old q) }
+{
+    let labels = counts.get(telling).copied().unwrap_or(0);
+    counts.insert(*telling, labels + 1)?;
     Ok(())
 }
 
-/// Whether the same was told of a label before this place: mostly it was not long before, so the last are looked at
-/// first.
-fn is_known(tellings: &[Telling], place: usize, telling: &Telling) -> bool
-    requires place { place ≤ length tellings.now }
-    ensures { result ≡ list_any (is_same telling.now) (take place tellings.now) }
-{
-    tellings[..place].iter().rev().any(|x| is_same(telling, x))
-}
-
-/// The stroke of what was told, with this row.
-fn made(receiver: u8, tellings: &[Telling], telling: &Telling, row: usize) -> Stroke
-    ensures { result ≡ made receiver tellings.now telling.now row }
+/// The stroke of what was told of so many labels, with this row.
+fn stroke_of(receiver: u8, telling: &Telling, labels: usize, row: usize) -> Stroke
+    ensures { result ≡ stroke_of receiver telling.now labels row }
 {
     Stroke {
         round: telling.round,
@@ -98,7 +100,7 @@ fn made(receiver: u8, tellings: &[Telling], telling: &Telling, row: usize) -> St
         receiver,
         told: telling.told,
         differs: telling.differs,
-        labels: alike(tellings, telling),
+        labels,
         row,
     }
 }
@@ -111,40 +113,4 @@ fn rows(strokes: &[Stroke], round: usize, receiver: u8) -> usize
         .iter()
         .filter(|x| x.round == round && x.receiver == receiver)
         .count()
-}
-
-/// Of how many labels the same was told.
-fn alike(tellings: &[Telling], telling: &Telling) -> usize
-    ensures { result ≡ count_by (is_same telling.now) tellings.now }
-{
-    tellings.iter().filter(|x| is_same(telling, x)).count()
-}
-
-/// Whether the same was told, or nothing both times.
-fn is_same_told(one: Option<u32>, other: Option<u32>) -> bool
-    ensures { result ≡ is_same_told one other }
-{
-    match (one, other) {
-        (Some(one), Some(other)) => one == other,
-        (None, None) => true,
-        _ => false,
-    }
-}
-
-/// Whether both are so, or neither.
-fn is_alike(one: bool, other: bool) -> bool
-    ensures { result ≡ is_alike one other }
-{
-    if one { other } else { !other }
-}
-
-/// Whether both make one stroke: mostly another general tells it, so this is looked at first.
-#[inline(always)]
-fn is_same(one: &Telling, other: &Telling) -> bool
-    ensures { result ≡ is_same one.now other.now }
-{
-    one.teller == other.teller
-        && one.round == other.round
-        && is_same_told(one.told, other.told)
-        && is_alike(one.differs, other.differs)
 }

@@ -1,3 +1,4 @@
+pub mod ChildLemmas
 pub mod Gathered
 pub mod PlaceLemmas
 pub mod FactLemmas

@@ -7,6 +7,7 @@ ghost use Rattle.book.specs.Explained.{held, list_of};
 ghost use Rattle.book.specs.Grammar.{is_place};
 ghost use Rattle.drawing.specs.Facts.{below, extent_at, is_alike, is_alike_by, is_honest, is_same, mark_at, node_at, outcome_at, outcome_of, tells};
 
+use crate::children::last_orders;
 use crate::node::{Extent, Mark, Node, Outcome, View};
 use arrayvec::ArrayVec;
 use book::Heard;
@@ -35,6 +36,9 @@ fn orders<H: Heard>(table: &H, general: u8, label: &Label, relays: u8) -> ArrayV
     requires relays { length label.now + relays ≡ (H.seen table.now).bound }
     ensures { result.items ≡ list_of (H.seen table.now) relays label.now general }
 {
+    if relays == 0 {
+        return last_orders(table, general, label);
+    }
     let mut orders: ArrayVec<u32, 13> = ArrayVec::new();
     for other in 0..table.generals() {
         if other == general {

@@ -3,6 +3,7 @@
 #![tactic(auto)]
 
 mod by_table;
+mod children;
 mod facts;
 mod form;
 mod graph;

@@ -27,7 +27,7 @@ key =
 abbrev pub headline : Scenario → List ℕ
 headline s =
     text_at (codes "head") 16 28 (campaign_words s.generals s.bound s.commander s.order)
-    ++ text_at (codes "small") 16 44 (codes "signed messages")
+    ++ text_at (codes "small") 16 58 (codes "signed") ++ text_at (codes "small") 16 72 (codes "messages")
 
 abbrev pub head : Scenario → List ℕ
 head s = title (signed_words s) ++ key ++ look ++ headline s

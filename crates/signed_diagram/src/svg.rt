@@ -62,14 +62,15 @@ fn put_head(out: &mut String, scenario: &Scenario) -> Result<(), AllocError>
     put_headline(out, scenario)
 }
 
-/// Adds the campaign's numbers, and that its messages are signed.
+/// Adds the campaign's numbers and, beside the columns, that its messages are signed.
 fn put_headline(out: &mut String, scenario: &Scenario) -> Result<(), AllocError>
     ensures { OnOk result (string_bytes out.new ≡ string_bytes out.old ++ headline scenario.now) }
 {
     put_text_start(out, "head", 16, 28)?;
     put_campaign_of(out, scenario)?;
     put_text_end(out)?;
-    put_words(out, "small", 16, 44, "signed messages")
+    put_words(out, "small", 16, 58, "signed")?;
+    put_words(out, "small", 16, 72, "messages")
 }
 
 /// Adds the campaign's numbers.

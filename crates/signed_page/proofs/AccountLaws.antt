@@ -5,7 +5,6 @@ use Rattle.std.proofs.lemmas.Bool.{cond_both}
 use Rattle.markup.specs.Grammar.{IsContent, joined, no_text, text}
 use Rattle.page.specs.Page.{lines}
 use Rattle.page.proofs.PageLaws.{proved_pages_are_elements, proved_parts_are_content}
-use Rattle.round.specs.Scenario.{is_traitor}
 use Rattle.signed.specs.Explained.{acceptance_of}
 use Rattle.signed_diagram.specs.Svg.{signed_svg}
 use Rattle.signed_diagram.proofs.PictureLaws.{proved_signed_diagrams_are_elements}
@@ -14,7 +13,7 @@ use Rattle.world.specs.Chronicle.{Chronicle}
 use Rattle.world.specs.declared.schedule.Repeat.{Repeat}
 use Rattle.campaign_page.specs.Account.{accesses_part, chronicle_shown, picture_told, programs_part, scenario_part, schedule_part, verdict_told}
 use Rattle.campaign_page.proofs.AccountLaws.{accesses_content, all, below, chronicle_content, programs_content, scenario_content, schedule_content, svg_content, verdict_content}
-use Rattle.signed_page.specs.Account.{bound_told, lieutenant_part, lieutenant_told, lieutenant_words, lieutenants_heading, lieutenants_part, parts, signed_title}
+use Rattle.signed_page.specs.Account.{bound_told, lieutenant_part, lieutenant_heading, lieutenant_told, lieutenants_heading, lieutenants_part, parts, signed_title}
 use Rattle.signed_page.specs.Laws.{SignedPagesAreElements}
 
 picture_content : (c : Chronicle) → IsContent (picture_told (signed_svg c))
@@ -23,7 +22,7 @@ picture_content c = let drawn = proved_signed_diagrams_are_elements c in svg_con
 lieutenant_content : (c : Chronicle) (g : ℕ) → IsContent (lieutenant_part c g)
 lieutenant_content c g =
     cond_both (g == c.scenario.commander) [] (lieutenant_told c g) IsContent (λ _. text [] no_text)
-    (λ _. proved_parts_are_content.fold (lieutenant_words g (is_traitor c.scenario g)) (lines (acceptance_of c g)) (proved_parts_are_content.lines (acceptance_of c g)))
+    (λ _. proved_parts_are_content.fold (lieutenant_heading c g) (lines (acceptance_of c g)) (proved_parts_are_content.lines (acceptance_of c g)))
 
 lieutenants_content : (c : Chronicle) → IsContent (lieutenants_part c)
 lieutenants_content c =

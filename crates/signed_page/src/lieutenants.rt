@@ -1,8 +1,11 @@
 //! What each lieutenant of a signed campaign accepted, and why he decides so.
-ghost use Rattle.std.specs.Prelude.{◌≡◌, ◌<◌, ◌++◌, flat_map, string_bytes, IfOk, OnOk};
+ghost use Rattle.std.specs.Prelude.{◌≡◌, ◌<◌, ◌++◌, flat_map, slice_get, string_bytes, IfOk, OnOk};
 ghost use Rattle.std.specs.List.{range_with_len};
-ghost use Rattle.signed_page.specs.Account.{lieutenant_part, lieutenant_words, lieutenants_heading, lieutenants_part, traitor_words};
+ghost use Rattle.diagram.specs.Foot.{place_of};
+ghost use Rattle.signed_page.specs.Account.{heading_of, lieutenant_part, lieutenants_heading, lieutenants_part};
 
+use campaign_page::lieutenant_name;
+use diagram::foot::place_of;
 use page::{put_fold_end, put_fold_start, put_heading, put_lines};
 use signed::{SignedChronicle, explain_one_signed};
 use std::alloc::{AllocError, Global};
@@ -48,27 +51,35 @@ fn put_lieutenant_of(
     if general == scenario.commander() {
         return Ok(());
     }
-    let name = lieutenant_name(alloc, general, scenario.is_traitor(general))?;
+    let is_traitor = scenario.is_traitor(general);
+    let name = heading_of(alloc, general, is_traitor, decision_of(chronicle, general))?;
     let accepted = explain_one_signed(alloc, chronicle, general)?;
     put_fold_start(out, name.as_str())?;
     put_lines(out, accepted.as_str())?;
     put_fold_end(out)
 }
 
-/// A lieutenant's name.
-#[tactic(auto, unfolding(crate::specs::Account::lieutenant_words))]
-fn lieutenant_name(alloc: Global, general: u8, is_traitor: bool) -> Result<String, AllocError>
-    ensures { IfOk result (λ name. string_bytes name ≡ lieutenant_words general is_traitor) }
+/// What a lieutenant is called, with what he decides.
+fn heading_of(
+    alloc: Global,
+    general: u8,
+    is_traitor: bool,
+    decision: Option<u32>,
+) -> Result<String, AllocError>
+    ensures { IfOk result (λ name. string_bytes name ≡ heading_of general is_traitor decision) }
 {
-    let mark = traitor_words(is_traitor);
-    format!(in alloc; "Lieutenant {general}{mark}")
+    match decision {
+        None => format!(in alloc; "Lieutenant {general}"),
+        Some(order) => lieutenant_name(alloc, general, is_traitor, order),
+    }
 }
 
-/// What marks a traitor.
-fn traitor_words(is_traitor: bool) -> &'static str
-    ensures { result.now ≡ traitor_words is_traitor }
+/// What a lieutenant decides.
+fn decision_of(chronicle: &SignedChronicle, general: u8) -> Option<u32>
+    ensures { result ≡ slice_get chronicle.now.decisions (place_of chronicle.now.scenario.commander general) }
 {
-    if is_traitor { ", a traitor" } else { "" }
+    let place = place_of(chronicle.scenario().commander(), general);
+    chronicle.decisions().get(place).copied()
 }
 
 /// The heading of the lieutenants.

@@ -1,6 +1,13 @@
 use Rattle.std.proofs.Common.{◌≡◌, drop}
-use Rattle.diagram.specs.Facts.{strokes_below}
+use Rattle.std.specs.HashSet.{contains}
+use Rattle.std.specs.List.{list_any}
+use Rattle.std.specs.Prelude.{take}
+use Rattle.diagram.specs.declared.telling.Telling.{Telling}
+use Rattle.diagram.specs.Facts.{is_same, strokes_below}
 use Rattle.diagram.proofs.facts.push_told.Given as goal
 
-abbrev pub invariant-loop-place : goal.invariant-loop-place
-invariant-loop-place l = strokes_below l.receiver l.tellings l.place l.strokes.items (drop l.place l.tellings) ≡ strokes_below l.receiver l.tellings 0 l.fn.strokes.items l.tellings
+-- what was seen, and the strokes with those of what is still to come
+abbrev pub invariant-loop-telling : goal.invariant-loop-telling
+invariant-loop-telling l =
+    ((q : Telling) → contains is_same l.seen q ≡ list_any (is_same q) (take l.telling-index l.tellings))
+    × (strokes_below l.receiver l.tellings l.telling-index l.strokes.items (drop l.telling-index l.tellings) ≡ strokes_below l.receiver l.tellings 0 l.fn.strokes.items l.tellings)

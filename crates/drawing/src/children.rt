@@ -1,0 +1,55 @@
+//! What a lieutenant was told of the labels that go on from one: they stand together in his tree.
+ghost use Rattle.std.specs.Prelude.{◌≡◌, ◌≤◌, ◌+◌, ◌*◌, [], ◌∷◌, ◌++◌, length, map, true, slice_range};
+ghost use Rattle.label.specs.Labels.{others};
+ghost use Rattle.book.specs.Explained.{list_of};
+ghost use Rattle.book.specs.Grammar.{is_place};
+ghost use Rattle.book.specs.Table.{told};
+
+use arrayvec::ArrayVec;
+use book::Heard;
+use label::{Label, rank};
+
+/// The list that the lieutenant combines at a label that only the longest go on from.
+pub(crate) fn last_orders<H: Heard>(table: &H, general: u8, label: &Label) -> ArrayVec<u32, 13>
+    requires place { is_place (H.seen table.now) label.now general ≡ true }
+    requires room { length label.now ≤ (H.seen table.now).bound }
+    ensures { result.items ≡ list_of (H.seen table.now) 0 label.now general }
+{
+    let told = told_children(table, general, label);
+    let mut orders: ArrayVec<u32, 13> = ArrayVec::new();
+    let mut next = 0;
+    for other in 0..table.generals() {
+        if other == general {
+            orders.push(table.told(label, general).unwrap_or(0));
+        } else if !label.has(other) {
+            orders.push(told[next].unwrap_or(0));
+            next += 1;
+        }
+    }
+    orders
+}
+
+/// What the lieutenant was told of each label that has one general more, by that general.
+fn told_children<'a, H: Heard>(table: &'a H, general: u8, label: &Label) -> &'a [Option<u32>]
+    requires place { is_place (H.seen table.now) label.now general ≡ true }
+    requires room { length label.now ≤ (H.seen table.now).bound }
+    ensures { result.now ≡ map (λ j. told (H.seen table.now).messages (label.now ++ j ∷ []) general)
+        (others (H.seen table.now).generals (general ∷ label.now)) }
+{
+    let tree = table.tree(general);
+    let space = tree.space();
+    let size = label.generals().len() as u8;
+    let width = usize::from((space.generals - 1).saturating_sub(size));
+    match rank(space, label) {
+        Ok(rank) => part(tree.level(size + 1), width, rank as usize),
+        Err(_) => unreachable!(),
+    }
+}
+
+/// The part of a level that belongs to a rank of the level above, of this width.
+fn part(level: &[Option<u32>], width: usize, rank: usize) -> &[Option<u32>]
+    requires { rank * width + width ≤ length level.now }
+    ensures { result.now ≡ slice_range level.now (rank * width) (rank * width + width) }
+{
+    &level[rank * width..rank * width + width]
+}
