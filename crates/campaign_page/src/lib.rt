@@ -15,5 +15,5 @@ pub use accesses::put_listed;
 pub use account::{page_text, put_chronicle_text, put_scenario, put_svg, title};
 pub use laws::{campaign_pages_are_elements, folds_hide_nothing, names_are_read};
 pub use schedule::put_schedule;
-pub use sections::{lieutenant_name, put_programs};
+pub use sections::put_programs;
 pub use verdict::{promise_words, put_verdict_told};

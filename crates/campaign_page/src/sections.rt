@@ -213,7 +213,7 @@ fn elsewhere_words(alloc: Global, general: u8) -> Result<String, AllocError>
 
 /// A lieutenant's name, and what he decides.
 #[tactic(auto, unfolding(crate::specs::Account::lieutenant_words))]
-pub fn lieutenant_name(
+fn lieutenant_name(
     alloc: Global,
     general: u8,
     is_traitor: bool,

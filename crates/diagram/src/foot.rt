@@ -70,7 +70,7 @@ fn put_decided(
 }
 
 /// The place of a lieutenant's decision, under this commander.
-pub fn place_of(commander: u8, general: u8) -> usize
+fn place_of(commander: u8, general: u8) -> usize
     ensures { result ≡ place_of commander general }
 {
     if general < commander {

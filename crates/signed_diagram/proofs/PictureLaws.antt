@@ -190,11 +190,11 @@ head_content s =
     let w : List ℕ = signed_words s in
     let n : List ℕ = campaign_words s.generals s.bound s.commander s.order in
     joined (title w ++ key ++ look) (headline s) (joined (title w ++ key) look (joined (title w) key (title_content w (signed_text s)) key_content) look_content)
-    (joined (text_at (codes "head") 16 28 n) (text_at (codes "small") 16 58 (codes "signed") ++ text_at (codes "small") 16 72 (codes "messages"))
+    (joined (text_at (codes "head") 16 28 n ++ text_at (codes "small") 16 58 (codes "signed")) (text_at (codes "small") 16 72 (codes "messages"))
+    (joined (text_at (codes "head") 16 28 n) (text_at (codes "small") 16 58 (codes "signed"))
     (text_content (codes "head") 16 28 n (bare_text (codes "head") refl) (campaign_text s.generals s.bound s.commander s.order))
-    (joined (text_at (codes "small") 16 58 (codes "signed")) (text_at (codes "small") 16 72 (codes "messages"))
-    (text_content (codes "small") 16 58 (codes "signed") small (bare_text (codes "signed") refl))
-    (text_content (codes "small") 16 72 (codes "messages") small (bare_text (codes "messages") refl))))
+    (text_content (codes "small") 16 58 (codes "signed") small (bare_text (codes "signed") refl)))
+    (text_content (codes "small") 16 72 (codes "messages") small (bare_text (codes "messages") refl)))
 
 -- ---- the whole
 

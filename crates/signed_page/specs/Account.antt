@@ -11,20 +11,24 @@ use Rattle.signed_diagram.specs.Svg.{signed_svg}
 use Rattle.trace.specs.SignedText.{signed_text}
 use Rattle.world.specs.Chronicle.{Chronicle}
 use Rattle.world.specs.declared.schedule.Repeat.{Repeat}
-use Rattle.campaign_page.specs.Account.{accesses_part, chronicle_shown, lieutenant_words, picture_told, programs_part, promise_words, scenario_part, schedule_part, title, verdict_told}
+use Rattle.campaign_page.specs.Account.{accesses_part, chronicle_shown, picture_told, programs_part, promise_words, scenario_part, schedule_part, title, verdict_told}
 
 -- which orders a lieutenant accepts, by which chains, and what he decides of them
 unfoldable pub lieutenants_heading : List ℕ
 lieutenants_heading = codes "What each lieutenant accepted, and why he decides so"
 
+abbrev pub traitor_words : Bool → List ℕ
+traitor_words is_traitor = if is_traitor then codes ", a traitor," else []
+
 -- what he is called, and what he decides
-abbrev pub heading_of : ℕ → Bool → Option ℕ → List ℕ
-heading_of g is_traitor None = codes "Lieutenant " ++ decimal g
-heading_of g is_traitor (Some order) = lieutenant_words g is_traitor order
+unfoldable pub lieutenant_words : ℕ → Bool → Option ℕ → List ℕ
+lieutenant_words g is_traitor None = codes "Lieutenant " ++ decimal g
+lieutenant_words g is_traitor (Some order) =
+    codes "Lieutenant " ++ (decimal g ++ (traitor_words is_traitor ++ (codes " decides " ++ decimal order)))
 
 abbrev pub lieutenant_heading : Chronicle → ℕ → List ℕ
 lieutenant_heading c g =
-    heading_of g (is_traitor c.scenario g) (slice_get c.decisions (place_of c.scenario.commander g))
+    lieutenant_words g (is_traitor c.scenario g) (slice_get c.decisions (place_of c.scenario.commander g))
 
 abbrev pub lieutenant_told : Chronicle → ℕ → List ℕ
 lieutenant_told c g = fold (lieutenant_heading c g) (lines (acceptance_of c g))

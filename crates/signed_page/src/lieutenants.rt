@@ -2,10 +2,8 @@
 ghost use Rattle.std.specs.Prelude.{◌≡◌, ◌<◌, ◌++◌, flat_map, slice_get, string_bytes, IfOk, OnOk};
 ghost use Rattle.std.specs.List.{range_with_len};
 ghost use Rattle.diagram.specs.Foot.{place_of};
-ghost use Rattle.signed_page.specs.Account.{heading_of, lieutenant_part, lieutenants_heading, lieutenants_part};
+ghost use Rattle.signed_page.specs.Account.{lieutenant_part, lieutenant_words, lieutenants_heading, lieutenants_part, traitor_words};
 
-use campaign_page::lieutenant_name;
-use diagram::foot::place_of;
 use page::{put_fold_end, put_fold_start, put_heading, put_lines};
 use signed::{SignedChronicle, explain_one_signed};
 use std::alloc::{AllocError, Global};
@@ -52,26 +50,11 @@ fn put_lieutenant_of(
         return Ok(());
     }
     let is_traitor = scenario.is_traitor(general);
-    let name = heading_of(alloc, general, is_traitor, decision_of(chronicle, general))?;
+    let name = lieutenant_name(alloc, general, is_traitor, decision_of(chronicle, general))?;
     let accepted = explain_one_signed(alloc, chronicle, general)?;
     put_fold_start(out, name.as_str())?;
     put_lines(out, accepted.as_str())?;
     put_fold_end(out)
-}
-
-/// What a lieutenant is called, with what he decides.
-fn heading_of(
-    alloc: Global,
-    general: u8,
-    is_traitor: bool,
-    decision: Option<u32>,
-) -> Result<String, AllocError>
-    ensures { IfOk result (λ name. string_bytes name ≡ heading_of general is_traitor decision) }
-{
-    match decision {
-        None => format!(in alloc; "Lieutenant {general}"),
-        Some(order) => lieutenant_name(alloc, general, is_traitor, order),
-    }
 }
 
 /// What a lieutenant decides.
@@ -80,6 +63,41 @@ fn decision_of(chronicle: &SignedChronicle, general: u8) -> Option<u32>
 {
     let place = place_of(chronicle.scenario().commander(), general);
     chronicle.decisions().get(place).copied()
+}
+
+/// The place of a lieutenant's decision, under this commander.
+fn place_of(commander: u8, general: u8) -> usize
+    ensures { result ≡ place_of commander general }
+{
+    if general < commander {
+        usize::from(general)
+    } else {
+        usize::from(general).saturating_sub(1)
+    }
+}
+
+/// What a lieutenant is called, and what he decides.
+#[tactic(auto, unfolding(crate::specs::Account::lieutenant_words))]
+fn lieutenant_name(
+    alloc: Global,
+    general: u8,
+    is_traitor: bool,
+    decision: Option<u32>,
+) -> Result<String, AllocError>
+    ensures { IfOk result (λ name. string_bytes name ≡ lieutenant_words general is_traitor decision) }
+{
+    let mark = traitor_words(is_traitor);
+    match decision {
+        None => format!(in alloc; "Lieutenant {general}"),
+        Some(order) => format!(in alloc; "Lieutenant {general}{mark} decides {order}"),
+    }
+}
+
+/// What marks a traitor.
+fn traitor_words(is_traitor: bool) -> &'static str
+    ensures { result.now ≡ traitor_words is_traitor }
+{
+    if is_traitor { ", a traitor," } else { "" }
 }
 
 /// The heading of the lieutenants.
