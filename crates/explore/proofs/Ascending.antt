@@ -1,9 +1,9 @@
 -- The list of orders is ascending, so the first with an outcome is the least.
-use Rattle.std.proofs.Common.{◌≡◌, ℕ, zero, suc, List, [], ◌∷◌, ◌++◌, map, true, false, Bool, cond, refl, sym, ap, subst, ◌∙◌, inl, inr, ⊎_elim, Some, None, Option, arith, ◌<◌, ◌⊎◌}
+use Rattle.std.proofs.Common.{Ordering, Less, Equal, Greater, ◌≡◌, ℕ, zero, suc, List, [], ◌∷◌, ◌++◌, map, true, false, Bool, cond, refl, sym, ap, subst, ◌∙◌, inl, inr, ⊎_elim, Some, None, Option, arith, ◌<◌, ◌⊎◌}
 use Rattle.std.specs.Prelude.{find, nat_lt, ◌==◌}
 use Rattle.std.specs.Cmp.{IsTotalOrder}
 use Rattle.std.specs.Cmp.Lexicographic.{slice_cmp}
-use Rattle.std.specs.Ordering.{Ordering, Less, Equal, Greater, nat_cmp, ordering_then, ordering_reverse, is_gt}
+use Rattle.std.specs.Ordering.{nat_cmp, ordering_then, ordering_reverse, is_gt}
 use Rattle.std.proofs.lemmas.Bool.{lt-ltb}
 use Rattle.std.proofs.lemmas.Cmp.{tied_itself, nat_cmp_total, nat_list_cmp_total}
 use Rattle.world.specs.Kind.{Kind, World}

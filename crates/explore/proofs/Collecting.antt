@@ -1,6 +1,6 @@
 -- Findings from states.
-use Rattle.std.proofs.Common.{Bool, cond, zero, ◌⊎◌, ◌≡◌, ℕ, suc, ◌+◌, ◌*◌, ◌-◌, ◌^◌, ◌<◌, ◌≤◌, min, List, [], ◌∷◌, ◌++◌, length, take, set, get_or, true, false, refl, sym, ap, subst, ◌∙◌, inl, inr, ⊎_elim, arith, All, length-append}
-use Rattle.std.specs.Prelude.{bytes_eq}
+use Rattle.std.proofs.Common.{Result, Ok, Err, Bool, cond, zero, ◌⊎◌, ◌≡◌, ℕ, suc, ◌+◌, ◌*◌, ◌-◌, ◌^◌, ◌<◌, ◌≤◌, min, List, [], ◌∷◌, ◌++◌, length, take, set, get_or, true, false, refl, sym, ap, subst, ◌∙◌, inl, inr, ⊎_elim, arith, All, length-append}
+use Rattle.std.specs.Prelude.{bytes_eq, OnOk}
 use Rattle.std.specs.Ordering.{is_lt, is_gt}
 use Rattle.std.proofs.Math.Nat.{add-mul}
 use Rattle.std.proofs.Math.Seq.{map-set_same}
@@ -88,6 +88,10 @@ found_few findings t new (inr j) all =
     subst (λ (l : List Finding). All A l) (sym j.found) (All-push A findings (record { decisions = oral_outcome t.world; count = kept t.ways; example = t.rows }) all (kept_few t.ways))
 
 -- as code enters it
+pub on_ok_so : {A E : Type 0} (r : Result A E) (P Q : Type 0) → (P → Q) → OnOk r P → OnOk r Q
+on_ok_so (Ok x) P Q f h = f h
+on_ok_so (Err x) P Q f h = tt
+
 pub counts_on : (findings : List Finding) (t : State) (ds : List ℕ) (place : ℕ) (was fresh : Finding) (new : List Finding) → IsPlaceOf findings ds place → ds ≡ oral_outcome t.world → was ≡ get_or findings place was →
     fresh ≡ counted_on was t → new ≡ set findings place fresh → IsFound findings t new
 counts_on findings t ds place was fresh new here same at made is =

@@ -60,7 +60,7 @@ from_rounds zero rows w h = subst (λ (l : List (List ℕ)). AreRounds w l) (sym
 from_rounds (suc k) [] w h = absurd h
 from_rounds (suc k) (r ∷ rows) w h = (h.0, from_rounds k rows (behind oral_kind w r) h.1)
 
-from_count : (k : ℕ) (rows : List (List ℕ)) (w : World) → IsFrom oral_kind w k rows → length rows ≡ k
+pub from_count : (k : ℕ) (rows : List (List ℕ)) (w : World) → IsFrom oral_kind w k rows → length rows ≡ k
 from_count zero rows w h = ap length h
 from_count (suc k) [] w h = absurd h
 from_count (suc k) (r ∷ rows) w h = ap suc (from_count k rows (behind oral_kind w r) h.1)

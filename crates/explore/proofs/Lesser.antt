@@ -1,9 +1,11 @@
 -- Orders by the first access in which they differ.
-use Rattle.std.proofs.Common.{◌≡◌, ℕ, suc, List, [], ◌∷◌, ◌++◌, length, true, false, Bool, cond, refl, sym, ap, ◌∙◌, arith}
+use Rattle.std.proofs.Common.{Vec, Ordering, Less, Equal, Greater, ◌≡◌, ℕ, suc, List, [], ◌∷◌, ◌++◌, length, true, false, Bool, cond, refl, sym, ap, ◌∙◌, arith}
 use Rattle.std.specs.Cmp.{IsTotalOrder}
 use Rattle.std.specs.Cmp.Lexicographic.{slice_cmp}
-use Rattle.std.specs.Ordering.{Ordering, Less, Equal, Greater, nat_cmp, ordering_then, ordering_reverse, is_lt, is_gt}
+use Rattle.std.specs.Ordering.{nat_cmp, ordering_then, ordering_reverse, is_lt, is_gt}
 use Rattle.std.proofs.lemmas.Cmp.{upto, tied_itself, nat_cmp_total, nat_list_cmp_total, lists_total, on_total, then_total}
+use Rattle.std.specs.Global.{Global}
+use Rattle.world.specs.Playing.{lists_in}
 use Rattle.explore.specs.Least.{names_cmp, order_cmp, lesser, Beginning, beginning_cmp}
 
 pub order_total : IsTotalOrder order_cmp
@@ -11,6 +13,13 @@ order_total = lists_total nat_list_cmp_total
 
 pub beginning_total : IsTotalOrder beginning_cmp
 beginning_total = then_total (on_total (λ (b : Beginning). b.0) order_total) (on_total (λ (b : Beginning). b.1) nat_list_cmp_total)
+
+-- as code compares them
+pub lists_cmp : (a b : List (Vec ℕ Global)) → slice_cmp (λ (v w : Vec ℕ Global). slice_cmp nat_cmp v.items w.items) a b ≡ order_cmp (lists_in a) (lists_in b)
+lists_cmp [] [] = refl
+lists_cmp [] (w ∷ b) = refl
+lists_cmp (v ∷ a) [] = refl
+lists_cmp (v ∷ a) (w ∷ b) = ap (ordering_then (names_cmp v.items w.items)) (lists_cmp a b)
 
 -- what an answer says of the other way round
 less_not_gt : (o : Ordering) → is_lt o ≡ true → is_gt o ≡ false

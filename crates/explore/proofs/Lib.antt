@@ -21,6 +21,7 @@ pub mod Lesser
 pub mod Ascending
 pub mod Standing
 pub mod Spending
+pub mod Conserving
 pub mod Winding
 pub mod Onward
 pub mod Weighing

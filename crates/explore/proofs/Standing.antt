@@ -81,19 +81,25 @@ past_steady f g steady w v is r on =
     let same : (past oral_kind w g).scenario ≡ w.scenario = run_scenario oral_kind ticks w in
     steady (past oral_kind w g) (past oral_kind v g) (subst (λ (c : Scenario). IsScenario c) (sym same) is) (reached_behind w ticks r) (runs_past w.scenario on.0 w v (reached_time w is r) on.1 g)
 
+abbrev bit : Bool → ℕ
+bit b = cond b 1 0
+
 abbrev asks : ℕ → World → ℕ
-asks g w = cond (will_ask (slice_get w.parts g)) 1 0
+asks g w = bit (will_ask (slice_get w.parts g))
 
 asks_common : (g : ℕ) → IsCommon (asks g)
-asks_common g w v a = ap (λ (ps : List Part). cond (will_ask (slice_get ps g)) 1 0) a.parts
+asks_common g w v a = ap (λ (ps : List Part). bit (will_ask (slice_get ps g))) a.parts
 
 asks_steady : (g : ℕ) → IsSteady (asks g)
-asks_steady g w v is r on = ap (λ (b : Bool). cond b 1 0) (runs_asks w.scenario on.0 w v (reached_time w is r) on.1 g)
+asks_steady g w v is r on = ap bit (runs_asks w.scenario on.0 w v (reached_time w is r) on.1 g)
 
-told_by : (a b : Bool) → cond a 1 0 ≡ cond b 1 0 → a ≡ b
+apart : (m n : ℕ) → m ≡ 1 → n ≡ 0 → m ≡ n → ⊥
+apart m n a b e = omega arith
+
+told_by : (a b : Bool) → bit a ≡ bit b → a ≡ b
 told_by true true e = refl
-told_by true false e = absurd (let f : 1 ≡ 0 = e in omega arith)
-told_by false true e = absurd (let f : 0 ≡ 1 = e in omega arith)
+told_by true false e = absurd (apart (bit true) (bit false) refl refl e)
+told_by false true e = absurd (apart (bit true) (bit false) refl refl (sym e))
 told_by false false e = refl
 
 end_number : (f : World → ℕ) (w : World) → askers w ≡ [] → over_round 0 f w ≡ f (behind oral_kind w [])

@@ -1,6 +1,7 @@
 -- Beginnings of orders in layers: those that lead to alike worlds are one state (own).
 use Rattle.std.specs.Prelude.{ℕ, zero, suc, ◌≡◌, ◌<◌, ◌≤◌, ◌+◌, ◌*◌, ◌-◌, ◌^◌, ◌++◌, min, cond, Bool, true, false, List, [], ◌∷◌, All, length, sum_by, slice_get, slice_index_or, slice_set, Option, None, Some, ◌⊎◌}
-use Rattle.std.specs.Ordering.{Ordering, is_lt, is_gt}
+use Rattle.std.specs.declared.cmp.Ordering.{Ordering}
+use Rattle.std.specs.Ordering.{is_lt, is_gt}
 use Rattle.round.specs.Scenario.{Scenario, IsScenario}
 use Rattle.world.specs.Kind.{World, opening, run}
 use Rattle.world.specs.KindHeld.{IsReached}

@@ -1,6 +1,7 @@
 -- Which of two orders is less: that of the lesser general at the first access in which they differ (own).
 use Rattle.std.specs.Prelude.{ℕ, cond, List}
-use Rattle.std.specs.Ordering.{Ordering, nat_cmp, ordering_then, is_lt}
+use Rattle.std.specs.declared.cmp.Ordering.{Ordering}
+use Rattle.std.specs.Ordering.{nat_cmp, ordering_then, is_lt}
 use Rattle.std.specs.Cmp.Lexicographic.{slice_cmp}
 
 abbrev pub names_cmp : List ℕ → List ℕ → Ordering
