@@ -47,8 +47,8 @@ pub record IsShown (findings : List Finding) (t : State) : Type 0 where
 abbrev pub tallied : (List ℕ → ℕ) → List Finding → ℕ
 tallied b findings = sum_by (λ (f : Finding). f.count * b f.decisions) findings
 
--- the states' outcomes: no two findings are of one, the counts are the sums of the ways, as far as they are kept, and the
--- examples are the least of the ways
+-- the states' outcomes: no two findings are of one, the counts are the sums of the ways, as far as they are kept, and
+-- the examples are the least of the ways
 pub record AreGathered (states : List State) (findings : List Finding) : Type 0 where
   pub of_states : All (IsOfState states) findings
   pub different : AreDifferent (outcomes_of findings)

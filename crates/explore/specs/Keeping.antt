@@ -13,8 +13,8 @@ use Rattle.explore.specs.Text.{exploration_text, schedule_text}
 abbrev pub example_text : Kind → Scenario → Finding → List ℕ
 example_text K s f = schedule_text (schedule_from K (opening K s) f.example)
 
--- the text is that of an exploration, and these are the schedules of its examples, none of more bytes than a schedule may
--- have; where the bound holds, the loyal agree in each outcome
+-- the text is that of an exploration, and these are the schedules of its examples, none of more bytes than a schedule
+-- may have; where the bound holds, the loyal agree in each outcome
 pub record IsKept (s : Scenario) (most : ℕ) (text : List ℕ) (schedules : List (List ℕ)) : Type 0 where
   pub exploration : Exploration
   pub explores : IsExploration oral_kind oral_outcome s most exploration

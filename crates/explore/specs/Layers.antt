@@ -157,7 +157,8 @@ pub record StandsFor (s : Scenario) (states : List State) (rows : List (List ℕ
 
 -- for whatever some stand, others do
 abbrev pub StandsOn : Scenario → List State → List State → Type 0
-StandsOn s states new = (rows : List (List ℕ)) (names : List ℕ) → StandsFor s states rows names → StandsFor s new rows names
+StandsOn s states new =
+    (rows : List (List ℕ)) (names : List ℕ) → StandsFor s states rows names → StandsFor s new rows names
 
 -- so many accesses are made in the open round
 abbrev pub AreMade : ℕ → List State → Type 0
