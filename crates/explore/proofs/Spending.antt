@@ -1,5 +1,5 @@
 -- How long the text of a schedule can be: each access takes two steps, but for a general's first in a round.
-use Rattle.std.proofs.Common.{◌≡◌, ◌≢◌, ℕ, zero, suc, ◌+◌, ◌*◌, ◌^◌, ◌<◌, ◌≤◌, List, [], ◌∷◌, ◌++◌, length, set, get_or, Bool, true, false, cond, refl, sym, ap, subst, ◌∙◌, ◌⊎◌, inl, inr, ⊎_elim, Option, Some, None, Result, Ok, Err, arith, All, length-append}
+use Rattle.std.proofs.Common.{◌≡◌, ◌≢◌, ℕ, zero, suc, ◌+◌, ◌-◌, ◌*◌, ◌^◌, ◌<◌, ◌≤◌, List, [], ◌∷◌, ◌++◌, length, set, get_or, Bool, true, false, cond, refl, sym, ap, subst, ◌∙◌, ◌⊎◌, inl, inr, ⊎_elim, Option, Some, None, Result, Ok, Err, arith, All, length-append}
 use Rattle.std.specs.Prelude.{slice_get, replicate, decimal, sum_by, ◌==◌}
 use Rattle.std.specs.List.{flat_map}
 use Rattle.std.proofs.lemmas.Bool.{cases_lt}
@@ -73,10 +73,10 @@ called_not context relay s e (Some BoardSwap) = asked_not s _ e
 called_not context relay s e (Some BoardAdd) = asked_not s _ e
 called_not context relay s e (Some BoardCas) = asked_not s _ e
 called_not context relay s e (Some BoardCopy) = asked_not s _ e
-called_not context relay s e (Some Send) = sent_not relay s _ _
-called_not context relay s e (Some SendRow) = sent_not relay s _ _
-called_not context relay s e (Some Sway) = sent_not relay s _ _
-called_not context relay s e (Some Honest) = sent_not relay s _ _
+called_not context relay s e (Some Send) = sent_not relay s (λ set. 1 - set) _
+called_not context relay s e (Some SendRow) = sent_not relay s (λ set. set) _
+called_not context relay s e (Some Sway) = sent_not relay s (λ set. set) _
+called_not context relay s e (Some Honest) = sent_not relay s (λ set. set) _
 called_not context relay s e (Some SignOrder) = attempted_not relay s _
 called_not context relay s e (Some PassOn) = attempted_not relay s _
 
@@ -189,6 +189,10 @@ set_long : (ps : List ℕ) (k v : ℕ) → length (set ps k v) ≡ length ps
 set_long [] k v = refl
 set_long (p ∷ ps) zero v = refl
 set_long (p ∷ ps) (suc k) v = ap suc (set_long ps k v)
+
+-- at most so many at the start of a round
+abbrev full : ℕ
+full = 4097
 
 abbrev total : List ℕ → ℕ
 total ps = sum_by (λ (p : ℕ). p) ps
@@ -343,12 +347,12 @@ module _ (K : Kind) where
       omega arith
 
   module _ (s : Scenario) (sound : IsCampaign K s) (thirteen : s.generals ≤ 13) (short : (g : ℕ) (program : List Insn) → program_of s g ≡ Some program → length program ≤ 4096) where
-    all_few : (n : ℕ) → All (λ (p : ℕ). p ≤ 4097) (replicate n 4097)
+    all_few : (n : ℕ) → All (λ (p : ℕ). p ≤ 4097) (replicate n full)
     all_few zero k d lt = absurd (omega arith)
     all_few (suc n) zero d lt = omega arith
     all_few (suc n) (suc k) d lt = all_few n k d (omega arith)
 
-    each_same : (n g : ℕ) → g < n → get_or (replicate n 4097) g 0 ≡ 4097
+    each_same : (n g : ℕ) → g < n → get_or (replicate n full) g 0 ≡ full
     each_same zero g lt = absurd (omega arith)
     each_same (suc n) zero lt = refl
     each_same (suc n) (suc g) lt = each_same n g (omega arith)
@@ -357,7 +361,7 @@ module _ (K : Kind) where
     unfolding Within
     within_more k n a le h = (h.0, (let l = h.1 in omega arith), h.2)
 
-    fresh : (es : List Event) → HaveLeft (replicate 13 4097) (run K (opening K s) es)
+    fresh : (es : List Event) → HaveLeft (replicate 13 full) (run K (opening K s) es)
     fresh es =
         let w = run K (opening K s) es in
         let time = (held K s es sound).timely in
@@ -380,9 +384,9 @@ module _ (K : Kind) where
     lines_cost (line ∷ names) es w there walks =
         let round = names_events K w line ++ wound_up w.scenario in
         let next : run K (opening K s) (es ++ round) ≡ behind K w line = run-append K es round (opening K s) ∙ ap (λ (v : World). run K v round) there in
-        let have = subst (λ (v : World). HaveLeft (replicate 13 4097) v) there (fresh es) in
-        let one = entries_cost line (replicate 13 4097) w have walks.0 in
-        let sum : total (replicate 13 4097) ≡ 53261 = refl in
+        let have = subst (λ (v : World). HaveLeft (replicate 13 full) v) there (fresh es) in
+        let one = entries_cost line (replicate 13 full) w have walks.0 in
+        let sum : total (replicate 13 full) ≡ 53261 = refl in
         let long = line_long (entries_from K w line) in
         let more = lines_cost names (es ++ round) (behind K w line) next walks.1 in
         let c = length-append (line_text (entries_from K w line)) (schedule_text (schedule_from K (behind K w line) names)) in
