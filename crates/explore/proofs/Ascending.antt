@@ -1,7 +1,6 @@
 -- The list of orders is ascending, so the first with an outcome is the least.
-use Rattle.std.proofs.Common.{Ordering, Less, Equal, Greater, ◌≡◌, ℕ, zero, suc, List, [], ◌∷◌, ◌++◌, map, true, false, Bool, cond, refl, sym, ap, subst, ◌∙◌, inl, inr, ⊎_elim, Some, None, Option, arith, ◌<◌, ◌⊎◌}
-use Rattle.std.specs.Prelude.{find, nat_lt, ◌==◌}
-use Rattle.std.specs.Cmp.{IsTotalOrder}
+use Rattle.std.proofs.Common.{Ordering, Less, Equal, Greater, ◌≡◌, ℕ, zero, suc, List, [], ◌∷◌, ◌++◌, map, true, false, Bool, cond, refl, sym, ap, subst, ◌∙◌, inl, inr, ⊎_elim, Some, ◌⊎◌}
+use Rattle.std.specs.Prelude.{find, ◌==◌}
 use Rattle.std.specs.Cmp.Lexicographic.{slice_cmp}
 use Rattle.std.specs.Ordering.{nat_cmp, ordering_then, ordering_reverse, is_gt}
 use Rattle.std.proofs.lemmas.Bool.{lt-ltb}

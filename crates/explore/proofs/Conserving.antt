@@ -6,7 +6,7 @@ use Rattle.round.specs.Scenario.{Scenario, IsScenario, program_of}
 use Rattle.world.specs.Kind.{opening}
 use Rattle.world.specs.World.{oral_kind}
 use Rattle.world.proofs.Campaigns.{oral_campaigns}
-use Rattle.explore.specs.Exploring.{Exploration, Finding, IsExploration}
+use Rattle.explore.specs.Exploring.{Exploration, IsExploration}
 use Rattle.explore.specs.Keeping.{example_text}
 use Rattle.explore.specs.Outcomes.{oral_outcome}
 use Rattle.explore.proofs.Concluding.{from_count}

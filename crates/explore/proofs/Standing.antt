@@ -1,5 +1,5 @@
 -- A state stands for each beginning of an order, and one that is no greater begins it.
-use Rattle.std.proofs.Common.{◌≡◌, ℕ, zero, suc, ◌+◌, ◌<◌, ◌≤◌, List, [], ◌∷◌, ◌++◌, length, set, get_or, Bool, true, false, cond, refl, sym, ap, subst, ◌∙◌, ◌⊎◌, inl, inr, ⊎_elim, arith, All, append-nil}
+use Rattle.std.proofs.Common.{◌≡◌, ℕ, zero, suc, ◌+◌, ◌<◌, List, [], ◌∷◌, ◌++◌, length, set, get_or, Bool, true, false, cond, refl, sym, ap, subst, ◌∙◌, ◌⊎◌, inl, inr, ⊎_elim, arith, All}
 use Rattle.std.specs.Prelude.{slice_get}
 use Rattle.std.specs.Ordering.{is_lt, is_gt}
 use Rattle.std.proofs.lemmas.List.Elements.{All-push, All-set}
@@ -11,7 +11,7 @@ use Rattle.world.specs.World.{oral_kind}
 use Rattle.world.proofs.Punctual.{run_scenario}
 use Rattle.explore.specs.Orders.{will_ask, past, behind, IsRoundFrom}
 use Rattle.explore.specs.Walks.{IsWalk}
-use Rattle.explore.specs.Least.{Beginning, beginning_cmp}
+use Rattle.explore.specs.Least.{beginning_cmp}
 use Rattle.explore.specs.Listing.{Has, askers}
 use Rattle.explore.specs.Layers.{State, kept, IsStateOf, AreStatesOf, IsEntered, IsCommon, IsSteady, over_round, or_sum, reached, behind_all, beginning_of, begins_cmp, earlier, joined, StandsFor, StandsOn, AreMade}
 use Rattle.explore.proofs.Branching.{last_step, round_common}

@@ -1,6 +1,5 @@
 -- A round in which some make their accesses, and that is then wound up, is that in which the others come by number.
-use Rattle.std.proofs.Common.{◌≡◌, ℕ, suc, ◌<◌, List, [], ◌∷◌, ◌++◌, length, drop, true, false, cond, refl, sym, ap, subst, ◌∙◌, ⊎_elim, inl, inr, arith, ◌&&◌}
-use Rattle.std.specs.Prelude.{nat_lt, slice_get}
+use Rattle.std.proofs.Common.{◌≡◌, ℕ, suc, ◌<◌, List, [], ◌∷◌, ◌++◌, length, drop, true, false, cond, refl, sym, ap, subst, ◌∙◌, ⊎_elim, arith, ◌&&◌}
 use Rattle.std.specs.List.{list_all}
 use Rattle.std.proofs.lemmas.Bool.{lt-ltb}
 use Rattle.std.proofs.Math.Seq.{drop-append_seam}
@@ -13,18 +12,18 @@ use Rattle.world.specs.declared.event.Event.TheVariants.{Close}
 use Rattle.world.specs.Campaigns.{IsCampaign}
 use Rattle.world.specs.Kind.{Kind, World, begins, begun, closing, each, happen, round_letters, round_open, run}
 use Rattle.world.specs.KindAccounted.{IsAccountedRound}
-use Rattle.world.specs.KindLists.{AreMoves, names_events, wound_up}
+use Rattle.world.specs.KindLists.{AreMoves, names_events}
 use Rattle.world.specs.Part.{owes_no_letter}
 use Rattle.world.proofs.Again.{round_again}
 use Rattle.world.proofs.Complete.{posts, ends, posts_moves, ends_moves, ripens}
-use Rattle.world.proofs.Lasting.{IsOnTime, close_open, moves_due, names_moves, round_done}
+use Rattle.world.proofs.Lasting.{IsOnTime, close_open, moves_due, names_moves}
 use Rattle.world.proofs.Listing.{each-length}
 use Rattle.world.proofs.Made.{Accounts, Added, AreMade, added_first, move_added, round_accounts}
-use Rattle.world.proofs.Moves.{SameRound, move_same, moves_same, run-append, then_same}
+use Rattle.world.proofs.Moves.{move_same, moves_same, run-append, then_same}
 use Rattle.world.proofs.Punctual.{all_posted}
-use Rattle.world.proofs.Ways.{Midst, midst_first, moves_midst}
+use Rattle.world.proofs.Ways.{midst_first, moves_midst}
 use Rattle.explore.specs.Listing.{Has}
-use Rattle.explore.specs.Orders.{behind, past, will_ask, IsRoundFrom}
+use Rattle.explore.specs.Orders.{behind, past, IsRoundFrom}
 use Rattle.explore.specs.Walks.{Continues, IsAscending, IsWalk}
 use Rattle.explore.proofs.Completing.{generals_of, round_adds}
 use Rattle.explore.proofs.Succeeding.{asker_comes}

@@ -1,6 +1,6 @@
 -- Joined with one with an alike world, or behind all.
-use Rattle.std.proofs.Common.{◌≡◌, ◌∙◌, List, ap, get_or, set, subst}
-use Rattle.explore.specs.Layers.{State, joined}
+use Rattle.std.proofs.Common.{◌≡◌, List, ap, get_or, set, subst}
+use Rattle.explore.specs.Layers.{State}
 use Rattle.explore.proofs.Stating.{enters_behind}
 use Rattle.explore.proofs.Weighing.{joins}
 use Rattle.explore.proofs.layer.Layer.enter.Goals as goal
