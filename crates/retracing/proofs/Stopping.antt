@@ -88,8 +88,8 @@ first_that_cannot s rows round place is h = record {
 }
 
 pub arranged_by : (s : Scenario) (text : List ℕ) (rows : List (List ℕ)) (schedule : List (List Repeat)) (lines : List ℕ) → accesses_told text ≡ Ok rows
-    → IsPlan oral_kind s rows (By schedule) → IsReadAs (schedule_text schedule) schedule → lines ≡ schedule_text schedule → IsArranged s text lines
-arranged_by s text rows schedule lines told plan read written = (rows, told, record { schedule = schedule; written = written; read = subst (λ (l : List ℕ). IsReadAs l schedule) (sym written) read; comes = plan.1 })
+    → AreWalks oral_kind (opening oral_kind s) rows → IsPlan oral_kind s rows (By schedule) → IsReadAs (schedule_text schedule) schedule → lines ≡ schedule_text schedule → IsArranged s text lines
+arranged_by s text rows schedule lines told walks plan read written = (rows, told, record { walks = walks; schedule = schedule; written = written; read = subst (λ (l : List ℕ). IsReadAs l schedule) (sym written) read; comes = plan.1 })
 
 pub unarranged_by : (s : Scenario) (text : List ℕ) (rows : List (List ℕ)) (round place : ℕ) (fault : AccessFault) → IsScenario s → accesses_told text ≡ Ok rows
     → IsStuckIn oral_kind (opening oral_kind s) rows round place → IsNever rows round place fault → IsUnarranged s text fault

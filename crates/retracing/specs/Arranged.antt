@@ -8,7 +8,7 @@ use Rattle.world.specs.Schedules.{lines_by}
 use Rattle.world.specs.World.{oral_kind}
 use Rattle.explore.specs.Orders.{IsOrder, order_of}
 use Rattle.explore.specs.Text.{schedule_text}
-use Rattle.explore.specs.Walks.{Continues, IsCompletion, IsStuckIn}
+use Rattle.explore.specs.Walks.{AreWalks, Continues, IsCompletion, IsStuckIn}
 use Rattle.retracing.specs.Reading.{IsReadAs}
 use Rattle.retracing.specs.declared.fault.AccessFault.{AccessFault}
 use Rattle.retracing.specs.declared.fault.AccessFault.TheVariants.{Text, Never}
@@ -41,9 +41,10 @@ pub record IsFirstThatCannot (s : Scenario) (rows : List (List ℕ)) (round plac
       (order_of oral_kind s (replayed oral_kind s (until rows round place)))
   pub never : (order : List (List ℕ)) → IsOrder oral_kind s order → BeginsSo rows round place order → ⊥
 
--- the lines are the text of a schedule by which the accesses come in this order in each round, and behind them the
--- others' by number
+-- the accesses can come, so none is listed past the last round; and the lines are the text of a schedule by which they
+-- come in this order in each round, and behind them the others' by number
 pub record IsArrangement (s : Scenario) (rows : List (List ℕ)) (lines : List ℕ) : Type 0 where
+  pub walks : AreWalks oral_kind (opening oral_kind s) rows
   pub schedule : List (List Repeat)
   pub written : lines ≡ schedule_text schedule
   pub read : IsReadAs lines schedule
