@@ -1,6 +1,7 @@
 -- Findings from states.
-use Rattle.std.proofs.Common.{◌≡◌, ℕ, suc, ◌+◌, ◌*◌, ◌-◌, ◌^◌, ◌<◌, ◌≤◌, min, List, [], ◌∷◌, ◌++◌, length, take, set, get_or, true, false, refl, sym, ap, subst, ◌∙◌, inl, inr, ⊎_elim, arith, All, length-append}
-use Rattle.std.specs.Prelude.{bytes_eq}
+use Rattle.std.proofs.Common.{Result, Ok, Err, Bool, cond, zero, ◌⊎◌, ◌≡◌, ℕ, suc, ◌+◌, ◌*◌, ◌-◌, ◌^◌, ◌<◌, ◌≤◌, min, List, [], ◌∷◌, ◌++◌, length, take, set, get_or, true, false, refl, sym, ap, subst, ◌∙◌, inl, inr, ⊎_elim, arith, All, length-append}
+use Rattle.std.specs.Prelude.{bytes_eq, OnOk}
+use Rattle.std.specs.Ordering.{is_lt, is_gt}
 use Rattle.std.proofs.Math.Nat.{add-mul}
 use Rattle.std.proofs.Math.Seq.{map-set_same}
 use Rattle.std.proofs.lemmas.Slice.Eq.{bytes_eq-Decides}
@@ -9,20 +10,33 @@ use Rattle.std.proofs.lemmas.List.Sums.{sum_by_push, sum_by-set, sum_by_more, ge
 use Rattle.std.proofs.lemmas.List.Elements.{All-weaker, All-nil, All-push, All-set}
 use Rattle.world.specs.Kind.{World}
 use Rattle.explore.specs.Exploring.{Finding, outcomes_of}
-use Rattle.explore.specs.Gathering.{IsCountedOn, IsFirstOf, IsFound, IsOfState, tallied, AreGathered}
+use Rattle.explore.specs.Gathering.{IsCountedOn, IsFirstOf, IsFound, IsOfState, IsShown, tallied, AreGathered}
 use Rattle.explore.specs.Layers.{State, kept, AsKept, weighed}
+use Rattle.explore.specs.Least.{lesser, order_cmp}
 use Rattle.explore.specs.Listing.{Has, AreDifferent}
 use Rattle.explore.specs.Outcomes.{oral_outcome}
 use Rattle.explore.specs.Places.{IsNowhere, IsPlaceOf}
-use Rattle.explore.proofs.Having.{different-append}
+use Rattle.explore.proofs.Having.{different-append, has-append_of, has-append_to}
+use Rattle.explore.proofs.Lesser.{order_total, least_self, least_then, lesser_first, lesser_second}
 use Rattle.explore.proofs.Weighing.{as_more, kept_times, swapped}
+
+-- so many ways more, and the lesser example
+abbrev counted_on : Finding → State → Finding
+counted_on f t = record f { count = kept (f.count + t.ways); example = lesser f.example t.rows }
+
+lesser_of : (P : List (List ℕ) → Type 0) (a b : List (List ℕ)) → P b → P a → P (lesser a b)
+lesser_of P a b pb pa = by (is_lt (order_cmp b a))
+  where
+    by : (c : Bool) → P (cond c b a)
+    by true = pb
+    by false = pa
 
 -- what a state adds to a sum over the findings
 counted_sums : (b : List ℕ → ℕ) (findings : List Finding) (t : State) (new : List Finding) → IsCountedOn findings t new → AsKept (tallied b new) (tallied b findings + t.ways * b (oral_outcome t.world))
 counted_sums b findings t new j =
     let g : Finding → ℕ = λ f. f.count * b f.decisions in
     let m = 2 ^ 64 - 1 in
-    let fresh : Finding = record j.was { count = kept (j.was.count + t.ways) } in
+    let fresh : Finding = counted_on j.was t in
     let here : bytes_eq j.was.decisions (oral_outcome t.world) ≡ true = (let A : Finding → Type 0 = λ f. bytes_eq f.decisions (oral_outcome t.world) ≡ true in subst A (sym j.there) (j.here.2 j.was)) in
     let one : b j.was.decisions ≡ b (oral_outcome t.world) = ap b ((bytes_eq-Decides j.was.decisions (oral_outcome t.world)).0 here) in
     let total : tallied b new + g j.was ≡ tallied b findings + g fresh = (λ i. tallied b (j.counted i) + g (j.there i)) ∙ sum_by-set g findings j.place fresh j.was j.here.0 in
@@ -52,7 +66,7 @@ not_had (f ∷ findings) ds none h =
 found_different : (findings : List Finding) (t : State) (new : List Finding) → IsFound findings t new → AreDifferent (outcomes_of findings) → AreDifferent (outcomes_of new)
 found_different findings t new (inl j) d =
     let same : outcomes_of new ≡ outcomes_of findings =
-    ap outcomes_of j.counted ∙ map-set_same (λ (f : Finding). f.decisions) findings j.place (record j.was { count = kept (j.was.count + t.ways) }) j.was (ap (λ (f : Finding). f.decisions) j.there) in
+    ap outcomes_of j.counted ∙ map-set_same (λ (f : Finding). f.decisions) findings j.place (counted_on j.was t) j.was (ap (λ (f : Finding). f.decisions) j.there) in
     subst AreDifferent (sym same) d
 found_different findings t new (inr j) d =
     let ds = oral_outcome t.world in
@@ -68,14 +82,18 @@ kept_few n = omega arith
 found_few : (findings : List Finding) (t : State) (new : List Finding) → IsFound findings t new → All (λ (f : Finding). f.count < 2 ^ 64) findings → All (λ (f : Finding). f.count < 2 ^ 64) new
 found_few findings t new (inl j) all =
     let A : Finding → Type 0 = λ f. f.count < 2 ^ 64 in
-    subst (λ (l : List Finding). All A l) (sym j.counted) (All-set A findings j.place (record j.was { count = kept (j.was.count + t.ways) }) (kept_few (j.was.count + t.ways)) all)
+    subst (λ (l : List Finding). All A l) (sym j.counted) (All-set A findings j.place (counted_on j.was t) (kept_few (j.was.count + t.ways)) all)
 found_few findings t new (inr j) all =
     let A : Finding → Type 0 = λ f. f.count < 2 ^ 64 in
     subst (λ (l : List Finding). All A l) (sym j.found) (All-push A findings (record { decisions = oral_outcome t.world; count = kept t.ways; example = t.rows }) all (kept_few t.ways))
 
 -- as code enters it
+pub on_ok_so : {A E : Type 0} (r : Result A E) (P Q : Type 0) → (P → Q) → OnOk r P → OnOk r Q
+on_ok_so (Ok x) P Q f h = f h
+on_ok_so (Err x) P Q f h = tt
+
 pub counts_on : (findings : List Finding) (t : State) (ds : List ℕ) (place : ℕ) (was fresh : Finding) (new : List Finding) → IsPlaceOf findings ds place → ds ≡ oral_outcome t.world → was ≡ get_or findings place was →
-    fresh ≡ record was { count = kept (was.count + t.ways) } → new ≡ set findings place fresh → IsFound findings t new
+    fresh ≡ counted_on was t → new ≡ set findings place fresh → IsFound findings t new
 counts_on findings t ds place was fresh new here same at made is =
     inl (record { place = place; was = was; here = subst (λ (l : List ℕ). IsPlaceOf findings l place) same here; there = at; counted = is ∙ ap (λ (f : Finding). set findings place f) made })
 
@@ -119,8 +137,12 @@ found_of states n u lt at findings new (inl j) all =
     let A : Finding → Type 0 = IsOfState (take (n + 1) states) in
     let old : All A findings = All-weaker (IsOfState (take n states)) A (λ f h. still_of states n u lt at f h) findings all in
     let was : A j.was = subst A (sym j.there) (old j.place j.was j.here.0) in
-    let fresh : Finding = record j.was { count = kept (j.was.count + u.ways) } in
-    let is : A fresh = record { t = was.t; place = was.place; inside = was.inside; there = was.there; decisions = was.decisions; example = was.example } in
+    let fresh : Finding = counted_on j.was u in
+    let here : bytes_eq j.was.decisions (oral_outcome u.world) ≡ true = (let B : Finding → Type 0 = λ f. bytes_eq f.decisions (oral_outcome u.world) ≡ true in subst B (sym j.there) (j.here.2 j.was)) in
+    let same : j.was.decisions ≡ oral_outcome u.world = (bytes_eq-Decides j.was.decisions (oral_outcome u.world)).0 here in
+    let is : A fresh = lesser_of (λ (e : List (List ℕ)). A (record { decisions = j.was.decisions; count = kept (j.was.count + u.ways); example = e })) j.was.example u.rows
+    (last_of states n u lt at (record { decisions = j.was.decisions; count = kept (j.was.count + u.ways); example = u.rows }) same refl)
+    (record { t = was.t; place = was.place; inside = was.inside; there = was.there; decisions = was.decisions; example = was.example }) in
     subst (λ (l : List Finding). All A l) (sym j.counted) (All-set A findings j.place fresh is old)
 found_of states n u lt at findings new (inr j) all =
     let A : Finding → Type 0 = IsOfState (take (n + 1) states) in
@@ -128,16 +150,75 @@ found_of states n u lt at findings new (inr j) all =
     let f : Finding = record { decisions = oral_outcome u.world; count = kept u.ways; example = u.rows } in
     subst (λ (l : List Finding). All A l) (sym j.found) (All-push A findings f old (last_of states n u lt at f refl refl))
 
+-- ---- what is shown stays so, with an example that is no greater
+
+has_set : (fs : List Finding) (k : ℕ) (v f d : Finding) → Has fs f → Has (set fs k v) f ⊎ (get_or fs k d ≡ f)
+has_set [] k v f d h = absurd h
+has_set (x ∷ fs) zero v f d h = ⊎_elim (λ e. inr e) (λ m. inl (inr m)) h
+has_set (x ∷ fs) (suc k) v f d h = ⊎_elim (λ e. inl (inl e)) (λ m. ⊎_elim (λ n. inl (inr n)) (λ e. inr e) (has_set fs k v f d m)) h
+
+has_new : (fs : List Finding) (k : ℕ) (v : Finding) → k < length fs → Has (set fs k v) v
+has_new [] k v lt = absurd (omega arith)
+has_new (x ∷ fs) zero v lt = inl refl
+has_new (x ∷ fs) (suc k) v lt = inr (has_new fs k v (omega arith))
+
+still_shown : (findings : List Finding) (u : State) (new : List Finding) → IsFound findings u new → (t : State) → IsShown findings t → IsShown new t
+still_shown findings u new (inr j) t z = record {
+  f = z.f;
+  has = subst (λ (l : List Finding). Has l z.f) (sym j.found) (has-append_to findings (record { decisions = oral_outcome u.world; count = kept u.ways; example = u.rows } ∷ []) z.f (inl z.has));
+  decisions = z.decisions;
+  least = z.least;
+}
+still_shown findings u new (inl j) t z =
+    ⊎_elim
+    (λ (h : Has (set findings j.place (counted_on j.was u)) z.f). record { f = z.f; has = subst (λ (l : List Finding). Has l z.f) (sym j.counted) h; decisions = z.decisions; least = z.least })
+    (λ (e : get_or findings j.place j.was ≡ z.f).
+    let here : j.was ≡ z.f = j.there ∙ e in
+    let fresh : Finding = counted_on j.was u in
+    record {
+      f = fresh;
+      has = subst (λ (l : List Finding). Has l fresh) (sym j.counted) (has_new findings j.place fresh j.here.0);
+      decisions = ap (λ (f : Finding). f.decisions) here ∙ z.decisions;
+      least = least_then order_total fresh.example j.was.example t.rows (lesser_first j.was.example u.rows)
+          (subst (λ (f : Finding). is_gt (order_cmp f.example t.rows) ≡ false) (sym here) z.least);
+    })
+    (has_set findings j.place (counted_on j.was u) z.f j.was z.has)
+
+now_shown : (findings : List Finding) (u : State) (new : List Finding) → IsFound findings u new → IsShown new u
+now_shown findings u new (inr j) =
+    let f : Finding = record { decisions = oral_outcome u.world; count = kept u.ways; example = u.rows } in
+    record {
+      f = f;
+      has = subst (λ (l : List Finding). Has l f) (sym j.found) (has-append_to findings (f ∷ []) f (inr (inl refl)));
+      decisions = refl;
+      least = least_self order_total u.rows;
+    }
+now_shown findings u new (inl j) =
+    let fresh : Finding = counted_on j.was u in
+    let here : bytes_eq j.was.decisions (oral_outcome u.world) ≡ true = (let B : Finding → Type 0 = λ f. bytes_eq f.decisions (oral_outcome u.world) ≡ true in subst B (sym j.there) (j.here.2 j.was)) in
+    record {
+      f = fresh;
+      has = subst (λ (l : List Finding). Has l fresh) (sym j.counted) (has_new findings j.place fresh j.here.0);
+      decisions = (bytes_eq-Decides j.was.decisions (oral_outcome u.world)).0 here;
+      least = lesser_second j.was.example u.rows;
+    }
+
 pub gather_begins : (states : List State) (findings : List Finding) → findings ≡ [] → AreGathered (take 0 states) findings
 gather_begins states findings none =
     let A : List Finding → Type 0 = λ l. AreGathered (take 0 states) l in
-    subst A (sym none) (record { of_states = All-nil (IsOfState (take 0 states)); different = tt; kept_counts = All-nil (λ (f : Finding). f.count < 2 ^ 64); sums = λ b. refl })
+    subst A (sym none) (record { of_states = All-nil (IsOfState (take 0 states)); different = tt; kept_counts = All-nil (λ (f : Finding). f.count < 2 ^ 64); shown = λ t h. absurd h; sums = λ b. refl })
 
 pub gather_goes_on : (states : List State) (n : ℕ) (u : State) (findings new : List Finding) → n < length states → u ≡ get_or states n u → AreGathered (take n states) findings → IsFound findings u new → AreGathered (take (n + 1) states) new
 gather_goes_on states n u findings new lt at h found = record {
   of_states = found_of states n u lt at findings new found h.of_states;
   different = found_different findings u new found h.different;
   kept_counts = found_few findings u new found h.kept_counts;
+  shown = λ t here.
+      let e : take (n + 1) states ≡ take n states ++ u ∷ [] = take_more states n u lt ∙ ap (λ (x : State). take n states ++ x ∷ []) (sym at) in
+      ⊎_elim
+      (λ (m : Has (take n states) t). still_shown findings u new found t (h.shown t m))
+      (λ (m : Has (u ∷ []) t). ⊎_elim (λ (q : u ≡ t). subst (λ (x : State). IsShown new x) q (now_shown findings u new found)) (λ f. absurd f) m)
+      (has-append_of (take n states) (u ∷ []) t (subst (λ (l : List State). Has l t) e here));
   sums = λ b.
       let w : State → ℕ = λ x. x.ways * b (oral_outcome x.world) in
       let f : World → ℕ = λ x. b (oral_outcome x) in

@@ -192,7 +192,7 @@ module _ (K : Kind) where
       let A : World → Type 0 = λ x. (m : More w x) × (generals_of m.piece ≡ g ∷ names) in
       subst A (sym (run-append K ticks (names_events K v names) w)) (then_more w v V first r.0, λ i. one.general i ∷ r.1 i)
 
-  round_adds : (names : List ℕ) (w : World) → IsWalk K w names → Round w (behind K w names) names
+  pub round_adds : (names : List ℕ) (w : World) → IsWalk K w names → Round w (behind K w names) names
   round_adds names w h =
       let es = names_events K w names in
       let v = run K w es in

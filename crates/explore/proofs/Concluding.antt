@@ -1,6 +1,7 @@
 -- The findings of the last states are those of all orders.
-use Rattle.std.proofs.Common.{◌≡◌, ℕ, zero, suc, ◌*◌, ◌-◌, ◌^◌, ◌<◌, ◌≤◌, List, [], ◌∷◌, ◌++◌, length, get_or, Bool, true, false, cond, refl, sym, ap, subst, ◌∙◌, inl, inr, ⊎_elim, arith, All}
+use Rattle.std.proofs.Common.{◌≡◌, ℕ, zero, suc, ◌*◌, ◌-◌, ◌^◌, ◌<◌, ◌≤◌, List, [], ◌∷◌, ◌++◌, length, get_or, Bool, true, false, cond, refl, sym, ap, subst, ◌∙◌, inl, inr, ⊎_elim, arith, All, Some}
 use Rattle.std.specs.Prelude.{count_by, bytes_eq}
+use Rattle.std.specs.Ordering.{is_gt}
 use Rattle.std.proofs.Math.Nat.{mul-zero, mul-one}
 use Rattle.std.proofs.lemmas.Slice.Eq.{bytes_eq-Decides}
 use Rattle.std.proofs.lemmas.List.Sums.{sum_by-cons, count_by-le-length}
@@ -8,21 +9,27 @@ use Rattle.round.specs.Letters.{messages}
 use Rattle.round.specs.Scenario.{Scenario, IsScenario}
 use Rattle.world.specs.Chronicle.{decisions}
 use Rattle.world.specs.declared.event.Event.{Event}
-use Rattle.world.specs.Kind.{World, opening, run}
+use Rattle.world.specs.declared.event.Event.TheVariants.{Tick}
+use Rattle.world.specs.Kind.{World, happen, opening, run}
 use Rattle.world.specs.KindLists.{IsComplete, replayed_rounds, names_events, wound_up}
 use Rattle.world.specs.World.{oral_kind}
 use Rattle.world.proofs.Campaigns.{oral_campaigns}
-use Rattle.world.proofs.Moves.{run-append}
+use Rattle.world.proofs.Moves.{move_same, run-append}
+use Rattle.explore.specs.Ahead.{RunsOn}
 use Rattle.explore.specs.declared.exploration.Reach.TheVariants.{Whole, Beyond, InPart}
-use Rattle.explore.specs.Exploring.{Finding, outcomes_of, counted_in, ways_to, IsReal, IsCappedFinding, IsExplored, IsExploredBeyond, IsExploration}
+use Rattle.explore.specs.Exploring.{Finding, outcomes_of, counted_in, ways_to, IsReal, IsCappedFinding, first_to, IsExplored, IsExploredBeyond, IsExploration}
 use Rattle.explore.specs.Gathering.{IsOfState, tallied, AreGathered}
-use Rattle.explore.specs.Layers.{State, kept, AsKept, IsFreshOf, AreRounds, behind_all, IsCommon, over_rounds, AreLayers}
+use Rattle.explore.specs.Layers.{State, kept, AsKept, IsFreshOf, AreRounds, behind_all, IsCommon, IsSteady, over_rounds, AreLayers}
+use Rattle.explore.specs.Least.{names_cmp, order_cmp}
 use Rattle.explore.specs.Listing.{Has, AreDifferent, orders, most_in_round}
 use Rattle.explore.specs.Orders.{IsFrom, IsOrder, behind, order_of}
 use Rattle.explore.specs.Outcomes.{oral_outcome, outcome_of, outcome_in}
+use Rattle.explore.proofs.Ascending.{find_least, orders_ascending}
 use Rattle.explore.proofs.Bounded.{orders_are_whole}
 use Rattle.explore.proofs.Branching.{ways_over, orders_over}
 use Rattle.explore.proofs.Deciding.{again, orders_decide}
+use Rattle.explore.proofs.Lesser.{order_total, least_then, then_first}
+use Rattle.explore.proofs.Listed.{orders_are_listed}
 use Rattle.explore.proofs.Merging.{messages_alike}
 
 -- decisions are common to alike worlds
@@ -31,12 +38,32 @@ decisions_common b w v alike =
     let m : messages w.closed ≡ messages v.closed = messages_alike w.closed v.closed alike.closed in
     λ i. b (decisions (alike.scenario i) (m i))
 
+-- and running on leaves them
+runs_outcome : (gs : List ℕ) (w v : World) → RunsOn w gs v → oral_outcome v ≡ oral_outcome w
+runs_outcome [] w v r = ap oral_outcome (sym r)
+runs_outcome (x ∷ gs) w v r =
+    let same = move_same oral_kind w (Tick x) tt in
+    runs_outcome gs (happen oral_kind w (Tick x)) v r.1 ∙ (λ i. decisions (same.scenario i) (messages (same.closed i)))
+
+decisions_steady : (b : List ℕ → ℕ) → IsSteady (λ w. b (oral_outcome w))
+decisions_steady b w v is r on = ap b (runs_outcome on.0 w v on.1)
+
 -- the way of a last state is an order
 rounds_from : (k : ℕ) (rows : List (List ℕ)) (w : World) → AreRounds w rows → length rows ≡ k → IsFrom oral_kind w k rows
 rounds_from zero [] w h e = refl
 rounds_from zero (r ∷ rows) w h e = absurd (omega arith)
 rounds_from (suc k) [] w h e = absurd (omega arith)
 rounds_from (suc k) (r ∷ rows) w h e = (h.0, rounds_from k rows (behind oral_kind w r) h.1 (omega arith))
+
+from_rounds : (k : ℕ) (rows : List (List ℕ)) (w : World) → IsFrom oral_kind w k rows → AreRounds w rows
+from_rounds zero rows w h = subst (λ (l : List (List ℕ)). AreRounds w l) (sym h) tt
+from_rounds (suc k) [] w h = absurd h
+from_rounds (suc k) (r ∷ rows) w h = (h.0, from_rounds k rows (behind oral_kind w r) h.1)
+
+pub from_count : (k : ℕ) (rows : List (List ℕ)) (w : World) → IsFrom oral_kind w k rows → length rows ≡ k
+from_count zero rows w h = ap length h
+from_count (suc k) [] w h = absurd h
+from_count (suc k) (r ∷ rows) w h = ap suc (from_count k rows (behind oral_kind w r) h.1)
 
 rounds_run : (k : ℕ) (rows : List (List ℕ)) (w : World) → length rows ≡ k → run oral_kind w (replayed_rounds oral_kind w k rows) ≡ behind_all w rows
 rounds_run zero [] w e = refl
@@ -70,6 +97,35 @@ none_tallied ds (f ∷ fs) never =
     let d : g f ≡ f.count * 0 = ap (λ (n : ℕ). f.count * n) c in
     let e = mul-zero f.count in
     omega arith
+
+chosen_is : (ds x : List ℕ) → chosen ds x ≡ 1 → x ≡ ds
+chosen_is ds x one = by (bytes_eq x ds) refl
+  where
+    by : (t : Bool) → bytes_eq x ds ≡ t → x ≡ ds
+    by true e = (bytes_eq-Decides x ds).0 e
+    by false e = absurd (let z : chosen ds x ≡ 0 = ap (λ (b : Bool). cond b 1 0) e in omega arith)
+
+-- of different findings one is of some decisions
+finding_at : (fs : List Finding) (k : ℕ) (d : Finding) → k < length fs → Has fs (get_or fs k d)
+finding_at [] k d lt = absurd (omega arith)
+finding_at (f ∷ fs) zero d lt = inl refl
+finding_at (f ∷ fs) (suc k) d lt = inr (finding_at fs k d (omega arith))
+
+has_outcome : (fs : List Finding) (f : Finding) → Has fs f → Has (outcomes_of fs) f.decisions
+has_outcome [] f h = h
+has_outcome (x ∷ fs) f h = ⊎_elim (λ (e : x ≡ f). inl (ap (λ (y : Finding). y.decisions) e)) (λ m. inr (has_outcome fs f m)) h
+
+one_finding : (fs : List Finding) → AreDifferent (outcomes_of fs) → (f g : Finding) → Has fs f → Has fs g → f.decisions ≡ g.decisions → f ≡ g
+one_finding [] different f g h k e = absurd h
+one_finding (x ∷ fs) different f g h k e =
+    ⊎_elim
+    (λ (p : x ≡ f). ⊎_elim
+    (λ (q : x ≡ g). sym p ∙ q)
+    (λ (m : Has fs g). absurd (different.0 (subst (λ (l : List ℕ). Has (outcomes_of fs) l) (sym (ap (λ (y : Finding). y.decisions) p ∙ e)) (has_outcome fs g m)))) k)
+    (λ (n : Has fs f). ⊎_elim
+    (λ (q : x ≡ g). absurd (different.0 (subst (λ (l : List ℕ). Has (outcomes_of fs) l) (e ∙ sym (ap (λ (y : Finding). y.decisions) q)) (has_outcome fs f n))))
+    (λ (m : Has fs g). one_finding fs different.1 f g n m e) k)
+    h
 
 -- of different findings it is the count of one
 has_at : (fs : List Finding) (k : ℕ) (d : Finding) → k < length fs → Has (outcomes_of fs) (get_or fs k d).decisions
@@ -173,6 +229,32 @@ module _ (s : Scenario) (is : IsScenario s) (states : List State) (findings : Li
       let w = ways_kept ds in
       has_tallied ds findings (omega arith)
 
+  -- the example of each is the least order that leads there
+  leads_least : (f : Finding) → Has findings f → (order : List (List ℕ)) → Has (orders oral_kind s) order → bytes_eq (outcome_of oral_kind oral_outcome s order) f.decisions ≡ true → is_gt (order_cmp f.example order) ≡ false
+  leads_least f here order listed leads =
+      let o = opening oral_kind s in
+      let both = ((orders_are_listed oral_kind oral_campaigns).all s (most_in_round s) order is).0 listed in
+      let from = ((orders_decide oral_kind oral_campaigns).steps s order is).0 both.0 in
+      let long = from_count (suc s.bound) order o from in
+      let z = layers.stands order (from_rounds (suc s.bound) order o from) both.1 long in
+      let ds : oral_outcome (behind_all o order) ≡ f.decisions =
+      ap oral_outcome (sym (rounds_run (suc s.bound) order o long)) ∙ (bytes_eq-Decides (outcome_of oral_kind oral_outcome s order) f.decisions).0 leads in
+      let h : World → ℕ = λ w. chosen f.decisions (oral_outcome w) in
+      let one : h z.t.world ≡ 1 = sym (z.same h (decisions_common (chosen f.decisions)) (decisions_steady (chosen f.decisions))) ∙ chosen_same f.decisions (oral_outcome (behind_all o order)) ds in
+      let y = found.shown z.t z.has in
+      let same : y.f ≡ f = one_finding findings found.different y.f f y.has here (y.decisions ∙ chosen_is f.decisions (oral_outcome z.t.world) one) in
+      let first : is_gt (order_cmp f.example z.t.rows) ≡ false = subst (λ (x : Finding). is_gt (order_cmp x.example z.t.rows) ≡ false) same y.least in
+      least_then order_total f.example z.t.rows order first (then_first (order_cmp z.t.rows order) (names_cmp z.t.names []) z.least)
+
+  pub least_first : All (λ (f : Finding). first_to oral_kind oral_outcome s (orders oral_kind s) f.decisions ≡ Some f.example) findings
+  least_first k d lt =
+      let f = get_or findings k d in
+      let r = (each_capped k d lt).real in
+      find_least (λ order. bytes_eq (outcome_of oral_kind oral_outcome s order) f.decisions) (orders oral_kind s) f.example (orders_ascending oral_kind (most_in_round s) (suc s.bound) (opening oral_kind s))
+      (((orders_are_whole oral_kind oral_campaigns).all s f.example is).1 r.example)
+      ((bytes_eq-Decides (outcome_of oral_kind oral_outcome s f.example) f.decisions).1 r.outcome)
+      (λ order listed leads. leads_least f (finding_at findings k d lt) order listed leads)
+
   pub explored_beyond : kept (counted_in findings) ≡ 2 ^ 64 - 1 → IsExploredBeyond oral_kind oral_outcome s findings
   explored_beyond e = record { each = each_capped; different = found.different; whole = none_missed; many = (let t = total_kept in omega arith) }
 
@@ -196,7 +278,7 @@ module _ (s : Scenario) (is : IsScenario s) (states : List State) (findings : Li
     all = λ e. absurd (let f : Beyond ≡ Whole = e in cc);
     beyond = λ e. explored_beyond h;
     part = λ e. absurd (let f : Beyond ≡ InPart = e in cc);
-    least = λ lt. absurd (omega arith);
+    least = least_first;
   }
 
   pub is_whole : kept (counted_in findings) < 2 ^ 64 - 1 → IsExploration oral_kind oral_outcome s (2 ^ 64 - 1) (record { findings = findings; reach = Whole })
@@ -205,5 +287,5 @@ module _ (s : Scenario) (is : IsScenario s) (states : List State) (findings : Li
     all = λ e. explored_whole h;
     beyond = λ e. absurd (let f : Whole ≡ Beyond = e in cc);
     part = λ e. absurd (let f : Whole ≡ InPart = e in cc);
-    least = λ lt. absurd (omega arith);
+    least = least_first;
   }

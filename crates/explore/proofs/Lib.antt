@@ -17,6 +17,13 @@ pub mod Replaying
 pub mod Stepping
 pub mod Planned
 pub mod Agreeing
+pub mod Lesser
+pub mod Ascending
+pub mod Standing
+pub mod Spending
+pub mod Conserving
+pub mod Winding
+pub mod Onward
 pub mod Weighing
 pub mod Branching
 pub mod Reaching

@@ -16,11 +16,11 @@ has_begun : {A : Type 0} → (g : A) (rows : List (List A)) (rest : List A) → 
 has_begun g [] rest h = absurd h
 has_begun g (r ∷ rows) rest h = ⊎_elim (λ e. inl (ap (λ x. g ∷ x) e)) (λ k. inr (has_begun g rows rest k)) h
 
-begun_empty : {A : Type 0} → (g : A) (rows : List (List A)) → Has (map (λ r. g ∷ r) rows) [] → ⊥
+pub begun_empty : {A : Type 0} → (g : A) (rows : List (List A)) → Has (map (λ r. g ∷ r) rows) [] → ⊥
 begun_empty g [] h = h
 begun_empty g (r ∷ rows) h = ⊎_elim (λ e. cc) (λ k. begun_empty g rows k) h
 
-begun_has : {A : Type 0} → (g x : A) (rows : List (List A)) (rest : List A) → Has (map (λ r. g ∷ r) rows) (x ∷ rest) → (g ≡ x) × Has rows rest
+pub begun_has : {A : Type 0} → (g x : A) (rows : List (List A)) (rest : List A) → Has (map (λ r. g ∷ r) rows) (x ∷ rest) → (g ≡ x) × Has rows rest
 begun_has g x [] rest h = absurd h
 begun_has g x (r ∷ rows) rest h =
     ⊎_elim (λ e. ((let f : g ≡ x = cc in f), inl (let f : r ≡ rest = cc in f))) (λ k. (let b = begun_has g x rows rest k in (b.0, inr b.1))) h
@@ -29,12 +29,12 @@ begun_different : {A : Type 0} → (g : A) (rows : List (List A)) → AreDiffere
 begun_different g [] d = tt
 begun_different g (r ∷ rows) d = ((λ h. d.0 (begun_has g g rows r h).1), begun_different g rows d.1)
 
-branch_empty : {A : Type 0} → (gs : List A) (later : A → List (List A)) → Has (branch gs later) [] → ⊥
+pub branch_empty : {A : Type 0} → (gs : List A) (later : A → List (List A)) → Has (branch gs later) [] → ⊥
 branch_empty [] later h = h
 branch_empty (g ∷ gs) later h =
     ⊎_elim (λ k. begun_empty g (later g) k) (λ k. branch_empty gs later k) (has-append_of (map (λ r. g ∷ r) (later g)) (branch gs later) [] h)
 
-branch_has : {A : Type 0} → (gs : List A) (later : A → List (List A)) (x : A) (rest : List A) → Has (branch gs later) (x ∷ rest) → Has gs x × Has (later x) rest
+pub branch_has : {A : Type 0} → (gs : List A) (later : A → List (List A)) (x : A) (rest : List A) → Has (branch gs later) (x ∷ rest) → Has gs x × Has (later x) rest
 branch_has [] later x rest h = absurd h
 branch_has {A} (g ∷ gs) later x rest h =
     ⊎_elim

@@ -38,7 +38,7 @@ rounds_more : (w : World) (rows : List (List ℕ)) (row : List ℕ) → AreRound
 rounds_more w [] row h r = (r, tt)
 rounds_more w (x ∷ rows) row h r = (h.0, rounds_more (behind oral_kind w x) rows row h.1 r)
 
-behind_events : (w : World) (names : List ℕ) → behind oral_kind w names ≡ run oral_kind (run oral_kind w (names_events oral_kind w names)) (wound_up w.scenario)
+pub behind_events : (w : World) (names : List ℕ) → behind oral_kind w names ≡ run oral_kind (run oral_kind w (names_events oral_kind w names)) (wound_up w.scenario)
 behind_events w names = run-append oral_kind (names_events oral_kind w names) (wound_up w.scenario) w
 
 -- a round more, as code plays it
@@ -60,10 +60,10 @@ played_last w v u rows i names le here played =
     played ∙ ap (λ (x : World). run oral_kind x (names_events oral_kind x names)) (here ∙ ap (λ (l : List (Vec ℕ Global)). behind_all w (lists_in l)) (take_all i rows le))
 
 -- an access more
-events_first : (w : World) (g : ℕ) (names : List ℕ) → run oral_kind w (names_events oral_kind w (g ∷ names)) ≡ run oral_kind (past oral_kind w g) (names_events oral_kind (past oral_kind w g) names)
+pub events_first : (w : World) (g : ℕ) (names : List ℕ) → run oral_kind w (names_events oral_kind w (g ∷ names)) ≡ run oral_kind (past oral_kind w g) (names_events oral_kind (past oral_kind w g) names)
 events_first w g names = run-append oral_kind (ticks_named g (slice_get w.parts g)) (names_events oral_kind (past oral_kind w g) names) w
 
-names_more : (w : World) (names : List ℕ) (g : ℕ) → run oral_kind w (names_events oral_kind w (names ++ g ∷ [])) ≡ past oral_kind (run oral_kind w (names_events oral_kind w names)) g
+pub names_more : (w : World) (names : List ℕ) (g : ℕ) → run oral_kind w (names_events oral_kind w (names ++ g ∷ [])) ≡ past oral_kind (run oral_kind w (names_events oral_kind w names)) g
 names_more w [] g = events_first w g []
 names_more w (x ∷ names) g =
     events_first w x (names ++ g ∷ []) ∙ (names_more (past oral_kind w x) names g ∙ ap (λ (v : World). past oral_kind v g) (sym (events_first w x names)))

@@ -18,7 +18,7 @@ use Rattle.explore.specs.declared.exploration.Reach.{Reach}
 use Rattle.explore.specs.declared.exploration.Reach.TheVariants.{Whole, Beyond, InPart}
 use Rattle.explore.specs.Entering.{entered}
 use Rattle.explore.specs.Exploring.{Finding, Exploration, counted_in, IsFinding, IsLowerFinding, IsCappedFinding, IsExploredInPart, IsExplored, IsExploration}
-use Rattle.explore.specs.Orders.{order_of}
+use Rattle.explore.specs.Orders.{IsOrder, order_of}
 use Rattle.explore.specs.Outcomes.{oral_outcome, outcome_in}
 use Rattle.explore.specs.Succession.{next_order}
 use Rattle.explore.specs.Walks.{AreWalks}
@@ -107,14 +107,20 @@ module _ (s : Scenario) (is : IsScenario s) where
       let e = ap counted_in here in
       omega arith
 
-  -- the examples of an exploration have schedules
-  pub all_walk : (most : ℕ) (e : Exploration) → IsExploration oral_kind oral_outcome s most e → All (λ (f : Finding). AreWalks oral_kind (kind.opening oral_kind s) f.example) e.findings
-  all_walk most e h = by e.reach refl
+  -- the examples of an exploration are orders
+  pub all_orders : (most : ℕ) (e : Exploration) → IsExploration oral_kind oral_outcome s most e → All (λ (f : Finding). IsOrder oral_kind s f.example) e.findings
+  all_orders most e h = by e.reach refl
     where
-      by : (r : Reach) → e.reach ≡ r → All (λ (f : Finding). AreWalks oral_kind (kind.opening oral_kind s) f.example) e.findings
-      by Whole t = All-weaker (IsFinding oral_kind oral_outcome s) (λ (f : Finding). AreWalks oral_kind (kind.opening oral_kind s) f.example) (λ f k. orders_walk oral_kind oral_campaigns s f.example is k.real.example) e.findings (h.all t).each
-      by Beyond t = All-weaker (IsCappedFinding oral_kind oral_outcome s) (λ (f : Finding). AreWalks oral_kind (kind.opening oral_kind s) f.example) (λ f k. orders_walk oral_kind oral_campaigns s f.example is k.real.example) e.findings (h.beyond t).each
-      by InPart t = All-weaker (IsLowerFinding oral_kind oral_outcome s) (λ (f : Finding). AreWalks oral_kind (kind.opening oral_kind s) f.example) (λ f k. orders_walk oral_kind oral_campaigns s f.example is k.real.example) e.findings (h.part t).each
+      by : (r : Reach) → e.reach ≡ r → All (λ (f : Finding). IsOrder oral_kind s f.example) e.findings
+      by Whole t = All-weaker (IsFinding oral_kind oral_outcome s) (λ (f : Finding). IsOrder oral_kind s f.example) (λ f k. k.real.example) e.findings (h.all t).each
+      by Beyond t = All-weaker (IsCappedFinding oral_kind oral_outcome s) (λ (f : Finding). IsOrder oral_kind s f.example) (λ f k. k.real.example) e.findings (h.beyond t).each
+      by InPart t = All-weaker (IsLowerFinding oral_kind oral_outcome s) (λ (f : Finding). IsOrder oral_kind s f.example) (λ f k. k.real.example) e.findings (h.part t).each
+
+  -- and have schedules
+  pub all_walk : (most : ℕ) (e : Exploration) → IsExploration oral_kind oral_outcome s most e → All (λ (f : Finding). AreWalks oral_kind (kind.opening oral_kind s) f.example) e.findings
+  all_walk most e h =
+      All-weaker (λ (f : Finding). IsOrder oral_kind s f.example) (λ (f : Finding). AreWalks oral_kind (kind.opening oral_kind s) f.example)
+      (λ f k. orders_walk oral_kind oral_campaigns s f.example is k) e.findings (all_orders most e h)
 
   pub visits_cut : (n most : ℕ) (names : List (Vec ℕ Global)) (findings : List Finding) → IsVisited oral_kind oral_outcome s n (lists_in names) findings → n ≡ most → IsExploredInPart oral_kind oral_outcome s most findings
   visits_cut n most names findings v e =

@@ -1,6 +1,7 @@
 -- A layer gives way to the next, state by state and access by access.
-use Rattle.std.proofs.Common.{◌≡◌, ℕ, suc, ◌+◌, ◌*◌, ◌-◌, ◌^◌, ◌<◌, ◌≤◌, List, [], ◌∷◌, ◌++◌, length, drop, get_or, reverse, take, Bool, true, false, refl, sym, ap, subst, ◌∙◌, arith, All, None, Some, append-nil, append_assoc, length-append, zero}
+use Rattle.std.proofs.Common.{◌≡◌, ℕ, suc, ◌+◌, ◌*◌, ◌-◌, ◌^◌, ◌<◌, ◌≤◌, List, [], ◌∷◌, ◌++◌, length, drop, get_or, reverse, take, Bool, true, false, refl, sym, ap, subst, ◌∙◌, inl, ⊎_elim, arith, All, None, Some, append-nil, append_assoc, length-append, zero}
 use Rattle.std.specs.Prelude.{slice_get, sum_by, ◌||◌}
+use Rattle.std.proofs.lemmas.Bool.{cases_lt}
 use Rattle.std.proofs.Math.Nat.{mul-add, mul-zero, one-mul}
 use Rattle.std.proofs.lemmas.List.{get_or_append_left, get_or_push, reverse-append, reverse-reverse}
 use Rattle.std.proofs.lemmas.List.Sums.{sum_by_push, sum_by-cons}
@@ -14,13 +15,20 @@ use Rattle.world.specs.Playing.{program_length}
 use Rattle.world.specs.World.{oral_kind}
 use Rattle.world.proofs.Lasting.{IsOnTime}
 use Rattle.world.proofs.Punctual.{run_scenario}
-use Rattle.explore.specs.Orders.{will_ask, past, behind}
-use Rattle.explore.specs.Listing.{askers, most_in_round}
+use Rattle.explore.specs.Orders.{will_ask, past, behind, IsRoundFrom}
+use Rattle.explore.specs.Listing.{Has, AreShort, askers, most_in_round}
+use Rattle.explore.specs.Walks.{IsWalk}
 use Rattle.explore.specs.Ahead.{IsRunOn}
-use Rattle.explore.specs.Layers.{State, kept, AsKept, IsStateOf, AreStatesOf, IsFreshOf, AreFreshOf, IsEntered, IsPastOf, IsAsked, IsCommon, IsSteady, weighed, weighed_both, stepped, over_round, over_rounds, or_sum, IsExpanded, IsStep, IsRoundOn, AreLayers, reached}
+use Rattle.explore.specs.Layers.{State, kept, AsKept, IsStateOf, AreStatesOf, IsFreshOf, AreFreshOf, IsEntered, IsPastOf, IsAsked, IsCommon, IsSteady, weighed, weighed_both, stepped, over_round, over_rounds, or_sum, IsExpanded, IsStep, IsRoundOn, AreLayers, AreRounds, StandsFor, StandsOn, AreMade, beginning_of, behind_all, reached}
 use Rattle.explore.proofs.Branching.{last_step, next_step, round_common, rounds_common}
+use Rattle.explore.proofs.Having.{has-append_of}
+use Rattle.explore.proofs.Leading.{round_walks}
+use Rattle.explore.proofs.Lesser.{beginning_total, least_self}
+use Rattle.explore.proofs.Listed.{passes_of, to_asker}
+use Rattle.explore.proofs.Onward.{nothing, rounds_front, rounds_last, short_front, short_last, step_closes, step_goes}
 use Rattle.explore.proofs.Reaching.{past_state, closed_state, ends_alike, scenario_is, few_parts, reached_behind, runs_reached, way_reached, way_scenario, way_time, askers_below, asks_more, asks_no_more, all_askers, or_some}
 use Rattle.explore.proofs.Steady.{round_steady, zero_steady, runs_asks, runs_past, runs_scenario, runs_time}
+use Rattle.explore.proofs.Standing.{ending, entered_made, entered_stands, stands_own, walk_front, walk_last}
 use Rattle.explore.proofs.Stepping.{idle_asks}
 use Rattle.explore.proofs.Weighing.{as_more, entered_weighs, entered_states, entered_fresh}
 
@@ -36,6 +44,9 @@ pub record IsSpread (s : Scenario) (t : State) (n : ℕ) (old new : List State) 
   pub states : (k : ℕ) → IsStateOf s k t → AreStatesOf s k old → AreStatesOf s k new
   pub weight : (k : ℕ) (f : World → ℕ) → IsStateOf s k t → AreStatesOf s k old → IsCommon f → IsSteady f →
       AsKept (weighed f new) (weighed f old + t.ways * sum_by (λ g. f (past oral_kind t.world g)) (askers_below t.world n))
+  pub made : (m : ℕ) → length t.names ≡ m → AreMade (suc m) old → AreMade (suc m) new
+  pub stands : (k : ℕ) → IsStateOf s k t → AreStatesOf s k old → StandsOn s old new
+  pub goes_on : (k : ℕ) → IsStateOf s k t → AreStatesOf s k old → (g : ℕ) → g < n → will_ask (slice_get t.world.parts g) ≡ true → StandsFor s new t.rows (t.names ++ g ∷ [])
   pub none : asked ≡ false → (new ≡ old) × (askers_below t.world n ≡ [])
   pub some : asked ≡ true → askers_below t.world n ≡ [] → ⊥
 
@@ -43,6 +54,9 @@ pub spread_begins : (s : Scenario) (t : State) (old : List State) → IsSpread s
 spread_begins s t old = record {
   states = λ k is all. all;
   weight = λ k f is all common steady. (let e : weighed f old ≡ weighed f old + t.ways * 0 = omega arith in ap kept e);
+  made = λ m e all. all;
+  stands = λ k is all rows names z. z;
+  goes_on = λ k is all g lt asks. absurd (omega arith);
   none = λ e. (refl, refl);
   some = λ e. absurd (let c : false ≡ true = e in cc);
 }
@@ -57,6 +71,12 @@ spread_none s t n old new asked h idle =
     record {
       states = h.states;
       weight = λ k f is all common steady. h.weight k f is all common steady ∙ ap (λ (l : List ℕ). kept (weighed f old + t.ways * sum_by (λ g. f (past oral_kind t.world g)) l)) (sym e);
+      made = h.made;
+      stands = h.stands;
+      goes_on = λ k is all g lt asks. ⊎_elim
+          (λ (l : g < n). h.goes_on k is all g l asks)
+          (λ (l : n ≤ g). absurd (let same : g ≡ n = omega arith in let f : true ≡ false = sym asks ∙ (ap (λ (x : ℕ). will_ask (slice_get t.world.parts x)) same ∙ idle) in cc))
+          (cases_lt g n);
       none = λ a. ((h.none a).0, e ∙ (h.none a).1);
       some = λ a b. h.some a (sym e ∙ b);
     }
@@ -105,6 +125,18 @@ module _ (s : Scenario) (t : State) (w : World) (base : IsBase s t w) where
             let times : t.ways * sum_by g (askers_below t.world (n + 1)) ≡ t.ways * sum_by g (askers_below t.world n) + t.ways * g n = ap (λ (x : ℕ). t.ways * x) sum ∙ mul-add t.ways (sum_by g (askers_below t.world n)) (g n) in
             let last : weighed f old + t.ways * sum_by g (askers_below t.world n) + t.ways * g n ≡ weighed f old + t.ways * sum_by g (askers_below t.world (n + 1)) = omega arith in
             one ∙ (ap (λ (x : ℕ). kept (weighed f mid + x)) here ∙ (before ∙ ap kept last));
+        made = λ m count all. entered_made (suc m) mid next new entered (h.made m count all) (ap length past_is.1.names ∙ (let l = length-append t.names (n ∷ []) in omega arith));
+        stands = λ k is all rows names z. entered_stands s k mid next new entered (h.states k is all) (past_state s k t is base.good w base.from n next past_is) rows names (h.stands k is all rows names z);
+        goes_on = λ k is all g lt asks.
+            let one = past_state s k t is base.good w base.from n next past_is in
+            ⊎_elim
+            (λ (l : g < n). entered_stands s k mid next new entered (h.states k is all) one t.rows (t.names ++ g ∷ []) (h.goes_on k is all g l asks))
+            (λ (l : n ≤ g).
+            let same : n ≡ g = omega arith in
+            let own = stands_own s k mid next new entered (h.states k is all) one base.good in
+            subst (λ (x : ℕ). StandsFor s new t.rows (t.names ++ x ∷ [])) same
+            (subst (λ (r : List (List ℕ)). StandsFor s new r (t.names ++ n ∷ [])) past_is.1.rows (subst (λ (l : List ℕ). StandsFor s new next.rows l) past_is.1.names own)))
+            (cases_lt g n);
         none = λ a. absurd (let c : true ≡ false = a in cc);
         some = λ a b. end_not_empty (askers_below t.world n) n (sym e ∙ b);
       }
@@ -151,13 +183,20 @@ pub shut_is : (o : World) (t u shut : State) → u ≡ t
     → shut ≡ record { world = behind oral_kind (reached o t.rows t.names) []; ways = t.ways; rows = t.rows ++ t.names ∷ []; names = [] }
 shut_is o t u shut same is = is ∙ (λ i. record { world = behind oral_kind (reached o (same i).rows (same i).names) []; ways = (same i).ways; rows = (same i).rows ++ (same i).names ∷ []; names = [] })
 
+-- who is to make an access is one of the generals
+asks_within : (s : Scenario) (k : ℕ) (t : State) → IsScenario s → IsStateOf s k t → (g : ℕ) → will_ask (slice_get t.world.parts g) ≡ true → g < s.generals
+asks_within s k t good is g asks =
+    let few = few_parts s k t is good in
+    let lt = (passes_of (λ (h : ℕ). will_ask (slice_get t.world.parts h)) 0 (length t.world.parts) g (to_asker t.world g asks)).below in
+    omega arith
+
 module _ (s : Scenario) (t : State) (next done new : List State) where
   -- somebody had an access left
-  pub expanded_on : IsSpread s t s.generals next new true → IsExpanded s t next done new done
-  expanded_on h = record {
+  pub expanded_on : IsScenario s → IsSpread s t s.generals next new true → IsExpanded s t next done new done
+  expanded_on good h = record {
     states = h.states;
     fresh = λ k is all. all;
-    weight = λ k f h' good is all fresh common steady common'.
+    weight = λ k f h' good' is all fresh common steady common'.
         let whole : askers_below t.world s.generals ≡ askers t.world = all_askers t.world s.generals (few_parts s k t is good) in
         let g : ℕ → ℕ = λ x. f (past oral_kind t.world x) in
         let some : askers t.world ≡ [] → ⊥ = λ e. h.some refl (whole ∙ e) in
@@ -166,6 +205,11 @@ module _ (s : Scenario) (t : State) (next done new : List State) where
         let times : t.ways * stepped f h' t.world ≡ t.ways * sum_by g (askers_below t.world s.generals) = ap (λ (x : ℕ). t.ways * x) sum in
         let last : weighed f next + t.ways * sum_by g (askers_below t.world s.generals) + weighed h' done ≡ weighed_both f h' next done + t.ways * stepped f h' t.world = omega arith in
         one ∙ ap kept last;
+    made = h.made;
+    stands = h.stands;
+    stands_done = λ k is all rows names z. z;
+    goes_on = λ k is all g asks. h.goes_on k is all g (asks_within s k t good is g asks) asks;
+    closes = λ k is all none. absurd (h.some refl (all_askers t.world s.generals (few_parts s k t is good) ∙ none));
   }
 
   -- nobody had
@@ -191,11 +235,16 @@ module _ (s : Scenario) (t : State) (next done new : List State) where
             let left : weighed_both f h' new done_new ≡ weighed h' done_new + weighed f new = omega arith in
             let right : weighed h' done + t.ways * h' (behind oral_kind way []) + weighed f new ≡ weighed_both f h' next done + t.ways * stepped f h' t.world = omega arith in
             ap kept left ∙ (two ∙ ap kept right);
+        made = h.made;
+        stands = h.stands;
+        stands_done = λ k is all rows names z. entered_stands s (suc k) done made done_new of_made (fresh_states s (suc k) done all) (closed_state s k t is good (nobody k is)).state rows names z;
+        goes_on = λ k is all g asks. h.goes_on k is all g (asks_within s k t good is g asks) asks;
+        closes = λ k is all none. stands_own s (suc k) done made done_new of_made (fresh_states s (suc k) done all) (closed_state s k t is good (nobody k is)).state good;
       }
 
-pub expanded_if : (s : Scenario) (t : State) (n : ℕ) (next done new : List State) (asked : Bool) → n ≡ s.generals → asked ≡ true → IsSpread s t n next new asked → IsExpanded s t next done new done
-expanded_if s t n next done new asked all so h =
-    expanded_on s t next done new (subst (λ (m : ℕ). IsSpread s t m next new true) all (subst (λ (b : Bool). IsSpread s t n next new b) so h))
+pub expanded_if : (s : Scenario) (t : State) (n : ℕ) (next done new : List State) (asked : Bool) → n ≡ s.generals → asked ≡ true → IsSpread s t n next new asked → IsScenario s → IsExpanded s t next done new done
+expanded_if s t n next done new asked all so h good =
+    expanded_on s t next done new good (subst (λ (m : ℕ). IsSpread s t m next new true) all (subst (λ (b : Bool). IsSpread s t n next new b) so h))
 
 pub expanded_else : (s : Scenario) (t : State) (n : ℕ) (next done new : List State) (asked : Bool) (shut : State) (done_new : List State) → n ≡ s.generals → asked ≡ false → IsSpread s t n next new asked →
     shut ≡ record { world = behind oral_kind (reached (opening oral_kind s) t.rows t.names) []; ways = t.ways; rows = t.rows ++ t.names ∷ []; names = [] } → IsEntered done shut done_new → IsScenario s → IsExpanded s t next done new done_new
@@ -223,6 +272,26 @@ step_more s seen next mid done done_mid done_new t h x = record {
       let d : weighed (stepped f g) (seen ++ t ∷ []) ≡ weighed (stepped f g) seen + t.ways * stepped f g t.world = sum_by_push w seen t in
       let e : weighed g done + weighed (stepped f g) seen + t.ways * stepped f g t.world ≡ weighed g done + weighed (stepped f g) (seen ++ t ∷ []) = omega arith in
       b ∙ (c ∙ ap kept e);
+  made = λ n all. (let both = split_end (λ (u : State). length u.names ≡ n) seen t all in x.made n both.1 (h.made n both.0));
+  stands_done = λ k all fresh rows names z. (let both = split_end (IsStateOf s k) seen t all in x.stands_done k both.1 (h.fresh k both.0 fresh) rows names (h.stands_done k both.0 fresh rows names z));
+  goes_on = λ k all u here g asks.
+      let both = split_end (IsStateOf s k) seen t all in
+      ⊎_elim
+      (λ (m : Has seen u). x.stands k both.1 (h.states k both.0) u.rows (u.names ++ g ∷ []) (h.goes_on k both.0 u m g asks))
+      (λ (m : Has (t ∷ []) u). ⊎_elim
+      (λ (e : t ≡ u).
+      let A : State → Type 0 = λ v. will_ask (slice_get v.world.parts g) ≡ true in
+      subst (λ (v : State). StandsFor s next v.rows (v.names ++ g ∷ [])) e (x.goes_on k both.1 (h.states k both.0) g (subst A (sym e) asks)))
+      (λ f. absurd f) m)
+      (has-append_of seen (t ∷ []) u here);
+  closes = λ k all fresh u here none.
+      let both = split_end (IsStateOf s k) seen t all in
+      ⊎_elim
+      (λ (m : Has seen u). x.stands_done k both.1 (h.fresh k both.0 fresh) (u.rows ++ u.names ∷ []) [] (h.closes k both.0 fresh u m none))
+      (λ (m : Has (t ∷ []) u). ⊎_elim
+      (λ (e : t ≡ u). subst (λ (v : State). StandsFor s done_new (v.rows ++ v.names ∷ []) []) e (x.closes k both.1 (h.fresh k both.0 fresh) (ap (λ (v : State). askers v.world) e ∙ none)))
+      (λ f. absurd f) m)
+      (has-append_of seen (t ∷ []) u here);
 }
 
 -- a list that was turned round in its place
@@ -251,6 +320,10 @@ stepping_begins s layer left next done none is = record {
     states = λ k all. subst (λ (l : List State). AreStatesOf s k l) (sym none) (All-nil (IsStateOf s k));
     fresh = λ k all fresh. fresh;
     weight = λ k f h good all fresh common steady common'. (let e : weighed f next ≡ 0 = ap (weighed f) none in let g : weighed_both f h next done ≡ weighed h done + 0 = omega arith in ap kept g);
+    made = λ n all. subst (λ (l : List State). AreMade (suc n) l) (sym none) (All-nil (λ (u : State). length u.names ≡ suc n));
+    stands_done = λ k all fresh rows names z. z;
+    goes_on = λ k all u here g asks. absurd here;
+    closes = λ k all fresh u here none. absurd here;
   };
   all = ap reverse is ∙ reverse-reverse layer;
 }
@@ -296,6 +369,11 @@ pub record IsUnderWay (s : Scenario) (most made : ℕ) (first layer done : List 
   pub fresh : (k : ℕ) → AreStatesOf s k first → AreFreshOf s (suc k) done
   pub weight : (k : ℕ) (h : World → ℕ) → AreStatesOf s k first → IsCommon h →
       AsKept (weighed h done + weighed (over_round (most - made) h) layer) (weighed (over_round most h) first)
+  pub made_so : (k : ℕ) → AreFreshOf s k first → AreMade made layer
+  pub stands : (k : ℕ) → IsScenario s → AreFreshOf s k first → (rows : List (List ℕ)) → length rows ≡ k → StandsFor s first rows [] →
+      (names : List ℕ) → length names ≡ made → IsWalk oral_kind (behind_all (opening oral_kind s) rows) names → StandsFor s layer rows names
+  pub closed : (k : ℕ) → IsScenario s → AreFreshOf s k first → (rows : List (List ℕ)) → length rows ≡ k → StandsFor s first rows [] →
+      (names : List ℕ) → length names < made → IsRoundFrom oral_kind (behind_all (opening oral_kind s) rows) names → StandsFor s done (rows ++ names ∷ []) []
 
 pub way_begins : (s : Scenario) (most : ℕ) (first done : List State) → done ≡ [] → IsUnderWay s most 0 first first done
 way_begins s most first done none = record {
@@ -307,10 +385,29 @@ way_begins s most first done none = record {
       let f : weighed (over_round (most - 0) h) first ≡ weighed (over_round most h) first = ap (λ (n : ℕ). weighed (over_round n h) first) m in
       let g : weighed h done + weighed (over_round (most - 0) h) first ≡ weighed (over_round most h) first = omega arith in
       ap kept g;
+  made_so = λ k all. All-weaker (IsFreshOf s k) (λ (u : State). length u.names ≡ 0) (λ u h. ap length h.fresh) first all;
+  stands = λ k good all rows count z names long walk. subst (λ (l : List ℕ). StandsFor s first rows l) (sym (nothing names long)) z;
+  closed = λ k good all rows count z names lt round. absurd (omega arith);
 }
 
 weighed_each : (f g : World → ℕ) → ((w : World) → f w ≡ g w) → (states : List State) → weighed f states ≡ weighed g states
 weighed_each f g h states = λ i. sum_by (λ (t : State). t.ways * h t.world i) states
+
+-- a round of no more accesses than were made is closed
+closes_more : (s : Scenario) (most made : ℕ) (first layer done next done_new : List State) → IsUnderWay s most made first layer done → IsStep s layer next done done_new
+    → (k : ℕ) → IsScenario s → AreFreshOf s k first → (rows : List (List ℕ)) → length rows ≡ k → StandsFor s first rows []
+    → (names : List ℕ) → length names ≤ made → IsRoundFrom oral_kind (behind_all (opening oral_kind s) rows) names → StandsFor s done_new (rows ++ names ∷ []) []
+closes_more s most made first layer done next done_new h x k good all rows count z names le round =
+    let old = fresh_states s k first all in
+    let states = h.states k old in
+    let fresh = h.fresh k old in
+    ⊎_elim
+    (λ (l : length names < made). x.stands_done k states fresh (rows ++ names ∷ []) [] (h.closed k good all rows count z names l round))
+    (λ (l : made ≤ length names).
+    let long : length names ≡ made = omega arith in
+    let here = h.stands k good all rows count z names long (round_walks oral_kind names (behind_all (opening oral_kind s) rows) round) in
+    step_closes s good k layer next done done_new states x rows names (subst (λ (m : ℕ). AreMade m layer) (sym long) (h.made_so k all)) here count fresh round)
+    (cases_lt (length names) made)
 
 pub way_goes_on : (s : Scenario) (most made : ℕ) (first layer done next done_new : List State) → IsScenario s → made < most → IsUnderWay s most made first layer done → IsStep s layer next done done_new → IsUnderWay s most (made + 1) first next done_new
 way_goes_on s most made first layer done next done_new good lt h x = record {
@@ -324,6 +421,15 @@ way_goes_on s most made first layer done next done_new good lt h x = record {
       weighed_each (stepped (over_round r f) f) (over_round (suc r) f) (λ w. sym (next_step r f w)) layer ∙ ap (λ (n : ℕ). weighed (over_round n f) layer) (sym e) in
       let c : weighed f done_new + weighed (over_round r f) next ≡ weighed_both (over_round r f) f next done_new = omega arith in
       ap kept c ∙ (a ∙ (ap (λ (n : ℕ). kept (weighed f done + n)) b ∙ h.weight k f all common));
+  made_so = λ k all. (let e : suc made ≡ made + 1 = omega arith in subst (λ (n : ℕ). AreMade n next) e (x.made made (h.made_so k all)));
+  stands = λ k good' all rows count z names long walk.
+      let r = ending names made (let e : made + 1 ≡ suc made = omega arith in long ∙ e) in
+      let w = behind_all (opening oral_kind s) rows in
+      let whole = subst (λ (l : List ℕ). IsWalk oral_kind w l) r.whole walk in
+      let here = h.stands k good' all rows count z r.front r.count (walk_front w r.front r.last whole) in
+      subst (λ (l : List ℕ). StandsFor s next rows l) (sym r.whole)
+      (step_goes s good k layer next done done_new (h.states k (fresh_states s k first all)) x rows r.front (subst (λ (m : ℕ). AreMade m layer) (sym r.count) (h.made_so k all)) here r.last (walk_last w r.front r.last whole));
+  closed = λ k good' all rows count z names lt round. closes_more s most made first layer done next done_new h x k good all rows count z names (omega arith) round;
 }
 
 no_weight : (states : List State) → weighed (λ v. 0) states ≡ 0
@@ -341,12 +447,14 @@ way_ends s most made first layer done next done_new le ge h x = record {
       weighed_each (stepped (λ v. 0) f) (over_round 0 f) (λ w. sym (last_step f w)) layer ∙ ap (λ (n : ℕ). weighed (over_round n f) layer) (sym e) in
       let c : weighed f done_new ≡ weighed_both (λ v. 0) f next done_new = omega arith in
       ap kept c ∙ (a ∙ (ap (λ (n : ℕ). kept (weighed f done + n)) b ∙ h.weight k f all common));
+  stands = λ k good all rows count z row round few. closes_more s most made first layer done next done_new h x k good all rows count z row (omega arith) round;
 }
 
 -- so many rounds are over
 pub record IsOnRounds (s : Scenario) (rounds made : ℕ) (states : List State) : Type 0 where
   pub fresh : AreFreshOf s made states
   pub weight : (h : World → ℕ) → IsCommon h → AsKept (weighed (over_rounds (most_in_round s) (rounds - made) h) states) (over_rounds (most_in_round s) rounds h (opening oral_kind s))
+  pub stands : (rows : List (List ℕ)) → AreRounds (opening oral_kind s) rows → AreShort (most_in_round s) rows → length rows ≡ made → StandsFor s states rows []
 
 pub rounds_begin : (s : Scenario) (rounds : ℕ) (first : State) (states empty : List State) → first ≡ record { world = opening oral_kind s; ways = 1; rows = []; names = [] } → empty ≡ [] → states ≡ empty ++ first ∷ [] → IsOnRounds s rounds 0 states
 rounds_begin s rounds first states empty first_is none states_are =
@@ -362,6 +470,9 @@ rounds_begin s rounds first states empty first_is none states_are =
           let b : weighed f (t ∷ []) ≡ 1 * f (opening oral_kind s) = (let c = sum_by-cons (λ (u : State). u.ways * f u.world) t [] in let z : weighed f [] ≡ 0 = refl in omega arith) in
           let d : weighed f states ≡ f (opening oral_kind s) = omega (arith, one-mul (f (opening oral_kind s))) in
           ap kept (d ∙ ap (λ (m : ℕ). over_rounds (most_in_round s) m h (opening oral_kind s)) n);
+      stands = λ rows whole short count.
+          let own : StandsFor s (t ∷ []) [] [] = record { t = t; has = inl refl; least = least_self beginning_total (beginning_of t); same = λ f common steady. refl } in
+          subst (λ (l : List State). StandsFor s l rows []) (sym e) (subst (λ (r : List (List ℕ)). StandsFor s (t ∷ []) r []) (sym (nothing rows count)) own);
     }
 
 pub rounds_go_on : (s : Scenario) (rounds made most : ℕ) (states new : List State) → IsScenario s → most ≡ most_in_round s → made < rounds → IsOnRounds s rounds made states → IsRoundOn s most states new → IsOnRounds s rounds (made + 1) new
@@ -376,6 +487,15 @@ rounds_go_on s rounds made most states new good most_is lt h x =
           let y : IsRoundOn s m states new = subst (λ (n : ℕ). IsRoundOn s n states new) most_is x in
           let a = y.weight made (over_rounds m r f) good (fresh_states s made states h.fresh) (rounds_common m r f common) in
           a ∙ (ap (λ (n : ℕ). kept (weighed (over_rounds m n f) states)) (sym e) ∙ h.weight f common);
+      stands = λ rows whole short count.
+          let o = opening oral_kind s in
+          let r = ending rows made (count ∙ sym one) in
+          let rounds' = subst (λ (l : List (List ℕ)). AreRounds o l) r.whole whole in
+          let short' = subst (λ (l : List (List ℕ)). AreShort (most_in_round s) l) r.whole short in
+          let here = h.stands r.front (rounds_front o r.front r.last rounds') (short_front (most_in_round s) r.front r.last short') r.count in
+          let few : length r.last ≤ most = (let l = short_last (most_in_round s) r.front r.last short' in omega arith) in
+          subst (λ (l : List (List ℕ)). StandsFor s new l []) (sym r.whole)
+          (x.stands made good h.fresh r.front r.count here r.last (rounds_last o r.front r.last rounds') few);
     }
 
 pub rounds_end : (s : Scenario) (rounds made : ℕ) (states : List State) → rounds ≡ suc s.bound → rounds ≤ made → made ≤ rounds → IsOnRounds s rounds made states → AreLayers s (suc s.bound) states
@@ -386,4 +506,5 @@ rounds_end s rounds made states count le ge h =
     record {
       fresh = subst (λ (k : ℕ). AreFreshOf s k states) e h.fresh;
       weight = λ f common. ap (λ (k : ℕ). kept (weighed (over_rounds m k f) states)) (sym n) ∙ (h.weight f common ∙ ap (λ (k : ℕ). kept (over_rounds m k f (opening oral_kind s))) count);
+      stands = λ rows whole short long. h.stands rows whole short (long ∙ sym e);
     }

@@ -35,14 +35,14 @@ module _ (K : Kind) where
   ticks_stay zero w g h ne = refl
   ticks_stay (suc n) w g h ne = ticks_stay n (happen K w (Tick g)) g h ne ∙ ticked_stays w g h (slice_get w.parts g) ne
 
-  past_stays : (w : World) (g h : ℕ) (o : Option Part) → h ≢ g → slice_get (run K w (ticks_named g o)).parts h ≡ slice_get w.parts h
+  pub past_stays : (w : World) (g h : ℕ) (o : Option Part) → h ≢ g → slice_get (run K w (ticks_named g o)).parts h ≡ slice_get w.parts h
   past_stays w g h None ne = refl
   past_stays w g h (Some (Acting a)) ne = ticks_stay (until_access (length a.program) a) w g h ne
   past_stays w g h (Some Silent) ne = refl
   past_stays w g h (Some Posted) ne = refl
 
   -- who is to ask comes in the round, and who comes is to ask
-  asker_comes : (names : List ℕ) (w : World) → IsRoundFrom K w names → (h : ℕ) → will_ask (slice_get w.parts h) ≡ true → Has names h
+  pub asker_comes : (names : List ℕ) (w : World) → IsRoundFrom K w names → (h : ℕ) → will_ask (slice_get w.parts h) ≡ true → Has names h
   asker_comes [] w r h y = absurd (let f : false ≡ true = sym (r h) ∙ y in cc)
   asker_comes (g ∷ names) w r h y = ⊎_elim
       (λ (q : (h == g ≡ true) × (h ≡ g)). inl (sym q.1))
@@ -58,7 +58,7 @@ module _ (K : Kind) where
       ap will_ask (sym (past_stays w g h (slice_get w.parts g) q.1)) ∙ comer_asks names (past K w g) r.1 h m)
       (eqb_tells h g)
 
-  nobody_asks : (w : World) → IsRoundFrom K w [] → askers w ≡ []
+  pub nobody_asks : (w : World) → IsRoundFrom K w [] → askers w ≡ []
   nobody_asks w r = by (askers w) refl
     where
       by : (gs : List ℕ) → askers w ≡ gs → gs ≡ []

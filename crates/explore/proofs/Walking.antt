@@ -120,7 +120,7 @@ module _ (K : Kind) where
         )
 
   -- so it is for an accounted round
-  round_walk : (s : Scenario) (closed : List (List Letter)) (words : List ℕ) (ledger piece : List Access) (letters : List Letter) → IsOnTime K s (begun K s closed words ledger true)
+  pub round_walk : (s : Scenario) (closed : List (List Letter)) (words : List ℕ) (ledger piece : List Access) (letters : List Letter) → IsOnTime K s (begun K s closed words ledger true)
       → length closed < suc s.bound → IsLegal words piece → IsAccountedRound K s closed piece letters → IsRoundFrom K (begun K s closed words ledger true) (map (λ a. a.general) piece)
   round_walk s closed words ledger piece letters d less legal round =
       let w = begun K s closed words ledger true in

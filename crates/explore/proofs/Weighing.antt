@@ -1,14 +1,16 @@
 -- Sums over states, as far as they are kept.
-use Rattle.std.proofs.Common.{◌≡◌, ℕ, zero, suc, ◌+◌, ◌*◌, ◌<◌, ◌≤◌, min, List, set, get_or, sym, ap, subst, ◌∙◌, inl, inr, ⊎_elim, arith, All}
+use Rattle.std.proofs.Common.{[], ◌≡◌, ℕ, zero, suc, ◌+◌, ◌*◌, ◌<◌, ◌≤◌, min, List, set, get_or, sym, ap, subst, ◌∙◌, inl, inr, ⊎_elim, arith, All}
 use Rattle.std.specs.Prelude.{nat_lt, true, false, ◌-◌, ◌^◌}
 use Rattle.std.proofs.Math.Nat.{add-mul, mul-suc, mul-zero}
 use Rattle.std.proofs.lemmas.Bool.{ltb-true, ltb-false, cases_Bool}
 use Rattle.std.proofs.lemmas.List.Sums.{sum_by_push, sum_by-set, get_or-le-sum_by}
 use Rattle.std.proofs.lemmas.List.Elements.{All-push, All-set}
 use Rattle.round.specs.Scenario.{Scenario}
-use Rattle.world.specs.Kind.{World}
+use Rattle.world.specs.Kind.{World, opening}
+use Rattle.world.specs.World.{oral_kind}
 use Rattle.explore.specs.Merging.{AreAlike}
-use Rattle.explore.specs.Layers.{State, kept, AsKept, IsStateOf, AreStatesOf, IsFreshOf, AreFreshOf, IsAlikeAt, IsJoined, IsEntered, IsCommon, weighed}
+use Rattle.explore.specs.Layers.{State, kept, AsKept, IsStateOf, AreStatesOf, IsFreshOf, AreFreshOf, IsAlikeAt, IsJoined, IsEntered, IsCommon, weighed, behind_all, joined}
+use Rattle.explore.proofs.Standing.{earlier_case, joined_world, joined_state}
 
 -- the same more on both sides
 pub as_more : (m a b c : ℕ) → min a m ≡ min b m → min (a + c) m ≡ min (b + c) m
@@ -45,12 +47,14 @@ joined_weighs : (f : World → ℕ) (states : List State) (t : State) (new : Lis
 joined_weighs f states t new common j same =
     let g : State → ℕ = λ u. u.ways * f u.world in
     let m = 2 ^ 64 - 1 in
-    let fresh : State = record j.was { ways = kept (j.was.ways + t.ways) } in
+    let fresh : State = joined j.was t in
     let one : f j.was.world ≡ f t.world = common j.was.world t.world (j.alike same) in
-    let total : weighed f new + g j.was ≡ weighed f states + g fresh =
-    (λ i. weighed f (j.joined i) + g (j.there i)) ∙ sum_by-set g states j.place fresh j.was j.inside in
+    let both : ℕ = kept (j.was.ways + t.ways) * f j.was.world in
+    let total : weighed f new + g j.was ≡ weighed f states + both =
+    (λ i. weighed f (j.made i) + g (j.there i))
+    ∙ (sum_by-set g states j.place fresh j.was j.inside ∙ ap (λ (x : ℕ). weighed f states + kept (j.was.ways + t.ways) * x) (joined_world f j.was t one)) in
     let within : g j.was ≤ weighed f states = subst (λ (n : ℕ). n ≤ weighed f states) (ap g (sym j.there)) (get_or-le-sum_by g states j.place j.was j.inside) in
-    swapped m (weighed f new) (weighed f states) (g fresh) (g j.was) (t.ways * f t.world) total
+    swapped m (weighed f new) (weighed f states) both (g j.was) (t.ways * f t.world) total
     (λ r. kept_times m (j.was.ways + t.ways) (f j.was.world) r
     ∙ ap (λ (x : ℕ). min (r + x) m) (add-mul j.was.ways t.ways (f j.was.world) ∙ ap (λ (x : ℕ). j.was.ways * f j.was.world + t.ways * x) one))
     within
@@ -65,26 +69,31 @@ entered_weighs f states t new s common (inr e) all same =
     ap (λ (l : List State). kept (weighed f l)) e ∙ ap kept (sum_by_push (λ (u : State). u.ways * f u.world) states t)
 
 -- as code joins it
-pub joins : (states : List State) (t : State) (place : ℕ) (was fresh : State) (new : List State) → IsAlikeAt states t place → was ≡ get_or states place was → fresh ≡ record was { ways = kept (was.ways + t.ways) } → new ≡ set states place fresh → IsEntered states t new
+pub joins : (states : List State) (t : State) (place : ℕ) (was fresh : State) (new : List State) → IsAlikeAt states t place → was ≡ get_or states place was → fresh ≡ joined was t → new ≡ set states place fresh → IsEntered states t new
 joins states t place was fresh new (lt, alike) at made is =
     let A : State → Type 0 = λ u. u.world.scenario ≡ t.world.scenario → AreAlike u.world t.world in
-    inl (record { place = place; was = was; inside = lt; there = at; alike = subst A (sym at) (alike was); joined = is ∙ ap (λ (u : State). set states place u) made })
+    inl (record { place = place; was = was; inside = lt; there = at; alike = subst A (sym at) (alike was); made = is ∙ ap (λ (u : State). set states place u) made })
 
 -- one more of a kind
+joined_fresh : (s : Scenario) (k : ℕ) (t u : State) → IsFreshOf s k t → IsFreshOf s k u → IsFreshOf s k (joined t u)
+joined_fresh s k t u a b =
+    let st = joined_state s k t u a.state b.state in
+    record {
+      state = st;
+      fresh = earlier_case (λ v. v.names ≡ []) t u (λ e. b.fresh) (λ e. a.fresh);
+      begins = earlier_case (λ v. v.world ≡ behind_all (opening oral_kind s) v.rows) t u (λ e. b.begins) (λ e. a.begins);
+    }
+
 pub entered_states : (s : Scenario) (k : ℕ) (states : List State) (t : State) (new : List State) → IsEntered states t new → AreStatesOf s k states → IsStateOf s k t → AreStatesOf s k new
 entered_states s k states t new (inl j) all one =
     let A : State → Type 0 = λ u. IsStateOf s k u in
     let was : IsStateOf s k j.was = subst A (sym j.there) (all j.place j.was j.inside) in
-    let fresh : State = record j.was { ways = kept (j.was.ways + t.ways) } in
-    let is : IsStateOf s k fresh = record { rounds = was.rounds; count = was.count; walk = was.walk; world = was.world } in
-    subst (λ (l : List State). AreStatesOf s k l) (sym j.joined) (All-set A states j.place fresh is all)
+    subst (λ (l : List State). AreStatesOf s k l) (sym j.made) (All-set A states j.place (joined j.was t) (joined_state s k j.was t was one) all)
 entered_states s k states t new (inr e) all one = subst (λ (l : List State). AreStatesOf s k l) (sym e) (All-push (IsStateOf s k) states t all one)
 
 pub entered_fresh : (s : Scenario) (k : ℕ) (states : List State) (t : State) (new : List State) → IsEntered states t new → AreFreshOf s k states → IsFreshOf s k t → AreFreshOf s k new
 entered_fresh s k states t new (inl j) all one =
     let A : State → Type 0 = λ u. IsFreshOf s k u in
     let was : IsFreshOf s k j.was = subst A (sym j.there) (all j.place j.was j.inside) in
-    let fresh : State = record j.was { ways = kept (j.was.ways + t.ways) } in
-    let is : IsStateOf s k fresh = record { rounds = was.state.rounds; count = was.state.count; walk = was.state.walk; world = was.state.world } in
-    subst (λ (l : List State). AreFreshOf s k l) (sym j.joined) (All-set A states j.place fresh (record { state = is; fresh = was.fresh; begins = was.begins }) all)
+    subst (λ (l : List State). AreFreshOf s k l) (sym j.made) (All-set A states j.place (joined j.was t) (joined_fresh s k j.was t was one) all)
 entered_fresh s k states t new (inr e) all one = subst (λ (l : List State). AreFreshOf s k l) (sym e) (All-push (IsFreshOf s k) states t all one)

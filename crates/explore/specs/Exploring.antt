@@ -85,12 +85,11 @@ pub record Exploration : Type 0 where
   pub findings : List Finding
   pub reach : Reach
 
--- of all orders, counted or too many for that, or of so many where there are more; where there is a limit, each example
--- is the least order that leads there
+-- of all orders, counted or too many for that, or of so many where there are more; each example is the least order that
+-- leads there
 pub record IsExploration (K : Kind) (D : Outcome) (s : Scenario) (most : ℕ) (e : Exploration) : Type 0 where
   pub few : e.reach ≢ Beyond → counted_in e.findings ≤ most
   pub all : e.reach ≡ Whole → IsExplored K D s e.findings
   pub beyond : e.reach ≡ Beyond → IsExploredBeyond K D s e.findings
   pub part : e.reach ≡ InPart → IsExploredInPart K D s most e.findings
-  pub least : most < 2 ^ 64 - 1 →
-      All (λ (f : Finding). first_to K D s (orders K s) f.decisions ≡ Some f.example) e.findings
+  pub least : All (λ (f : Finding). first_to K D s (orders K s) f.decisions ≡ Some f.example) e.findings

@@ -1,18 +1,23 @@
 -- The findings of the states in which a campaign can end (own).
-use Rattle.std.specs.Prelude.{ℕ, ◌≡◌, ◌<◌, ◌+◌, ◌*◌, ◌^◌, ◌++◌, List, [], ◌∷◌, All, length, sum_by, slice_index_or, slice_set, ◌⊎◌}
+use Rattle.std.specs.Prelude.{ℕ, ◌≡◌, ◌<◌, ◌+◌, ◌*◌, ◌^◌, ◌++◌, false, List, [], ◌∷◌, All, length, sum_by, slice_index_or, slice_set, ◌⊎◌}
+use Rattle.std.specs.Ordering.{is_gt}
 use Rattle.explore.specs.Exploring.{Finding, outcomes_of}
 use Rattle.explore.specs.Layers.{State, AsKept, kept, weighed}
-use Rattle.explore.specs.Listing.{AreDifferent}
+use Rattle.explore.specs.Least.{lesser, order_cmp}
+use Rattle.explore.specs.Listing.{AreDifferent, Has}
 use Rattle.explore.specs.Outcomes.{oral_outcome}
 use Rattle.explore.specs.Places.{IsPlaceOf, IsNowhere}
 
--- so many ways more to decisions that were found
+-- so many ways more to decisions that were found, and the lesser order is the example
 pub record IsCountedOn (findings : List Finding) (t : State) (new : List Finding) : Type 0 where
   pub place : ℕ
   pub was : Finding
   pub here : IsPlaceOf findings (oral_outcome t.world) place
   pub there : was ≡ slice_index_or findings place was
-  pub counted : new ≡ slice_set findings place (record was { count = kept (was.count + t.ways) })
+  pub counted : new ≡ slice_set findings place (record was {
+    count = kept (was.count + t.ways);
+    example = lesser was.example t.rows;
+  })
 
 -- or the first to such decisions
 pub record IsFirstOf (findings : List Finding) (t : State) (new : List Finding) : Type 0 where
@@ -31,13 +36,22 @@ pub record IsOfState (states : List State) (f : Finding) : Type 0 where
   pub decisions : f.decisions ≡ oral_outcome t.world
   pub example : f.example ≡ t.rows
 
+-- its outcome is found, with an example that is no greater than its way
+pub record IsShown (findings : List Finding) (t : State) : Type 0 where
+  pub f : Finding
+  pub has : Has findings f
+  pub decisions : f.decisions ≡ oral_outcome t.world
+  pub least : is_gt (order_cmp f.example t.rows) ≡ false
+
 -- a number of decisions, summed over the counts
 abbrev pub tallied : (List ℕ → ℕ) → List Finding → ℕ
 tallied b findings = sum_by (λ (f : Finding). f.count * b f.decisions) findings
 
--- the states' outcomes: no two findings are of one, and the counts are the sums of the ways, as far as they are kept
+-- the states' outcomes: no two findings are of one, the counts are the sums of the ways, as far as they are kept, and
+-- the examples are the least of the ways
 pub record AreGathered (states : List State) (findings : List Finding) : Type 0 where
   pub of_states : All (IsOfState states) findings
   pub different : AreDifferent (outcomes_of findings)
   pub kept_counts : All (λ (f : Finding). f.count < 2 ^ 64) findings
+  pub shown : (t : State) → Has states t → IsShown findings t
   pub sums : (b : List ℕ → ℕ) → AsKept (tallied b findings) (weighed (λ w. b (oral_outcome w)) states)

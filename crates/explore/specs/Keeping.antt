@@ -1,5 +1,5 @@
 -- An exploration with a schedule for each outcome (own).
-use Rattle.std.specs.Prelude.{ℕ, ◌≡◌, List, All, map}
+use Rattle.std.specs.Prelude.{ℕ, ◌≡◌, ◌≤◌, List, All, length, map}
 use Rattle.round.specs.Scenario.{Scenario}
 use Rattle.world.specs.Kind.{Kind, opening}
 use Rattle.world.specs.Promises.{AgreeUnderBound}
@@ -13,11 +13,12 @@ use Rattle.explore.specs.Text.{exploration_text, schedule_text}
 abbrev pub example_text : Kind → Scenario → Finding → List ℕ
 example_text K s f = schedule_text (schedule_from K (opening K s) f.example)
 
--- the text is that of an exploration, and these are the schedules of its examples; where the bound holds, the loyal
--- agree in each outcome
+-- the text is that of an exploration, and these are the schedules of its examples, none of more bytes than a schedule
+-- may have; where the bound holds, the loyal agree in each outcome
 pub record IsKept (s : Scenario) (most : ℕ) (text : List ℕ) (schedules : List (List ℕ)) : Type 0 where
   pub exploration : Exploration
   pub explores : IsExploration oral_kind oral_outcome s most exploration
   pub told : text ≡ exploration_text oral_kind s exploration
   pub agree : All (λ (f : Finding). AgreeUnderBound s f.decisions) exploration.findings
   pub kept : schedules ≡ map (example_text oral_kind s) exploration.findings
+  pub short : All (λ (text : List ℕ). length text ≤ 1048576) schedules

@@ -1,5 +1,7 @@
 -- Beginnings of orders in layers: those that lead to alike worlds are one state (own).
-use Rattle.std.specs.Prelude.{ℕ, zero, suc, ◌≡◌, ◌<◌, ◌+◌, ◌*◌, ◌-◌, ◌^◌, ◌++◌, min, Bool, true, false, List, [], ◌∷◌, All, length, sum_by, slice_get, slice_index_or, slice_set, Option, None, Some, ◌⊎◌}
+use Rattle.std.specs.Prelude.{ℕ, zero, suc, ◌≡◌, ◌<◌, ◌≤◌, ◌+◌, ◌*◌, ◌-◌, ◌^◌, ◌++◌, min, cond, Bool, true, false, List, [], ◌∷◌, All, length, sum_by, slice_get, slice_index_or, slice_set, Option, None, Some, ◌⊎◌}
+use Rattle.std.specs.declared.cmp.Ordering.{Ordering}
+use Rattle.std.specs.Ordering.{is_lt, is_gt}
 use Rattle.round.specs.Scenario.{Scenario, IsScenario}
 use Rattle.world.specs.Kind.{World, opening, run}
 use Rattle.world.specs.KindHeld.{IsReached}
@@ -7,11 +9,12 @@ use Rattle.world.specs.KindLists.{names_events}
 use Rattle.world.specs.World.{oral_kind}
 use Rattle.explore.specs.Ahead.{IsRunOn}
 use Rattle.explore.specs.Orders.{will_ask, past, behind, IsRoundFrom}
-use Rattle.explore.specs.Listing.{askers, round_orders, most_in_round}
+use Rattle.explore.specs.Least.{Beginning, beginning_cmp}
+use Rattle.explore.specs.Listing.{Has, AreShort, askers, round_orders, most_in_round}
 use Rattle.explore.specs.Merging.{AreAlike}
 use Rattle.explore.specs.Walks.{IsWalk}
 
--- a world, in how many ways it or an alike one comes about, and one of these: who made the accesses of its closed
+-- a world, in how many ways it or an alike one comes about, and the least of these: who made the accesses of its closed
 -- rounds, and of the open one
 pub record State : Type 0 where
   pub world : World
@@ -65,14 +68,28 @@ IsAlikeAt states t place =
     (place < length states) × ((d : State) → (slice_index_or states place d).world.scenario ≡ t.world.scenario →
     AreAlike (slice_index_or states place d).world t.world)
 
--- one state more: its ways are added to those of a state with an alike world
+-- which of two states has the lesser beginning
+abbrev pub beginning_of : State → Beginning
+beginning_of t = (t.rows, t.names)
+
+abbrev pub begins_cmp : State → State → Ordering
+begins_cmp t u = beginning_cmp (beginning_of t) (beginning_of u)
+
+abbrev pub earlier : State → State → State
+earlier t u = cond (is_lt (begins_cmp u t)) u t
+
+-- it, with the ways of both
+abbrev pub joined : State → State → State
+joined t u = record (earlier t u) { ways = kept (t.ways + u.ways) }
+
+-- one state more: it is joined with a state with an alike world
 pub record IsJoined (states : List State) (t : State) (new : List State) : Type 0 where
   pub place : ℕ
   pub was : State
   pub inside : place < length states
   pub there : was ≡ slice_index_or states place was
   pub alike : was.world.scenario ≡ t.world.scenario → AreAlike was.world t.world
-  pub joined : new ≡ slice_set states place (record was { ways = kept (was.ways + t.ways) })
+  pub made : new ≡ slice_set states place (joined was t)
 
 -- or it stands behind all
 abbrev pub IsEntered : List State → State → List State → Type 0
@@ -130,6 +147,23 @@ over_rounds most (suc k) h w = over_round most (over_rounds most k h) w
 abbrev pub weighed_both : (World → ℕ) → (World → ℕ) → List State → List State → ℕ
 weighed_both f h next done = weighed f next + weighed h done
 
+-- one of these states stands for the beginning with these rounds and accesses: its own is no greater, and nothing that
+-- alike worlds have in common, and running on leaves, tells its world from the one that comes about so
+pub record StandsFor (s : Scenario) (states : List State) (rows : List (List ℕ)) (names : List ℕ) : Type 0 where
+  pub t : State
+  pub has : Has states t
+  pub least : is_gt (beginning_cmp (beginning_of t) (rows, names)) ≡ false
+  pub same : (f : World → ℕ) → IsCommon f → IsSteady f → f (reached (opening oral_kind s) rows names) ≡ f t.world
+
+-- for whatever some stand, others do
+abbrev pub StandsOn : Scenario → List State → List State → Type 0
+StandsOn s states new =
+    (rows : List (List ℕ)) (names : List ℕ) → StandsFor s states rows names → StandsFor s new rows names
+
+-- so many accesses are made in the open round
+abbrev pub AreMade : ℕ → List State → Type 0
+AreMade n states = All (λ (t : State). length t.names ≡ n) states
+
 -- a state gives way to what can come next of it: nothing else changes in any sum
 pub record IsExpanded (s : Scenario) (t : State) (next done next_new done_new : List State) : Type 0 where
   pub states : (k : ℕ) → IsStateOf s k t → AreStatesOf s k next → AreStatesOf s k next_new
@@ -137,6 +171,13 @@ pub record IsExpanded (s : Scenario) (t : State) (next done next_new done_new : 
   pub weight : (k : ℕ) (f h : World → ℕ) → IsScenario s → IsStateOf s k t → AreStatesOf s k next →
       AreFreshOf s (suc k) done → IsCommon f → IsSteady f → IsCommon h →
       AsKept (weighed_both f h next_new done_new) (weighed_both f h next done + t.ways * stepped f h t.world)
+  pub made : (n : ℕ) → length t.names ≡ n → AreMade (suc n) next → AreMade (suc n) next_new
+  pub stands : (k : ℕ) → IsStateOf s k t → AreStatesOf s k next → StandsOn s next next_new
+  pub stands_done : (k : ℕ) → IsStateOf s k t → AreFreshOf s (suc k) done → StandsOn s done done_new
+  pub goes_on : (k : ℕ) → IsStateOf s k t → AreStatesOf s k next → (g : ℕ) →
+      will_ask (slice_get t.world.parts g) ≡ true → StandsFor s next_new t.rows (t.names ++ g ∷ [])
+  pub closes : (k : ℕ) → IsStateOf s k t → AreFreshOf s (suc k) done → askers t.world ≡ [] →
+      StandsFor s done_new (t.rows ++ t.names ∷ []) []
 
 -- so do all states of a layer
 pub record IsStep (s : Scenario) (layer next done done_new : List State) : Type 0 where
@@ -145,15 +186,26 @@ pub record IsStep (s : Scenario) (layer next done done_new : List State) : Type 
   pub weight : (k : ℕ) (f h : World → ℕ) → IsScenario s → AreStatesOf s k layer → AreFreshOf s (suc k) done →
       IsCommon f → IsSteady f → IsCommon h →
       AsKept (weighed_both f h next done_new) (weighed h done + weighed (stepped f h) layer)
+  pub made : (n : ℕ) → AreMade n layer → AreMade (suc n) next
+  pub stands_done : (k : ℕ) → AreStatesOf s k layer → AreFreshOf s (suc k) done → StandsOn s done done_new
+  pub goes_on : (k : ℕ) → AreStatesOf s k layer → (t : State) → Has layer t → (g : ℕ) →
+      will_ask (slice_get t.world.parts g) ≡ true → StandsFor s next t.rows (t.names ++ g ∷ [])
+  pub closes : (k : ℕ) → AreStatesOf s k layer → AreFreshOf s (suc k) done → (t : State) → Has layer t →
+      askers t.world ≡ [] → StandsFor s done_new (t.rows ++ t.names ∷ []) []
 
 -- a layer's states behind the round
 pub record IsRoundOn (s : Scenario) (most : ℕ) (first done : List State) : Type 0 where
   pub fresh : (k : ℕ) → AreStatesOf s k first → AreFreshOf s (suc k) done
   pub weight : (k : ℕ) (h : World → ℕ) → IsScenario s → AreStatesOf s k first → IsCommon h →
       AsKept (weighed h done) (weighed (over_round most h) first)
+  pub stands : (k : ℕ) → IsScenario s → AreFreshOf s k first → (rows : List (List ℕ)) → length rows ≡ k →
+      StandsFor s first rows [] → (row : List ℕ) → IsRoundFrom oral_kind (behind_all (opening oral_kind s) rows) row →
+      length row ≤ most → StandsFor s done (rows ++ row ∷ []) []
 
--- the states behind so many rounds
+-- the states behind so many rounds: one stands for each beginning
 pub record AreLayers (s : Scenario) (k : ℕ) (states : List State) : Type 0 where
   pub fresh : AreFreshOf s k states
   pub weight : (h : World → ℕ) → IsCommon h →
       AsKept (weighed h states) (over_rounds (most_in_round s) k h (opening oral_kind s))
+  pub stands : (rows : List (List ℕ)) → AreRounds (opening oral_kind s) rows → AreShort (most_in_round s) rows →
+      length rows ≡ k → StandsFor s states rows []

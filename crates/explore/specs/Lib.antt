@@ -5,6 +5,7 @@ pub mod Exploring
 pub mod Gathering
 pub mod Keeping
 pub mod Layers
+pub mod Least
 pub mod Listing
 pub mod Merging
 pub mod Orders

@@ -1,13 +1,14 @@
 //! What explorations find.
-ghost use Rattle.std.specs.Prelude.{◌≡◌, ◌+◌, ◌<◌, ◌^◌, IfOk};
+ghost use Rattle.std.specs.Prelude.{◌≡◌, ◌+◌, ◌<◌, ◌^◌, IfOk, OnOk};
 ghost use Rattle.explore.specs.Layers.{kept};
+ghost use Rattle.explore.specs.Least.{lesser};
 ghost use Rattle.world.specs.Playing.{lists_in};
 
-use crate::order::copied;
+use crate::order::{compared, copied};
 use std::alloc::{AllocError, Global};
 use std::marker::Model;
 
-/// Decisions of a campaign's lieutenants, in how many orders of accesses they come about, and one of these.
+/// Decisions of a campaign's lieutenants, in how many orders of accesses they come about, and the least of these.
 #[derive(Drop)]
 pub struct Finding {
     decisions: Vec<u32>,
@@ -72,11 +73,27 @@ impl Finding {
         })
     }
 
-    /// They come about in so many orders more; more than 2^64 - 1 are not counted.
-    pub(crate) fn count_more(&mut self, ways: u64)
-        ensures { self.new ≡ record self.old { count = kept (self.old.count + ways) } }
+    /// They come about in so many orders more, of which this is the least; more than 2^64 - 1 are not counted.
+    ///
+    /// # Errors
+    ///
+    /// `AllocError` where memory is refused.
+    pub(crate) fn count_more(
+        &mut self,
+        alloc: Global,
+        ways: u64,
+        order: &[Vec<u8>],
+    ) -> Result<(), AllocError>
+        ensures { OnOk result (self.new ≡ record self.old {
+          count = kept (self.old.count + ways);
+          example = lesser self.old.example (lists_in order.now);
+        }) }
     {
         self.count = self.count.saturating_add(ways);
+        if compared(order, self.example.as_slice()).is_lt() {
+            self.example = copied(alloc, order)?;
+        }
+        Ok(())
     }
 
     /// They come about in one order more.
@@ -101,7 +118,7 @@ impl Finding {
         self.count
     }
 
-    /// One of these orders: for each round the generals who make the accesses, one after another.
+    /// The least of these orders: for each round the generals who make the accesses, one after another.
     pub fn example(&self) -> &[Vec<u8>]
         ensures { lists_in result.now ≡ self.now.example }
     {

@@ -14,10 +14,7 @@ fn find(alloc: Global, findings: &mut Vec<Finding>, state: &State) -> Result<(),
     let outcome = state.world.decisions();
     let decisions = outcome.as_slice();
     match place_of(findings.as_slice(), decisions) {
-        Some(place) => {
-            findings[place].count_more(state.ways);
-            Ok(())
-        }
+        Some(place) => { findings[place].count_more(alloc, state.ways, state.rows.as_slice()) }
         None => {
             findings.push(Finding::of(alloc, decisions, state.ways, state.rows.as_slice())?)?;
             Ok(())

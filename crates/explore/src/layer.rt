@@ -44,7 +44,7 @@ impl Layer {
         states
     }
 
-    /// Enters a state: its ways are added to those of a state with an alike world, else it stands behind all.
+    /// Enters a state: it is joined with a state with an alike world, else it stands behind all.
     ///
     /// # Errors
     ///
@@ -54,7 +54,7 @@ impl Layer {
     {
         match self.place_of(&state) {
             Some(place) => {
-                self.states[place].add(state.ways);
+                self.states[place].join(state);
                 Ok(())
             }
             None => self.push(state),

@@ -1,10 +1,12 @@
 //! Orders of accesses: for each round the generals who make them, one after another.
 ghost use Rattle.std.specs.Prelude.{◌≡◌, ◌==◌, ◌<◌, All, IfOk, map, filter};
+ghost use Rattle.explore.specs.Least.{order_cmp};
 ghost use Rattle.world.specs.KindLists.{names_in};
 ghost use Rattle.world.specs.Playing.{lists_in};
 
 use board::Access;
 use std::alloc::{AllocError, Global};
+use std::cmp::Ordering;
 
 /// Who made the accesses of so many rounds, in each in the ledger's order.
 ///
@@ -34,6 +36,13 @@ fn names_of(alloc: Global, accesses: &[Access], round: u32) -> Result<Vec<u8>, A
         }
     }
     Ok(names)
+}
+
+/// Which order is less: that of the lesser general at the first access in which they differ.
+pub(crate) fn compared(order: &[Vec<u8>], other: &[Vec<u8>]) -> Ordering
+    ensures { result ≡ order_cmp (lists_in order.now) (lists_in other.now) }
+{
+    order.cmp(&other)
 }
 
 /// The same order.

@@ -13,6 +13,7 @@ ghost use Rattle.world.specs.World.{oral_kind};
 use crate::exploration::{Exploration, Reach};
 use crate::exploring::explore;
 use crate::finding::Finding;
+use crate::recalling::recall_short;
 use crate::scheduled::Scheduled;
 use crate::scheduling::schedule_names;
 use itoa::Buffer;
@@ -298,7 +299,7 @@ fn example_texts(
 }
 
 /// What is printed of all orders, as by [`explored`], and for each outcome, in the same order, the text of a schedule
-/// by which the campaign comes to it.
+/// by which the campaign comes to it, of no more bytes than a schedule may have.
 ///
 /// # Errors
 ///
@@ -311,6 +312,7 @@ pub fn explored_with_schedules(
     ensures { IfOk result (λ kept. IsKept scenario.now most (string_bytes kept.0) (map string_bytes kept.1.items)) }
 {
     scenario.recall();
+    recall_short(scenario);
     let exploration = explore(alloc, scenario, most)?;
     let text = exploration_text(alloc, scenario, &exploration)?;
     let schedules = example_texts(alloc, scenario, exploration.findings())?;

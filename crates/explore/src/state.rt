@@ -1,6 +1,7 @@
 //! Worlds to which many beginnings of orders lead.
-ghost use Rattle.std.specs.Prelude.{◌≡◌, ◌+◌, ◌++◌, ◌∷◌, [], IfOk, IsTrue};
-ghost use Rattle.explore.specs.Layers.{IsAhead, State as StateSeen, kept};
+ghost use Rattle.std.specs.Prelude.{◌≡◌, ◌++◌, ◌∷◌, [], IfOk, IsTrue};
+ghost use Rattle.std.specs.Ordering.{is_lt};
+ghost use Rattle.explore.specs.Layers.{IsAhead, State as StateSeen, begins_cmp, joined};
 ghost use Rattle.explore.specs.Merging.{AreAlike};
 ghost use Rattle.world.specs.Kind.{opening};
 ghost use Rattle.world.specs.Playing.{lists_in};
@@ -8,7 +9,7 @@ ghost use Rattle.world.specs.World.{oral_kind};
 
 use crate::ahead::run_on;
 use crate::alike::are_alike;
-use crate::order::copied;
+use crate::order::{compared, copied};
 use insn::Reg;
 use machine::Activation;
 use round::Scenario;
@@ -17,7 +18,7 @@ use std::alloc::{AllocError, Global};
 use std::marker::Model;
 use world::{Part, Plays, World};
 
-/// A world, in how many ways it or an alike one comes about, and one of these ways.
+/// A world, in how many ways it or an alike one comes about, and the least of these ways.
 #[derive(Drop)]
 pub(crate) struct State {
     pub(crate) world: World,
@@ -89,11 +90,16 @@ impl State {
         Ok(State::new(world, 1, Vec::new(alloc), Vec::new(alloc)))
     }
 
-    /// It comes about in so many ways more.
-    pub(crate) fn add(&mut self, ways: u64)
-        ensures { self.new ≡ record self.old { ways = kept (self.old.ways + ways) } }
+    /// It comes about as the other, alike one does too: in the ways of both, and in the lesser of their beginnings.
+    pub(crate) fn join(&mut self, other: State)
+        ensures { self.new ≡ joined self.old other }
     {
-        self.ways = self.ways.saturating_add(ways);
+        let ways = self.ways.saturating_add(other.ways);
+        if begins_before(&other, self) {
+            let before = self.before;
+            *self = other.behind(before);
+        }
+        self.ways = ways;
     }
 }
 
@@ -161,6 +167,14 @@ fn word_of(value: Value) -> u64 {
         Value::Number(number) => number,
         Value::Pointer(_, offset) => u64::from(offset.cast_unsigned()),
     }
+}
+
+/// Whether its beginning is less than that of the other.
+fn begins_before(state: &State, other: &State) -> bool
+    ensures { result ≡ is_lt (begins_cmp state.now other.now) }
+{
+    let rounds = compared(state.rows.as_slice(), other.rows.as_slice());
+    rounds.then(state.names.cmp(&other.names)).is_lt()
 }
 
 /// Whether their worlds are found to be alike.

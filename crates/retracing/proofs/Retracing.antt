@@ -46,7 +46,7 @@ retraced_by s t accesses schedule is e comes read written = record {
 
 -- the schedule of some names is read again
 pub read_of : (s : Scenario) (names : List (List ℕ)) (schedule : List (List Repeat)) → IsScenario s → AreShort s → length names ≤ 5 → IsScheduleOf oral_kind (opening_of oral_kind s) names (By schedule) → IsReadAs (schedule_text schedule) schedule
-read_of s names schedule is short five made = schedule_read oral_kind s short proved_schedules_are_read is.few names schedule five made.0 made.1
+read_of s names schedule is short five made = schedule_read oral_kind s short (oral_campaigns s is) proved_schedules_are_read is.few names schedule five made.0 made.1
 
 -- a list of names for each round
 pub names_count : (round : ℕ) (ledger : List Access) (k : ℕ) → length (names_in round ledger k) ≡ k

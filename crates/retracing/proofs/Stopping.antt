@@ -1,11 +1,17 @@
 -- The first access that cannot come.
-use Rattle.std.proofs.Common.{◌≡◌, ℕ, zero, suc, List, [], ◌∷◌, ◌++◌, true, false, Bool, cond, refl, sym, ap, subst, ◌∙◌, Option, Some, None, Result, Ok, Err, nat_lt, take}
+use Rattle.std.proofs.Common.{arith, length, length-append, ◌+◌, ◌<◌, ◌≡◌, ℕ, zero, suc, List, [], ◌∷◌, ◌++◌, true, false, Bool, cond, refl, sym, ap, subst, ◌∙◌, Option, Some, None, Result, Ok, Err, nat_lt, take}
 use Rattle.std.specs.Prelude.{slice_get}
 use Rattle.text.specs.Parts.{pieces}
 use Rattle.text.specs.Stop.{space}
 use Rattle.round.specs.Scenario.{Scenario, IsScenario}
 use Rattle.world.specs.declared.schedule.Repeat.{Repeat}
-use Rattle.world.specs.Kind.{Kind, World, opening}
+use Rattle.board.specs.Board.{Access, words_after}
+use Rattle.round.specs.Letters.{Letter}
+use Rattle.world.specs.Campaigns.{IsCampaign}
+use Rattle.world.specs.Kind.{Kind, World, begun, opening}
+use Rattle.world.specs.KindLists.{names_events}
+use Rattle.world.proofs.Lasting.{IsOnTime, names_moves, opening_due, round_done}
+use Rattle.explore.proofs.Winding.{wound, wound_so}
 use Rattle.world.specs.World.{oral_kind}
 use Rattle.world.proofs.Campaigns.{oral_campaigns}
 use Rattle.explore.specs.Orders.{past, behind, IsRoundFrom, IsFrom}
@@ -41,15 +47,26 @@ module _ (K : Kind) where
   line_stuck w (g ∷ names) rest zero s h = (let f = sym s ∙ h.0 in let c : false ≡ true = f in cc)
   line_stuck w (g ∷ names) rest (suc place) s h = line_stuck (past K w g) names rest place s.1 h.1
 
-  never_from : (k : ℕ) (w : World) (rows order : List (List ℕ)) (round place : ℕ) → IsFrom K w k order → IsStuckIn K w rows round place → BeginsSo rows round place order → ⊥
-  never_from k w [] order round place h s b = s
-  never_from k w (names ∷ rows) [] zero place h s b = b
-  never_from k w (names ∷ rows) [] (suc round) place h s b = b
-  never_from zero w (names ∷ rows) (row ∷ order) round place h s b = (let c : row ∷ order ≡ [] = h in cc)
-  never_from (suc k) w (names ∷ rows) (row ∷ order) zero place h s b =
-      (let A : List ℕ → Type 0 = λ l. IsRoundFrom K w l in line_stuck w names b.0 place s (subst A b.1 h.0))
-  never_from (suc k) w (names ∷ rows) (row ∷ order) (suc round) place h s b =
-      (let A : List ℕ → Type 0 = λ l. IsFrom K (behind K w l) k order in never_from k (behind K w names) rows order round place (subst A b.0 h.1) s.1 b.1)
+  never_from : (s : Scenario) → IsCampaign K s → (k : ℕ) (closed : List (List Letter)) (words : List ℕ) (ledger : List Access) (rows order : List (List ℕ)) (round place : ℕ) → IsOnTime K s (begun K s closed words ledger true)
+      → length closed + k ≡ suc s.bound → IsFrom K (begun K s closed words ledger true) k order → IsStuckIn K (begun K s closed words ledger true) rows round place → BeginsSo rows round place order → ⊥
+  never_from s sound k closed words ledger [] order round place d left h stuck b = stuck
+  never_from s sound k closed words ledger (names ∷ rows) [] zero place d left h stuck b = b
+  never_from s sound k closed words ledger (names ∷ rows) [] (suc round) place d left h stuck b = b
+  never_from s sound zero closed words ledger (names ∷ rows) (row ∷ order) round place d left h stuck b = (let c : row ∷ order ≡ [] = h in cc)
+  never_from s sound (suc k) closed words ledger (names ∷ rows) (row ∷ order) zero place d left h stuck b =
+      (let A : List ℕ → Type 0 = λ l. IsRoundFrom K (begun K s closed words ledger true) l in line_stuck (begun K s closed words ledger true) names b.0 place stuck (subst A b.1 h.0))
+  never_from s sound (suc k) closed words ledger (names ∷ rows) (row ∷ order) (suc round) place d left h stuck b =
+      let w = begun K s closed words ledger true in
+      let less : length closed < suc s.bound = omega arith in
+      let c = wound K s sound closed words ledger d less names in
+      let same : behind K w row ≡ behind K w names = wound_so K s sound closed words ledger d less names row stuck.0 h.0 b.0 in
+      let done = round_done K s sound (names_events K w names) w (names_moves K names w) d less in
+      let closed' = closed ++ c.letters ∷ [] in
+      let A : World → Type 0 = λ v. IsOnTime K s v in
+      let B : World → Type 0 = λ v. IsFrom K v k order in
+      let C : World → Type 0 = λ v. IsStuckIn K v rows round place in
+      never_from s sound k closed' (words_after words c.piece) (ledger ++ c.piece) rows order round place (subst A c.is done.due)
+      (let l = length-append closed (c.letters ∷ []) in omega arith) (subst B (same ∙ c.is) h.1) (subst C c.is stuck.1) b.1
 
   -- he is one of the list
   line_there : (w : World) (names : List ℕ) (place : ℕ) → IsStuckAt K w names place → (g : ℕ) × (slice_get names place ≡ Some g)
@@ -66,12 +83,13 @@ pub first_that_cannot : (s : Scenario) (rows : List (List ℕ)) (round place : �
 first_that_cannot s rows round place is h = record {
   stuck = h;
   before = replay_completes oral_kind s (until rows round place) (oral_campaigns s is) (before_stuck oral_kind (opening oral_kind s) rows round place h);
-  never = λ order o b. never_from oral_kind (suc s.bound) (opening oral_kind s) rows order round place (to_steps oral_kind oral_campaigns s order is o) h b;
+  never = λ order o b. never_from oral_kind s (oral_campaigns s is) (suc s.bound) [] s.board [] rows order round place (opening_due oral_kind s (oral_campaigns s is)) (omega arith)
+      (to_steps oral_kind oral_campaigns s order is o) h b;
 }
 
 pub arranged_by : (s : Scenario) (text : List ℕ) (rows : List (List ℕ)) (schedule : List (List Repeat)) (lines : List ℕ) → accesses_told text ≡ Ok rows
-    → IsPlan oral_kind s rows (By schedule) → IsReadAs (schedule_text schedule) schedule → lines ≡ schedule_text schedule → IsArranged s text lines
-arranged_by s text rows schedule lines told plan read written = (rows, told, record { schedule = schedule; written = written; read = subst (λ (l : List ℕ). IsReadAs l schedule) (sym written) read; comes = plan.1 })
+    → AreWalks oral_kind (opening oral_kind s) rows → IsPlan oral_kind s rows (By schedule) → IsReadAs (schedule_text schedule) schedule → lines ≡ schedule_text schedule → IsArranged s text lines
+arranged_by s text rows schedule lines told walks plan read written = (rows, told, record { walks = walks; schedule = schedule; written = written; read = subst (λ (l : List ℕ). IsReadAs l schedule) (sym written) read; comes = plan.1 })
 
 pub unarranged_by : (s : Scenario) (text : List ℕ) (rows : List (List ℕ)) (round place : ℕ) (fault : AccessFault) → IsScenario s → accesses_told text ≡ Ok rows
     → IsStuckIn oral_kind (opening oral_kind s) rows round place → IsNever rows round place fault → IsUnarranged s text fault

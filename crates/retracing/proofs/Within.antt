@@ -1,8 +1,7 @@
 -- The entries of a schedule that is made of accesses are those that the text of a schedule may have.
 use Rattle.std.proofs.Common.{◌≡◌, ◌≢◌, ℕ, zero, suc, ◌<◌, ◌≤◌, List, [], ◌∷◌, ◌++◌, length, Bool, true, false, cond, refl, sym, ap, subst, ◌∙◌, ⊎_elim, Option, Some, None, arith}
-use Rattle.std.specs.Prelude.{slice_get, slice_set, replicate, nat_le, ◌&&◌}
+use Rattle.std.specs.Prelude.{slice_get, slice_set, replicate, ◌&&◌}
 use Rattle.std.specs.List.{AllByRecursion, list_all}
-use Rattle.std.proofs.lemmas.Bool.Decides.{nat_tests}
 use Rattle.insn.specs.declared.insn.Insn.{Insn}
 use Rattle.board.specs.Board.{Access, reply}
 use Rattle.semantics.specs.State.{Outcome, Next, Ask, Exit, Trap}
@@ -10,7 +9,6 @@ use Rattle.semantics.specs.Execution.{step}
 use Rattle.round.specs.Activation.{Activation, Turn, Goes, Asks, Ended, has_ended, started, turn, turned}
 use Rattle.round.specs.Letters.{Letter}
 use Rattle.round.specs.Scenario.{Scenario, program_of}
-use Rattle.trace.specs.Schedules.{schedule_told}
 use Rattle.world.specs.declared.event.Event.{Event}
 use Rattle.world.specs.declared.event.Event.TheVariants.{Tick, Post, Close}
 use Rattle.world.specs.declared.part.Part.{Part}
@@ -25,6 +23,8 @@ use Rattle.explore.specs.Orders.{asks_or, asks_within, behind, past, will_ask}
 use Rattle.explore.specs.Schedules.{entries_from, schedule_from}
 use Rattle.explore.specs.Text.{schedule_text}
 use Rattle.explore.specs.Walks.{AreWalks, IsWalk}
+use Rattle.explore.proofs.Spending.{text_short}
+use Rattle.world.specs.Campaigns.{IsCampaign}
 use Rattle.retracing.specs.Reading.{IsEntry, IsReadAs, SchedulesAreRead}
 
 -- ---- how many steps an access takes
@@ -181,15 +181,11 @@ module _ (K : Kind) (s : Scenario) (short : AreShort s) where
   lines_count [] w = refl
   lines_count (line ∷ names) w = ap suc (lines_count names (behind K w line))
 
-  -- the text of the schedule of some names is read again, as far as a schedule's bytes go
-  pub schedule_read : SchedulesAreRead → s.generals ≤ 13 → (names : List (List ℕ)) (schedule : List (List Repeat)) → length names ≤ 5 → AreWalks K (opening K s) names → schedule ≡ schedule_from K (opening K s) names
+  -- the text of the schedule of some names is read again
+  pub schedule_read : IsCampaign K s → SchedulesAreRead → s.generals ≤ 13 → (names : List (List ℕ)) (schedule : List (List Repeat)) → length names ≤ 5 → AreWalks K (opening K s) names → schedule ≡ schedule_from K (opening K s) names
       → IsReadAs (schedule_text schedule) schedule
-  unfolding schedule_told
-  schedule_read read few names schedule five walks is =
+  schedule_read sound read few names schedule five walks is =
       let all = lines_are few names (opening K s) (small_begun [] s.board [] true) walks in
       let count = lines_count names (opening K s) in
-      let short_enough : length (schedule_from K (opening K s) names) ≤ 5 = omega arith in
-      subst (λ (l : List (List Repeat)). IsReadAs (schedule_text l) l) (sym is) (record {
-        within = λ le. read (schedule_from K (opening K s) names) all short_enough le;
-        beyond = λ gt. (let over : nat_le (length (schedule_text (schedule_from K (opening K s) names))) 1048576 ≡ false = grind (arith, nat_tests) in rw over refl);
-      })
+      let few_lines : length (schedule_from K (opening K s) names) ≤ 5 = omega arith in
+      subst (λ (l : List (List Repeat)). IsReadAs (schedule_text l) l) (sym is) (read (schedule_from K (opening K s) names) all few_lines (text_short K s sound few short names five walks))

@@ -8,7 +8,7 @@ use Rattle.world.specs.Schedules.{lines_by}
 use Rattle.world.specs.World.{oral_kind}
 use Rattle.explore.specs.Orders.{IsOrder, order_of}
 use Rattle.explore.specs.Text.{schedule_text}
-use Rattle.explore.specs.Walks.{IsCompletion, IsStuckIn}
+use Rattle.explore.specs.Walks.{AreWalks, Continues, IsCompletion, IsStuckIn}
 use Rattle.retracing.specs.Reading.{IsReadAs}
 use Rattle.retracing.specs.declared.fault.AccessFault.{AccessFault}
 use Rattle.retracing.specs.declared.fault.AccessFault.TheVariants.{Text, Never}
@@ -26,23 +26,25 @@ until (names ∷ rows) (suc round) place = names ∷ until rows round place
 abbrev pub listed_at : List (List ℕ) → ℕ → ℕ → Option ℕ
 listed_at rows round place = option_and_then (λ row. slice_get row place) (slice_get rows round)
 
--- an order has just the listed rounds before this one, and begins it with the accesses up to this place
+-- an order has in each round before this one the listed accesses and then the others' by number, and begins this one
+-- with the listed accesses up to this place
 abbrev pub BeginsSo : List (List ℕ) → ℕ → ℕ → List (List ℕ) → Type 0
 BeginsSo (names ∷ rows) zero place (row ∷ order) = (rest : List ℕ) × (row ≡ take (suc place) names ++ rest)
-BeginsSo (names ∷ rows) (suc round) place (row ∷ order) = (row ≡ names) × BeginsSo rows round place order
+BeginsSo (names ∷ rows) (suc round) place (row ∷ order) = Continues names row × BeginsSo rows round place order
 BeginsSo _ _ _ _ = ⊥
 
 -- the accesses before this one can come, and behind them, in each earlier round with the others' by number, he is to
--- make none; so no complete run that has just the listed rounds before has it there
+-- make none; so no complete run that begins with them goes on with this one
 pub record IsFirstThatCannot (s : Scenario) (rows : List (List ℕ)) (round place : ℕ) : Type 0 where
   pub stuck : IsStuckIn oral_kind (opening oral_kind s) rows round place
   pub before : IsCompletion (until rows round place)
       (order_of oral_kind s (replayed oral_kind s (until rows round place)))
   pub never : (order : List (List ℕ)) → IsOrder oral_kind s order → BeginsSo rows round place order → ⊥
 
--- the lines are the text of a schedule by which the accesses come in this order in each round, and behind them the
--- others' by number
+-- the accesses can come, so none is listed past the last round; and the lines are the text of a schedule by which they
+-- come in this order in each round, and behind them the others' by number
 pub record IsArrangement (s : Scenario) (rows : List (List ℕ)) (lines : List ℕ) : Type 0 where
+  pub walks : AreWalks oral_kind (opening oral_kind s) rows
   pub schedule : List (List Repeat)
   pub written : lines ≡ schedule_text schedule
   pub read : IsReadAs lines schedule

@@ -1,10 +1,8 @@
 -- Schedules that are written are read again (own). The statement is the contract of a function of this crate.
-use Rattle.std.specs.Prelude.{ℕ, ◌≡◌, ◌<◌, ◌≤◌, List, length, Ok, Err}
+use Rattle.std.specs.Prelude.{ℕ, ◌≡◌, ◌≤◌, List, length, Ok}
 use Rattle.std.specs.List.{AllByRecursion}
 use Rattle.world.specs.declared.schedule.Repeat.{Repeat}
 use Rattle.explore.specs.Text.{schedule_text}
-use Rattle.trace.specs.declared.fault.Fault.TheVariants.{Line}
-use Rattle.trace.specs.declared.fault.TraceError.TheVariants.{At}
 use Rattle.trace.specs.Schedules.{schedule_told}
 
 -- a general's number, and how often he acts
@@ -21,7 +19,6 @@ SchedulesAreRead =
     length (schedule_text lines) ≤ 1048576 →
     schedule_told (schedule_text lines) ≡ Ok lines
 
--- a text of so many bytes as a schedule may have is read as this schedule, and a longer one is refused
-pub record IsReadAs (text : List ℕ) (schedule : List (List Repeat)) : Type 0 where
-  pub within : length text ≤ 1048576 → schedule_told text ≡ Ok schedule
-  pub beyond : 1048576 < length text → schedule_told text ≡ Err (At Line 1)
+-- a text is read as this schedule
+abbrev pub IsReadAs : List ℕ → List (List Repeat) → Type 0
+IsReadAs text schedule = schedule_told text ≡ Ok schedule

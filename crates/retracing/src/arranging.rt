@@ -7,8 +7,7 @@ ghost use Rattle.text.specs.Stop.{space};
 ghost use Rattle.world.specs.Playing.{lists_in};
 
 use crate::fault::{AccessFault, AccessesError};
-use crate::recalling::recall_short;
-use explore::{Scheduled, schedule_names, schedule_text};
+use explore::{Scheduled, recall_short, schedule_names, schedule_text};
 use round::Scenario;
 use std::alloc::{AllocError, Global};
 use text::{Stop, decimal, piece};
@@ -104,8 +103,7 @@ fn never(rows: &[Vec<u8>], round: usize, place: usize) -> AccessFault
 
 /// The text of a schedule, one entry for each access, by which the generals come to the board in the order that this
 /// text lists: in each round the listed ones make their accesses first, and then all go to their ends. Rounds are
-/// parted by slashes, and the generals of a round by spaces. The text is read as its schedule, unless it has more than
-/// the 1,048,576 bytes that a schedule may have.
+/// parted by slashes, and the generals of a round by spaces. The text is read as its schedule.
 ///
 /// # Errors
 ///

@@ -4,7 +4,6 @@
 mod arranging;
 mod fault;
 mod laws;
-mod recalling;
 mod schedules;
 
 pub use arranging::arranged;

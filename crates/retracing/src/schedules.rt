@@ -7,9 +7,8 @@ ghost use Rattle.trace.specs.Audit.{IsFaultOf};
 ghost use Rattle.trace.specs.Laws.{IsSoundText};
 ghost use Rattle.trace.specs.declared.fault.TraceError.TheVariants.{Memory};
 
-use crate::recalling::recall_short;
 use board::Access;
-use explore::{Scheduled, order_in, schedule_names, schedule_text};
+use explore::{Scheduled, order_in, recall_short, schedule_names, schedule_text};
 use round::Scenario;
 use std::alloc::{AllocError, Global};
 use trace::{TraceError, sound_chronicle};
@@ -17,7 +16,7 @@ use world::Schedule;
 
 /// The text of a schedule, one entry for each access, by which the scenario's campaign has the chronicle that this text
 /// tells: in each round the generals make their accesses in its order, and then all go to their ends. It is read as
-/// that schedule, unless it has more than the 1,048,576 bytes that a schedule may have.
+/// that schedule.
 ///
 /// # Errors
 ///

@@ -20,7 +20,7 @@ returns-in-None c = record {
       c.loop-visited.invariant c.as_slice.ensures.value c.in_ok-next.ensures.entered (rw c.in-None.is at c.in_ok-next.ensures.next);
   beyond = λ e. absurd (let f : Whole ≡ Beyond = e in cc);
   part = λ e. absurd (let f : Whole ≡ InPart = e in cc);
-  least = λ n. visits_first c.args.scenario.now c.recall.ensures c.loop-visited.visited c.loop-visited.names.items c.as_slice.result.now c.loop-visited.findings.items c.visit.new.findings.items
+  least = visits_first c.args.scenario.now c.recall.ensures c.loop-visited.visited c.loop-visited.names.items c.as_slice.result.now c.loop-visited.findings.items c.visit.new.findings.items
       c.loop-visited.invariant c.as_slice.ensures.value c.in_ok-next.ensures.entered (rw c.in-None.is at c.in_ok-next.ensures.next);
 }
 
@@ -30,5 +30,5 @@ returns c = record {
   all = λ e. absurd (let f : InPart ≡ Whole = e in cc);
   beyond = λ e. absurd (let f : InPart ≡ Beyond = e in cc);
   part = λ e. visits_cut c.args.scenario.now c.recall.ensures c.loop-visited.visited c.args.most c.loop-visited.names.items c.loop-visited.findings.items c.loop-visited.invariant (omega arith);
-  least = λ n. cut_first c.args.scenario.now c.recall.ensures c.loop-visited.visited c.loop-visited.names.items c.loop-visited.findings.items c.loop-visited.invariant;
+  least = cut_first c.args.scenario.now c.recall.ensures c.loop-visited.visited c.loop-visited.names.items c.loop-visited.findings.items c.loop-visited.invariant;
 }

@@ -2,10 +2,12 @@
 use Rattle.std.proofs.Common.{◌≡◌, ◌∙◌, ◌+◌, ap, subst, refl, List, ℕ}
 use Rattle.world.specs.Playing.{lists_in}
 use Rattle.explore.specs.Exploring.{Finding}
+use Rattle.explore.specs.Gathering.{IsFound}
 use Rattle.explore.specs.Layers.{State, kept}
+use Rattle.explore.specs.Least.{lesser}
 use Rattle.explore.specs.Outcomes.{oral_outcome}
 use Rattle.explore.specs.Places.{IsPlaceOf, IsNowhere}
-use Rattle.explore.proofs.Collecting.{counts_on, finds_first}
+use Rattle.explore.proofs.Collecting.{counts_on, finds_first, on_ok_so}
 use Rattle.explore.proofs.gathering.find.Goals as goal
 
 pub returns-in-Some : goal.returns-in-Some
@@ -14,8 +16,14 @@ returns-in-Some c =
     let was = c.index_mut.result.now in
     let same : ds ≡ oral_outcome c.args.state.now.world = c.as_slice-decisions.ensures.value ∙ (c.decisions-outcome.ensures.values ∙ ap (λ (t : State). oral_outcome t.world) c.state.view_is) in
     let here = subst (λ (l : List Finding). IsPlaceOf l ds c.in-Some.place) c.as_slice.ensures.value c.in-Some.ensures in
-    let made = c.count_more.ensures ∙ ap (λ (n : ℕ). record was { count = kept (was.count + n) }) (ap (λ (t : State). t.ways) c.state.view_is) in
-    counts_on c.args.findings.now.items c.args.state.now ds c.in-Some.place was c.count_more.new.self _ here same c.index_mut.ensures.value made refl
+    let t = c.args.state.now in
+    let rows = lists_in c.as_slice-in-Some.result.now in
+    let way : rows ≡ t.rows = ap lists_in c.as_slice-in-Some.ensures.value ∙ ap (λ (u : State). u.rows) c.state.view_is in
+    let ways = ap (λ (u : State). u.ways) c.state.view_is in
+    on_ok_so c.count_more.result _ (IsFound c.args.findings.now.items t _)
+    (λ made. counts_on c.args.findings.now.items t ds c.in-Some.place was c.count_more.new.self _ here same c.index_mut.ensures.value
+    (made ∙ (λ i. record was { count = kept (was.count + ways i); example = lesser was.example (way i) })) refl)
+    c.count_more.ensures
 
 pub returns-in_ok-push-in-None : goal.returns-in_ok-push-in-None
 returns-in_ok-push-in-None c =

@@ -29,7 +29,7 @@ returns-then-either c =
     ((λ i. record { world = c.state.inside.world; ways = c.state.inside.ways; rows = lists_in (c.as_slice.ensures.value i); names = c.as_slice-2.ensures.value i }) ∙ c.state.view_is)
     (c.open_parts.ensures ∙ ap (λ (t : State). t.world.parts) c.state.view_is) c.loop-general.invariant c.in_ok-own.ensures c.last_acting-last.ensures.last in
     expanded_if c.args.scenario.now c.args.state c.args.scenario.now.generals c.args.next.now c.args.done.now c.ask_last.new.next (c.loop-general.asked || c.in_ok-own.own) refl
-    (sym c.either.ensures ∙ c.if-either.true) h
+    (sym c.either.ensures ∙ c.if-either.true) h c.recall.ensures
 
 pub returns : goal.returns
 returns c =

@@ -1,11 +1,12 @@
 -- What was explored can be printed, and each example has a schedule.
-use Rattle.std.proofs.Common.{◌∙◌, ap, arith, map, subst, sym, List, All}
+use Rattle.std.proofs.Common.{◌≤◌, ◌∙◌, ℕ, ap, arith, length, map, subst, sym, List, All}
 use Rattle.world.specs.Kind.{opening}
 use Rattle.world.specs.World.{oral_kind}
 use Rattle.explore.specs.Exploring.{Finding}
 use Rattle.explore.specs.Keeping.{example_text}
 use Rattle.explore.specs.Walks.{AreWalks}
 use Rattle.explore.proofs.Agreeing.{proved_findings_agree}
+use Rattle.explore.proofs.Conserving.{examples_short}
 use Rattle.explore.proofs.Replaying.{all_walk}
 use Rattle.explore.proofs.printing.explored_with_schedules.Goals as goal
 
@@ -24,10 +25,12 @@ pub returns : goal.returns
 returns c =
     let s = c.args.scenario.now in
     let e = c.in_ok-exploration.exploration in
+    let kept = c.in_ok-schedules.ensures ∙ ap (λ (l : List Finding). map (example_text oral_kind s) l) c.findings.ensures in
     record {
       exploration = e;
       explores = c.in_ok-exploration.ensures;
       told = c.in_ok-text.ensures;
       agree = proved_findings_agree s c.args.most e c.recall.ensures c.in_ok-exploration.ensures;
-      kept = c.in_ok-schedules.ensures ∙ ap (λ (l : List Finding). map (example_text oral_kind s) l) c.findings.ensures;
+      kept = kept;
+      short = subst (λ (l : List (List ℕ)). All (λ (text : List ℕ). length text ≤ 1048576) l) (sym kept) (examples_short s c.recall.ensures c.recall_short.ensures c.args.most e c.in_ok-exploration.ensures);
     }

@@ -1,6 +1,6 @@
--- Added to one with an alike world, or behind all.
-use Rattle.std.proofs.Common.{◌≡◌, ◌∙◌, ◌+◌, ℕ, List, ap, get_or, set, subst}
-use Rattle.explore.specs.Layers.{State, kept}
+-- Joined with one with an alike world, or behind all.
+use Rattle.std.proofs.Common.{◌≡◌, List, ap, get_or, set, subst}
+use Rattle.explore.specs.Layers.{State}
 use Rattle.explore.proofs.Stating.{enters_behind}
 use Rattle.explore.proofs.Weighing.{joins}
 use Rattle.explore.proofs.layer.Layer.enter.Goals as goal
@@ -8,10 +8,10 @@ use Rattle.explore.proofs.layer.Layer.enter.Goals as goal
 pub returns-in-Some : goal.returns-in-Some
 returns-in-Some c =
     let was = c.index_mut.result.now in
-    joins c.args.self.now c.args.state c.in-Some.place was c.add.new.self _ c.in-Some.ensures
+    joins c.args.self.now c.args.state c.in-Some.place was c.join.new.self _ c.in-Some.ensures
     (subst (λ (l : List State). was ≡ get_or l c.in-Some.place was) c.self.view_is c.index_mut.ensures.value)
-    (c.add.ensures ∙ ap (λ (n : ℕ). record was { ways = kept (was.ways + n) }) (ap (λ (t : State). t.ways) c.state.view_is))
-    (ap (λ (l : List State). set l c.in-Some.place c.add.new.self) c.self.view_is)
+    c.join.ensures
+    (ap (λ (l : List State). set l c.in-Some.place c.join.new.self) c.self.view_is)
 
 pub returns-in-None : goal.returns-in-None
 returns-in-None c = enters_behind c.push.result c.args.self.now c.args.state c.push.new.self c.push.ensures

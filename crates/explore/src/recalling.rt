@@ -6,7 +6,7 @@ ghost use Rattle.round.specs.Scenario.{program_of};
 use round::Scenario;
 
 /// Does nothing. No program of a scenario has more than 4,096 instructions.
-pub(crate) fn recall_short(scenario: &Scenario)
+pub fn recall_short(scenario: &Scenario)
     ensures { (g : ℕ) (program : List Insn) → program_of scenario.now g ≡ Some program → length program ≤ 4096 }
 {
     for general in 0..scenario.generals() {
