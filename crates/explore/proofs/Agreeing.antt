@@ -33,5 +33,5 @@ proved_findings_agree s most e is h = by e.reach refl
   where
     by : (r : Reach) → e.reach ≡ r → All (λ (f : Finding). AgreeUnderBound s f.decisions) e.findings
     by Whole t = All-weaker (IsFinding oral_kind oral_outcome s) (λ (f : Finding). AgreeUnderBound s f.decisions) (λ f k. real_agrees s is f k.real) e.findings (h.all t).each
-    by Beyond t = All-weaker (IsCappedFinding oral_kind oral_outcome s) (λ (f : Finding). AgreeUnderBound s f.decisions) (λ f k. real_agrees s is f k.real) e.findings (h.beyond t).each
-    by InPart t = All-weaker (IsLowerFinding oral_kind oral_outcome s) (λ (f : Finding). AgreeUnderBound s f.decisions) (λ f k. real_agrees s is f k.real) e.findings (h.part t).each
+    by Beyond t = All-weaker (IsCappedFinding oral_kind oral_outcome s) (λ (f : Finding). AgreeUnderBound s f.decisions) (λ f k. real_agrees s is f k.real) e.findings (h.beyond t).1.each
+    by InPart t = All-weaker (IsLowerFinding oral_kind oral_outcome s) (λ (f : Finding). AgreeUnderBound s f.decisions) (λ f k. real_agrees s is f k.real) e.findings (h.part t).1.each

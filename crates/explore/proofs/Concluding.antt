@@ -276,7 +276,7 @@ module _ (s : Scenario) (is : IsScenario s) (states : List State) (findings : Li
   is_beyond h = record {
     few = λ n. absurd (n refl);
     all = λ e. absurd (let f : Beyond ≡ Whole = e in cc);
-    beyond = λ e. explored_beyond h;
+    beyond = λ e. (refl, explored_beyond h);
     part = λ e. absurd (let f : Beyond ≡ InPart = e in cc);
     least = least_first;
   }

@@ -113,8 +113,8 @@ module _ (s : Scenario) (is : IsScenario s) where
     where
       by : (r : Reach) → e.reach ≡ r → All (λ (f : Finding). IsOrder oral_kind s f.example) e.findings
       by Whole t = All-weaker (IsFinding oral_kind oral_outcome s) (λ (f : Finding). IsOrder oral_kind s f.example) (λ f k. k.real.example) e.findings (h.all t).each
-      by Beyond t = All-weaker (IsCappedFinding oral_kind oral_outcome s) (λ (f : Finding). IsOrder oral_kind s f.example) (λ f k. k.real.example) e.findings (h.beyond t).each
-      by InPart t = All-weaker (IsLowerFinding oral_kind oral_outcome s) (λ (f : Finding). IsOrder oral_kind s f.example) (λ f k. k.real.example) e.findings (h.part t).each
+      by Beyond t = All-weaker (IsCappedFinding oral_kind oral_outcome s) (λ (f : Finding). IsOrder oral_kind s f.example) (λ f k. k.real.example) e.findings (h.beyond t).1.each
+      by InPart t = All-weaker (IsLowerFinding oral_kind oral_outcome s) (λ (f : Finding). IsOrder oral_kind s f.example) (λ f k. k.real.example) e.findings (h.part t).1.each
 
   -- and have schedules
   pub all_walk : (most : ℕ) (e : Exploration) → IsExploration oral_kind oral_outcome s most e → All (λ (f : Finding). AreWalks oral_kind (kind.opening oral_kind s) f.example) e.findings

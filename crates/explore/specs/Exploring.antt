@@ -85,11 +85,11 @@ pub record Exploration : Type 0 where
   pub findings : List Finding
   pub reach : Reach
 
--- of all orders, counted or too many for that, or of so many where there are more; each example is the least order that
--- leads there
+-- of all orders, counted or, where nothing limits their number, too many for that, or of so many where there are more;
+-- each example is the least order that leads there; 2 ^ 64 - 1 is no limit
 pub record IsExploration (K : Kind) (D : Outcome) (s : Scenario) (most : ℕ) (e : Exploration) : Type 0 where
   pub few : e.reach ≢ Beyond → counted_in e.findings ≤ most
   pub all : e.reach ≡ Whole → IsExplored K D s e.findings
-  pub beyond : e.reach ≡ Beyond → IsExploredBeyond K D s e.findings
-  pub part : e.reach ≡ InPart → IsExploredInPart K D s most e.findings
+  pub beyond : e.reach ≡ Beyond → (most ≡ 2 ^ 64 - 1) × IsExploredBeyond K D s e.findings
+  pub part : e.reach ≡ InPart → (most < 2 ^ 64 - 1) × IsExploredInPart K D s most e.findings
   pub least : All (λ (f : Finding). first_to K D s (orders K s) f.decisions ≡ Some f.example) e.findings

@@ -77,6 +77,7 @@ fn most_counted(findings: &[Finding]) -> u64
 
 /// The outcomes of the `most` least orders, each of which is played.
 fn explore_least(alloc: Global, scenario: &Scenario, most: u64) -> Result<Exploration, AllocError>
+    requires { most < 2 ^ 64 - 1 }
     ensures { IfOk result (λ exploration. IsExploration oral_kind oral_outcome scenario.now most exploration) }
 {
     scenario.recall();

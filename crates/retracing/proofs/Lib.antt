@@ -1,3 +1,4 @@
+mod Keeping
 mod Reading
 mod Retracing
 mod Stopping

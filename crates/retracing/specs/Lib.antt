@@ -1,5 +1,6 @@
 pub mod Accesses
 pub mod Arranged
+pub mod Keeping
 pub mod Reading
 pub mod Retraced
 pub mod Telling

@@ -8,5 +8,5 @@ mod schedules;
 
 pub use arranging::arranged;
 pub use fault::{AccessFault, AccessesError};
-pub use laws::schedules_are_read;
+pub use laws::{kept_schedules_play, schedules_are_read};
 pub use schedules::{retraced, schedule_of};

@@ -29,6 +29,6 @@ returns c = record {
   few = λ n. (let t = (visits_cut c.args.scenario.now c.recall.ensures c.loop-visited.visited c.args.most c.loop-visited.names.items c.loop-visited.findings.items c.loop-visited.invariant (omega arith)).total in omega arith);
   all = λ e. absurd (let f : InPart ≡ Whole = e in cc);
   beyond = λ e. absurd (let f : InPart ≡ Beyond = e in cc);
-  part = λ e. visits_cut c.args.scenario.now c.recall.ensures c.loop-visited.visited c.args.most c.loop-visited.names.items c.loop-visited.findings.items c.loop-visited.invariant (omega arith);
+  part = λ e. (c.requires, visits_cut c.args.scenario.now c.recall.ensures c.loop-visited.visited c.args.most c.loop-visited.names.items c.loop-visited.findings.items c.loop-visited.invariant (omega arith));
   least = cut_first c.args.scenario.now c.recall.ensures c.loop-visited.visited c.loop-visited.names.items c.loop-visited.findings.items c.loop-visited.invariant;
 }

@@ -1,0 +1,27 @@
+-- What is kept of an exploration can be played (own). The statement is the contract of a function of this crate.
+use Rattle.std.specs.Prelude.{ℕ, ◌≡◌, List}
+use Rattle.std.specs.List.{AllZip}
+use Rattle.round.specs.Scenario.{Scenario}
+use Rattle.world.specs.declared.schedule.Repeat.{Repeat}
+use Rattle.world.specs.Chronicle.{chronicle_of}
+use Rattle.world.specs.Lists.{listed}
+use Rattle.world.specs.Schedules.{lines_by}
+use Rattle.world.specs.World.{opening, run, oral_kind}
+use Rattle.explore.specs.Exploring.{Finding}
+use Rattle.explore.specs.Keeping.{IsKept}
+use Rattle.explore.specs.Orders.{order_of}
+use Rattle.retracing.specs.Reading.{IsReadAs}
+
+-- the text is read as a schedule; played by it, the campaign comes to the finding's decisions, its accesses in the
+-- order of the example
+pub record GivesOutcome (s : Scenario) (f : Finding) (text : List ℕ) : Type 0 where
+  pub schedule : List (List Repeat)
+  pub read : IsReadAs text schedule
+  pub outcome : (chronicle_of (run (opening s) (listed s (lines_by schedule)))).decisions ≡ f.decisions
+  pub order : order_of oral_kind s (listed s (lines_by schedule)) ≡ f.example
+
+-- each schedule that is kept, played, gives its outcome
+abbrev pub KeptSchedulesPlay : Scenario → Type 0
+KeptSchedulesPlay s =
+    (most : ℕ) (text : List ℕ) (schedules : List (List ℕ)) (kept : IsKept s most text schedules) →
+    AllZip (GivesOutcome s) kept.exploration.findings schedules
