@@ -36,4 +36,5 @@ IsTreeIn true text named view form general picture =
 -- the file tells a message table or an oral campaign, and this is what the general was told, drawn so far
 abbrev pub Pictures : ℕ → List ℕ → Drawing → ℕ → Bool → List ℕ → List ℕ → Type 0
 Pictures general named drawing depth folded first text =
-    IsTreeIn (is_toml first) first named (record { depth = depth; folds = folded; order = None }) (form_of drawing) general text
+    IsTreeIn (is_toml first) first named (record { depth = depth; folds = folded; order = None }) (form_of drawing)
+    general text
