@@ -270,11 +270,9 @@ globalThis.questions = () => {
             let alpha = ink.alpha * (isDrawn ? style.fillOpacity : 1);
             for (let above = element; above; above = above.parentElement) alpha *= getComputedStyle(above).opacity;
             const below = ground(element);
-            const size = parseFloat(style.fontSize);
-            const least = size >= 24 || (size >= 18.66 && style.fontWeight >= 700) ? 3 : 4.5;
             const had = contrast(over({ ...ink, alpha }, below), below);
             const kind = `${named(element)} ${element.getAttribute("class") ?? ""}`.trim();
-            if (had < least) wrong.add(`${kind} has contrast ${had.toFixed(2)}, as ${short(node.data)}`);
+            if (had < 4.5) wrong.add(`${kind} has contrast ${had.toFixed(2)}, as ${short(node.data)}`);
         }
         return [...wrong];
     }

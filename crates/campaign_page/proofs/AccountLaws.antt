@@ -31,7 +31,7 @@ use Rattle.trace.specs.Text.{chronicle_text}
 use Rattle.world.specs.Chronicle.{Chronicle}
 use Rattle.world.specs.declared.schedule.Repeat.{Repeat}
 use Rattle.world.specs.declared.verdict.Verdict.{Verdict}
-use Rattle.campaign_page.specs.Account.{access_heads, access_row, accesses_heading, accesses_part, bound_told, chronicle_heading, chronicle_shown, chronicle_part, course_told, elsewhere_words, general_name, lieutenant_part, lieutenant_told, lieutenant_words, lieutenants_heading, lieutenants_part, parts, picture_heading, picture_hint, picture_name, picture_part, picture_told, program_if, program_part, no_programs, programs_heading, programs_part, programs_told, recorded_words, scenario_heading, scenario_part, schedule_heading, schedule_part, title, unscheduled_words, verdict_heading, verdict_part, verdict_told, view, why_part}
+use Rattle.campaign_page.specs.Account.{access_heads, access_row, accesses_heading, accesses_part, bound_told, chronicle_heading, chronicle_shown, chronicle_part, course_told, elsewhere_words, general_name, lieutenant_part, lieutenant_told, lieutenant_words, lieutenants_heading, lieutenants_part, parts, picture_heading, picture_hint, picture_name, picture_part, picture_told, program_if, program_part, no_programs, programs_heading, programs_part, programs_told, recorded_words, scenario_heading, scenario_part, schedule_heading, schedule_part, title, unscheduled_words, verdict_heading, verdict_part, verdict_told, view_of, why_part}
 use Rattle.campaign_page.specs.Calls.{named_calls}
 use Rattle.campaign_page.specs.Trees.{item_by, items_below, label_item, node_by, root_told, tree_told}
 use Rattle.campaign_page.specs.Laws.{CampaignPagesAreElements}
@@ -104,22 +104,22 @@ root_content node inside c =
     joined (paragraph (said node)) (if is_open node.extent then list inside else []) (proved_parts_are_content.paragraph (said node))
     (cond_both (is_open node.extent) (list inside) [] IsContent (λ _. proved_parts_are_content.list inside c) (λ _. text [] no_text))
 
-tree_content : (t : MessageTable) (traitors : List ℕ) (p : ℕ) → IsContent (tree_told t traitors view p)
+tree_content : (t : MessageTable) (traitors : List ℕ) (view : View) (p : ℕ) → IsContent (tree_told t traitors view p)
 unfolding tree_told
-tree_content t traitors p = root_content _ _ (items_content t traitors (deeper view) t.bound (t.commander ∷ []) p)
+tree_content t traitors view p = root_content _ _ (items_content t traitors (deeper view) t.bound (t.commander ∷ []) p)
 
-lieutenant_content : (t : MessageTable) (traitors : List ℕ) (g : ℕ) → IsContent (lieutenant_told t traitors g)
-lieutenant_content t traitors g =
+lieutenant_content : (t : MessageTable) (traitors : List ℕ) (view : View) (g : ℕ) → IsContent (lieutenant_told t traitors view g)
+lieutenant_content t traitors view g =
     let tree : List ℕ = tree_told t traitors view g in
     let why : List ℕ = why_part t traitors g in
-    proved_parts_are_content.fold (lieutenant_words g (on traitors g) (decision_of t g)) (tree ++ why) (joined tree why (tree_content t traitors g) (why_content t traitors g))
+    proved_parts_are_content.fold (lieutenant_words g (on traitors g) (decision_of t g)) (tree ++ why) (joined tree why (tree_content t traitors view g) (why_content t traitors g))
 
-one_content : (t : MessageTable) (traitors : List ℕ) (g : ℕ) → IsContent (lieutenant_part t traitors g)
-one_content t traitors g = cond_both (g == t.commander) [] (lieutenant_told t traitors g) IsContent (λ _. text [] no_text) (λ _. lieutenant_content t traitors g)
+one_content : (t : MessageTable) (traitors : List ℕ) (view : View) (g : ℕ) → IsContent (lieutenant_part t traitors view g)
+one_content t traitors view g = cond_both (g == t.commander) [] (lieutenant_told t traitors view g) IsContent (λ _. text [] no_text) (λ _. lieutenant_content t traitors view g)
 
-lieutenants_content : (t : MessageTable) (traitors : List ℕ) → IsContent (lieutenants_part t traitors)
-lieutenants_content t traitors =
-    below lieutenants_heading (flat_map (lieutenant_part t traitors) (range_with_len 0 t.generals)) (all (lieutenant_part t traitors) (range_with_len 0 t.generals) (one_content t traitors))
+lieutenants_content : (t : MessageTable) (traitors : List ℕ) (view : View) → IsContent (lieutenants_part t traitors view)
+lieutenants_content t traitors view =
+    below lieutenants_heading (flat_map (lieutenant_part t traitors view) (range_with_len 0 t.generals)) (all (lieutenant_part t traitors view) (range_with_len 0 t.generals) (one_content t traitors view))
 
 heads_content : IsContent access_heads
 heads_content =
@@ -165,13 +165,13 @@ parts_content words schedule t c =
     joined _ (verdict_part c.verdict)
     (joined _ (chronicle_part c)
     (joined _ (accesses_part c.accesses)
-    (joined _ (lieutenants_part t (traitors_of c.scenario))
+    (joined _ (lieutenants_part t (traitors_of c.scenario) (view_of c.scenario))
     (joined _ (picture_part t c)
     (joined _ (programs_part c.scenario)
     (joined (scenario_part words) (schedule_part schedule) (scenario_content words) (schedule_content schedule))
     (programs_content c.scenario))
     (picture_content t c))
-    (lieutenants_content t (traitors_of c.scenario)))
+    (lieutenants_content t (traitors_of c.scenario) (view_of c.scenario)))
     (accesses_content c.accesses))
     (chronicle_content (chronicle_text c)))
     (verdict_content c.verdict (bound_told c.verdict.bound))

@@ -7,7 +7,7 @@ use Rattle.std.proofs.lemmas.List.Elements.{All-from_recursion}
 use Rattle.book.specs.Decisions.{decision_of}
 use Rattle.book.specs.Table.{MessageTable}
 use Rattle.drawing.specs.Facts.{mark_at, node_at}
-use Rattle.drawing.specs.Shown.{deeper, is_open, nodes_below, nodes_by, nodes_of, root_mark}
+use Rattle.drawing.specs.Shown.{deeper, is_open, nodes_below, nodes_by, nodes_of, root_node}
 use Rattle.drawing.specs.Words.{said}
 use Rattle.drawing.specs.declared.node.Node.{Node}
 use Rattle.drawing.specs.declared.node.View.{View}
@@ -18,7 +18,7 @@ use Rattle.page.specs.Page.{fold, fold_end, fold_start, heading, item, item_end,
 use Rattle.retold.specs.Retold.{traitors_of}
 use Rattle.world.specs.Chronicle.{Chronicle}
 use Rattle.world.specs.declared.schedule.Repeat.{Repeat}
-use Rattle.campaign_page.specs.Account.{accesses_part, chronicle_part, lieutenant_part, lieutenant_told, lieutenant_words, lieutenants_heading, lieutenants_part, page_text, parts, picture_part, programs_part, scenario_part, schedule_part, title, verdict_part, view, why_part}
+use Rattle.campaign_page.specs.Account.{accesses_part, chronicle_part, lieutenant_part, lieutenant_told, lieutenant_words, lieutenants_heading, lieutenants_part, page_text, parts, picture_part, programs_part, scenario_part, schedule_part, title, verdict_part, view_of, why_part}
 use Rattle.campaign_page.specs.Laws.{FoldsHideNothing, StandsIn, IsShownIn as Shows}
 use Rattle.campaign_page.specs.Trees.{item_by, items_below, tree_told}
 
@@ -84,7 +84,7 @@ root_shows false node nodes below a = (ahead (shown (said node)) (paragraph (sai
 tree_shows : (t : MessageTable) (traitors : List ℕ) (view : View) (p : ℕ) → AllByRecursion (Shows (tree_told t traitors view p)) (nodes_of t traitors view p)
 unfolding tree_told nodes_of
 tree_shows t traitors view p =
-    let node : Node = node_at t traitors view (root_mark traitors t.commander) t.bound (t.commander ∷ []) p in
+    let node : Node = root_node t traitors view p in
     root_shows (is_open node.extent) node (nodes_below t traitors (deeper view) t.bound (t.commander ∷ []) p) (items_below t traitors (deeper view) t.bound (t.commander ∷ []) p)
     (items_show t traitors (deeper view) t.bound (t.commander ∷ []) p)
 
@@ -97,12 +97,12 @@ among_all part G (x ∷ xs) j there is = elim (or_cases (x == j) (on xs j) there
 ]
 
 -- the part of a lieutenant stands in the page
-part_stands : (part words : List ℕ) (schedule : Option (List (List Repeat))) (t : MessageTable) (c : Chronicle) → StandsIn part (lieutenants_part t (traitors_of c.scenario))
+part_stands : (part words : List ℕ) (schedule : Option (List (List Repeat))) (t : MessageTable) (c : Chronicle) → StandsIn part (lieutenants_part t (traitors_of c.scenario) (view_of c.scenario))
     → StandsIn part (page_text words schedule t c)
 unfolding parts
 part_stands part words schedule t c is =
     let before : List ℕ = scenario_part words ++ schedule_part schedule ++ programs_part c.scenario ++ picture_part t c in
-    let mine : List ℕ = lieutenants_part t (traitors_of c.scenario) in
+    let mine : List ℕ = lieutenants_part t (traitors_of c.scenario) (view_of c.scenario) in
     let one : List ℕ = before ++ mine in
     let two : List ℕ = one ++ accesses_part c.accesses in
     let three : List ℕ = two ++ chronicle_part c in
@@ -112,21 +112,22 @@ part_stands part words schedule t c is =
     (ahead part one (accesses_part c.accesses)
     (behind part mine before is))))
 
-lieutenant_stands : (part : List ℕ) (t : MessageTable) (traitors : List ℕ) (p : ℕ) → p < t.generals → p ≢ t.commander → StandsIn part (tree_told t traitors view p) → StandsIn part (lieutenants_part t traitors)
-lieutenant_stands part t traitors p general lieutenant is =
+lieutenant_stands : (part : List ℕ) (t : MessageTable) (traitors : List ℕ) (view : View) (p : ℕ) → p < t.generals → p ≢ t.commander → StandsIn part (tree_told t traitors view p) → StandsIn part (lieutenants_part t traitors view)
+lieutenant_stands part t traitors view p general lieutenant is =
     let told : List ℕ = tree_told t traitors view p ++ why_part t traitors p in
     let words : List ℕ = lieutenant_words p (on traitors p) (decision_of t p) in
-    let his : StandsIn part (lieutenant_told t traitors p) = between part told (fold_start words) fold_end (ahead part (tree_told t traitors view p) (why_part t traitors p) is) in
-    let own : lieutenant_told t traitors p ≡ lieutenant_part t traitors p = sym (cond-false (p == t.commander) [] (lieutenant_told t traitors p) (ne_eqb p t.commander lieutenant)) in
-    behind part (flat_map (lieutenant_part t traitors) (range_with_len 0 t.generals)) (heading lieutenants_heading)
-    (among_all part (lieutenant_part t traitors) (range_with_len 0 t.generals) p (range-on 0 t.generals p (omega arith) (omega arith)) (subst (StandsIn part) own his))
+    let his : StandsIn part (lieutenant_told t traitors view p) = between part told (fold_start words) fold_end (ahead part (tree_told t traitors view p) (why_part t traitors p) is) in
+    let own : lieutenant_told t traitors view p ≡ lieutenant_part t traitors view p = sym (cond-false (p == t.commander) [] (lieutenant_told t traitors view p) (ne_eqb p t.commander lieutenant)) in
+    behind part (flat_map (lieutenant_part t traitors view) (range_with_len 0 t.generals)) (heading lieutenants_heading)
+    (among_all part (lieutenant_part t traitors view) (range_with_len 0 t.generals) p (range-on 0 t.generals p (omega arith) (omega arith)) (subst (StandsIn part) own his))
 
 pub proved_folds_hide_nothing : FoldsHideNothing
 proved_folds_hide_nothing words schedule t c p general lieutenant =
     let traitors : List ℕ = traitors_of c.scenario in
+    let view : View = view_of c.scenario in
     All-from_recursion (Shows (page_text words schedule t c)) (nodes_of t traitors view p)
     (weaker (Shows (tree_told t traitors view p)) (Shows (page_text words schedule t c)) (nodes_of t traitors view p)
     (λ node is.
     let part : List ℕ = shown (said node) in
-    part_stands part words schedule t c (lieutenant_stands part t traitors p general lieutenant is))
+    part_stands part words schedule t c (lieutenant_stands part t traitors view p general lieutenant is))
     (tree_shows t traitors view p))

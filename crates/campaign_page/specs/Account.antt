@@ -115,8 +115,8 @@ picture_part t c = picture_told (svg_text t c)
 
 -- what a lieutenant decides, his tree, three levels below the commander's, and shorter where all tell the same, and how
 -- his decision comes about
-abbrev pub view : View
-view = record { depth = 3; folds = true }
+abbrev pub view_of : Scenario → View
+view_of s = record { depth = 3; folds = true; order = Some s.order }
 
 abbrev pub traitor_words : Bool → List ℕ
 traitor_words is_traitor = if is_traitor then codes ", a traitor," else []
@@ -134,16 +134,16 @@ elsewhere_words g =
 abbrev pub why_part : MessageTable → List ℕ → ℕ → List ℕ
 why_part t traitors g = if nat_lt t.bound 4 then lines (explained_one t traitors g) else paragraph (elsewhere_words g)
 
-abbrev pub lieutenant_told : MessageTable → List ℕ → ℕ → List ℕ
-lieutenant_told t traitors g =
+abbrev pub lieutenant_told : MessageTable → List ℕ → View → ℕ → List ℕ
+lieutenant_told t traitors view g =
     fold (lieutenant_words g (on traitors g) (decision_of t g)) (tree_told t traitors view g ++ why_part t traitors g)
 
-abbrev pub lieutenant_part : MessageTable → List ℕ → ℕ → List ℕ
-lieutenant_part t traitors g = if g == t.commander then [] else lieutenant_told t traitors g
+abbrev pub lieutenant_part : MessageTable → List ℕ → View → ℕ → List ℕ
+lieutenant_part t traitors view g = if g == t.commander then [] else lieutenant_told t traitors view g
 
-abbrev pub lieutenants_part : MessageTable → List ℕ → List ℕ
-lieutenants_part t traitors =
-    heading lieutenants_heading ++ flat_map (lieutenant_part t traitors) (range_with_len 0 t.generals)
+abbrev pub lieutenants_part : MessageTable → List ℕ → View → List ℕ
+lieutenants_part t traitors view =
+    heading lieutenants_heading ++ flat_map (lieutenant_part t traitors view) (range_with_len 0 t.generals)
 
 -- the accesses, in the board's order, if there are any: a table with a row for each
 abbrev pub access_heads : List ℕ
@@ -187,7 +187,7 @@ verdict_part v = verdict_told v (bound_told v.bound)
 unfoldable pub parts : List ℕ → Option (List (List Repeat)) → MessageTable → Chronicle → List ℕ
 parts text schedule t c =
     scenario_part text ++ schedule_part schedule ++ programs_part c.scenario ++ picture_part t c
-    ++ lieutenants_part t (traitors_of c.scenario) ++ accesses_part c.accesses ++ chronicle_part c
+    ++ lieutenants_part t (traitors_of c.scenario) (view_of c.scenario) ++ accesses_part c.accesses ++ chronicle_part c
     ++ verdict_part c.verdict
 
 -- the campaign's numbers

@@ -13,7 +13,7 @@ use Rattle.semantics.specs.Call.{helper_of}
 use Rattle.semantics.specs.declared.request.Helper.{Helper}
 use Rattle.world.specs.Chronicle.{Chronicle}
 use Rattle.world.specs.declared.schedule.Repeat.{Repeat}
-use Rattle.campaign_page.specs.Account.{page_text, view}
+use Rattle.campaign_page.specs.Account.{page_text, view_of}
 use Rattle.campaign_page.specs.Calls.{helper_name}
 
 -- a page is one element of XML, between the line that says that it is HTML and a line feed, whatever stands in the
@@ -37,7 +37,7 @@ abbrev pub FoldsHideNothing : Type 0
 FoldsHideNothing =
     (scenario : List ℕ) (schedule : Option (List (List Repeat))) (t : MessageTable) (c : Chronicle) (p : ℕ)
     → p < t.generals → p ≢ t.commander
-    → All (IsShownIn (page_text scenario schedule t c)) (nodes_of t (traitors_of c.scenario) view p)
+    → All (IsShownIn (page_text scenario schedule t c)) (nodes_of t (traitors_of c.scenario) (view_of c.scenario) p)
 
 -- the assembler takes a name that stands in a call for the number of that helper
 abbrev pub NamesAreRead : Type 0

@@ -5,7 +5,7 @@ use Rattle.std.specs.List.{flat_map}
 use Rattle.label.specs.Labels.{others}
 use Rattle.book.specs.Table.{MessageTable}
 use Rattle.drawing.specs.Facts.{mark_at, node_at}
-use Rattle.drawing.specs.Shown.{deeper, is_open, root_mark}
+use Rattle.drawing.specs.Shown.{deeper, is_open, root_node}
 use Rattle.drawing.specs.Words.{said}
 use Rattle.drawing.specs.declared.node.Node.{Node}
 use Rattle.drawing.specs.declared.node.View.{View}
@@ -37,5 +37,5 @@ root_told node below = paragraph (said node) ++ (if is_open node.extent then lis
 
 unfoldable pub tree_told : MessageTable → List ℕ → View → ℕ → List ℕ
 tree_told t traitors view p =
-    root_told (node_at t traitors view (root_mark traitors t.commander) t.bound (t.commander ∷ []) p)
+    root_told (root_node t traitors view p)
     (items_below t traitors (deeper view) t.bound (t.commander ∷ []) p)

@@ -6,7 +6,7 @@ ghost use Rattle.drawing.specs.Words.{said};
 ghost use Rattle.campaign_page.specs.Trees.{items_below, label_item, root_told, tree_told};
 
 use book::Heard;
-use drawing::{Node, View, deeper, is_open, mark_at, node_at, put_said, root_mark};
+use drawing::{Node, View, deeper, is_open, mark_at, node_at, put_said, root_node};
 use label::Label;
 use page::{
     put_fold_end, put_fold_start, put_item_end, put_item_start, put_list_end, put_list_start,
@@ -31,15 +31,7 @@ pub(crate) fn put_tree<H: Heard>(
 {
     let commander = table.commander();
     let relays = table.bound();
-    let root = node_at(
-        table,
-        traitors,
-        view,
-        general,
-        Label::of(commander),
-        root_mark(traitors, commander),
-        relays,
-    );
+    let root = root_node(table, traitors, view, general);
     let words = words(alloc, &root)?;
     put_paragraph(out, words.as_str())?;
     if !is_open(root.extent) {

@@ -1,7 +1,7 @@
 //! Sections with a part for each general.
 ghost use Rattle.std.specs.Prelude.{◌≡◌, ◌<◌, ◌++◌, flat_map, option_map, string_bytes, IfOk, OnOk};
 ghost use Rattle.std.specs.List.{range_with_len};
-ghost use Rattle.campaign_page.specs.Account.{lieutenants_heading, no_programs, programs_heading, programs_told, lieutenant_part, lieutenant_words, lieutenants_part, program_part, program_told, programs_part, traitor_words, why_part, elsewhere_words, general_name, view};
+ghost use Rattle.campaign_page.specs.Account.{lieutenants_heading, no_programs, programs_heading, programs_told, lieutenant_part, lieutenant_words, lieutenants_part, program_part, program_told, programs_part, traitor_words, why_part, elsewhere_words, general_name, view_of};
 ghost use Rattle.label.specs.Labels.{on};
 ghost use Rattle.retold.specs.Retold.{traitors_of};
 ghost use Rattle.round.specs.Scenario.{program_of};
@@ -118,11 +118,11 @@ pub(crate) fn put_lieutenants<H: Heard>(
     chronicle: &Chronicle,
 ) -> Result<(), AllocError>
     ensures { OnOk result (string_bytes out.new ≡ string_bytes out.old
-        ++ lieutenants_part (H.seen table.now) (traitors_of chronicle.now.scenario)) }
+        ++ lieutenants_part (H.seen table.now) (traitors_of chronicle.now.scenario) (view_of chronicle.now.scenario)) }
 {
     let traitors = traitors(alloc, chronicle.scenario())?;
     put_heading(out, lieutenants_heading())?;
-    put_each_lieutenant(alloc, out, table, traitors.as_slice())
+    put_each_lieutenant(alloc, out, table, traitors.as_slice(), view_of(chronicle.scenario()))
 }
 
 /// Adds that of each lieutenant.
@@ -131,12 +131,14 @@ fn put_each_lieutenant<H: Heard>(
     out: &mut String,
     table: &H,
     traitors: &[u8],
+    view: View,
 ) -> Result<(), AllocError>
     ensures { OnOk result (string_bytes out.new ≡ string_bytes out.old
-        ++ flat_map (lieutenant_part (H.seen table.now) traitors.now) (range_with_len 0 (H.seen table.now).generals)) }
+        ++ flat_map (lieutenant_part (H.seen table.now) traitors.now view)
+        (range_with_len 0 (H.seen table.now).generals)) }
 {
     for general in 0..table.generals() {
-        put_lieutenant_of(alloc, out, table, traitors, general)?;
+        put_lieutenant_of(alloc, out, table, traitors, view, general)?;
     }
     Ok(())
 }
@@ -147,11 +149,12 @@ fn put_lieutenant_of<H: Heard>(
     out: &mut String,
     table: &H,
     traitors: &[u8],
+    view: View,
     general: u8,
 ) -> Result<(), AllocError>
     requires { general < (H.seen table.now).generals }
     ensures { OnOk result (string_bytes out.new ≡ string_bytes out.old
-        ++ lieutenant_part (H.seen table.now) traitors.now general) }
+        ++ lieutenant_part (H.seen table.now) traitors.now view general) }
 {
     if general == table.commander() {
         return Ok(());
@@ -159,18 +162,19 @@ fn put_lieutenant_of<H: Heard>(
     let is_traitor = has(traitors, general);
     let name = lieutenant_name(alloc, general, is_traitor, decision(table, general))?;
     put_fold_start(out, name.as_str())?;
-    put_tree(alloc, out, table, traitors, view(), general)?;
+    put_tree(alloc, out, table, traitors, view, general)?;
     put_why(alloc, out, table, traitors, general)?;
     put_fold_end(out)
 }
 
-/// How much of a tree is shown.
-fn view() -> View
-    ensures { result ≡ view }
+/// How much of a tree is shown, and the commander's order.
+fn view_of(scenario: &Scenario) -> View
+    ensures { result ≡ view_of scenario.now }
 {
     View {
         depth: 3,
         folds: true,
+        order: Some(scenario.order()),
     }
 }
 

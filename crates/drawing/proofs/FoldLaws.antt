@@ -155,7 +155,7 @@ push_below n [] j all small = (small, tt)
 push_below n (x ∷ xs) j all small = (all.0, push_below n xs j all.1 small)
 
 -- nothing is left out where no label is folded, and the view is deep enough
-all_open : (t : MessageTable) (traitors : List ℕ) (depth k : ℕ) (w : List ℕ) (p : ℕ) → 0 < k → 0 < depth → extent_at t traitors (record { depth = depth; folds = false }) k w p ≡ Open
+all_open : (t : MessageTable) (traitors : List ℕ) (depth k : ℕ) (w : List ℕ) (p : ℕ) → 0 < k → 0 < depth → extent_at t traitors (record { depth = depth; folds = false; order = None }) k w p ≡ Open
 all_open t traitors depth k w p some deep =
     cond-false (k == 0) Last _ (ne_eqb k 0 (λ e. absurd (omega arith))) ∙ cond-false (depth == 0) (Cut (below t.generals (length w) k)) Open (ne_eqb depth 0 (λ e. absurd (omega arith)))
 
@@ -164,22 +164,22 @@ with_length node nodes opens = let e : length (with_those node nodes) ≡ length
 
 -- a next label, with those below it
 with_next : (t : MessageTable) (traitors : List ℕ) (depth k : ℕ) (w : List ℕ) (p j : ℕ) → suc k ≤ depth
-    → length (nodes_below t traitors (record { depth = depth - 1; folds = false }) k (w ++ j ∷ []) p) ≡ below t.generals (length (w ++ j ∷ [])) k
-    → length (nodes_by t traitors (record { depth = depth; folds = false }) k w j p) ≡ 1 + below t.generals (length w + 1) k
+    → length (nodes_below t traitors (record { depth = depth - 1; folds = false; order = None }) k (w ++ j ∷ []) p) ≡ below t.generals (length (w ++ j ∷ [])) k
+    → length (nodes_by t traitors (record { depth = depth; folds = false; order = None }) k w j p) ≡ 1 + below t.generals (length w + 1) k
 unfolding node_at below
 with_next t traitors depth zero w p j deep so = refl
 with_next t traitors depth (suc k) w p j deep so =
-    let view : View = record { depth = depth; folds = false } in
+    let view : View = record { depth = depth; folds = false; order = None } in
     with_length (node_at t traitors view (mark_at t traitors w j p) (suc k) (w ++ j ∷ []) p) (nodes_below t traitors (deeper view) (suc k) (w ++ j ∷ []) p)
     (all_open t traitors depth (suc k) (w ++ j ∷ []) p (omega arith) (omega arith))
     ∙ ap (λ (i : ℕ). 1 + i) (so ∙ ap (λ (i : ℕ). below t.generals i (suc k)) (length-append w (j ∷ [])))
 
 so_many : (t : MessageTable) (traitors : List ℕ) (depth k : ℕ) (w : List ℕ) (p : ℕ) → k ≤ depth → p < t.generals → on w p ≡ false → is_distinct w ≡ true → AllBelow t.generals w
-    → length (nodes_below t traitors (record { depth = depth; folds = false }) k w p) ≡ below t.generals (length w) k
+    → length (nodes_below t traitors (record { depth = depth; folds = false; order = None }) k w p) ≡ below t.generals (length w) k
 unfolding nodes_below below
 so_many t traitors depth zero w p deep general off distinct small = refl
 so_many t traitors depth (suc k) w p deep general off distinct small =
-    let view : View = record { depth = depth; folds = false } in
+    let view : View = record { depth = depth; folds = false; order = None } in
     let counted = others-count t.generals (p ∷ w) (and_from (not (on w p)) (is_distinct w) (ap not off) distinct) (general, small) in
     let wide : length (others t.generals (p ∷ w)) ≡ t.generals - 1 - length w = omega arith in
     length-flat_map (λ j. nodes_by t traitors view k w j p) (others t.generals (p ∷ w))
@@ -210,5 +210,5 @@ proved_folds_are_alike t traitors view k w p count place is =
     let comes : order_of (told t.messages w p) ≡ order_at (outcome_at t k w p) (told t.messages w p) = sym (at_decided t k w p ∙ alike_comes t traitors k w p parts.general parts.off alike) in
     record {
       many = so.1 ∙ sym (so_many t traitors k k w p (omega arith) parts.general parts.off parts.distinct small);
-      alike = All-from_recursion (IsLike t w p (order_at (outcome_at t k w p) (told t.messages w p))) (all_below t traitors k w p) (all_like t traitors (record { depth = k; folds = false }) k w w p (order_at (outcome_at t k w p) (told t.messages w p)) parts.general parts.off alike refl comes);
+      alike = All-from_recursion (IsLike t w p (order_at (outcome_at t k w p) (told t.messages w p))) (all_below t traitors k w p) (all_like t traitors (record { depth = k; folds = false; order = None }) k w w p (order_at (outcome_at t k w p) (told t.messages w p)) parts.general parts.off alike refl comes);
     }

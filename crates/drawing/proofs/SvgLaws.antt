@@ -22,7 +22,7 @@ use Rattle.drawing.specs.Places.{branch_at}
 use Rattle.drawing.specs.Rows.{branch_way, branch_ways, kind, lines_end, lines_start, outcome_class, outline, row, row_end, row_start, rows_from, shape, stub, way, word_text}
 use Rattle.drawing.specs.Shown.{nodes_of}
 use Rattle.drawing.specs.Svg.{breadth, head, heading, inside, key, legend, look, meanings, picture, size, start, svg_text, tallness, title, view_box}
-use Rattle.drawing.specs.Words.{extent_words, mark_words, outcome_words, said, told_words, words}
+use Rattle.drawing.specs.Words.{counted_words, extent_words, mark_words, outcome_words, said, told_words, words}
 
 -- ---- words
 
@@ -66,10 +66,20 @@ extent_text (Cut count) = many (stop ++ decimal count) (codes " below not shown"
 told_text : (o : Option ℕ) → IsText (told_words o)
 told_text o = many (codes "told ") (order_words o) (bare_text (codes "told ") refl) (order_text o)
 
+counted_text : (o : Outcome) (told : Option ℕ) → IsText (counted_words o told)
+counted_text Told None = bare_text (codes ", so 0") refl
+counted_text Told (Some order) = no_text
+counted_text (Agreed order) told = no_text
+counted_text Divided told = no_text
+counted_text (Middle order) told = no_text
+
 words_text : (node : Node) → IsText (words stop node)
 words_text node =
-    many (told_words node.told ++ outcome_words stop node.outcome ++ mark_words stop node.mark) (extent_words stop node.extent)
-    (many (told_words node.told ++ outcome_words stop node.outcome) (mark_words stop node.mark) (many (told_words node.told) (outcome_words stop node.outcome) (told_text node.told) (outcome_text node.outcome)) (mark_text node.mark))
+    let told : List ℕ = told_words node.told ++ counted_words node.outcome node.told in
+    many (told ++ outcome_words stop node.outcome ++ mark_words stop node.mark) (extent_words stop node.extent)
+    (many (told ++ outcome_words stop node.outcome) (mark_words stop node.mark)
+    (many told (outcome_words stop node.outcome) (many (told_words node.told) (counted_words node.outcome node.told) (told_text node.told) (counted_text node.outcome node.told)) (outcome_text node.outcome))
+    (mark_text node.mark))
     (extent_text node.extent)
 
 said_text : (node : Node) → IsText (said node)

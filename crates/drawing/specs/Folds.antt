@@ -1,5 +1,5 @@
 -- What a fold leaves out of a lieutenant's tree.
-use Rattle.std.specs.Prelude.{ℕ, ◌≡◌, true, false, All, List, length, Option}
+use Rattle.std.specs.Prelude.{ℕ, ◌≡◌, true, false, All, List, length, Option, None}
 use Rattle.label.specs.Oral.{order_of}
 use Rattle.book.specs.Grammar.{is_place}
 use Rattle.book.specs.Table.{MessageTable, told}
@@ -21,7 +21,7 @@ order_at (Middle order) told = order
 
 -- all labels that go on from w with k relays left, as they are shown where nothing is left out
 abbrev pub all_below : MessageTable → List ℕ → ℕ → List ℕ → ℕ → List Node
-all_below t traitors k w p = nodes_below t traitors (record { depth = k; folds = false }) k w p
+all_below t traitors k w p = nodes_below t traitors (record { depth = k; folds = false; order = None }) k w p
 
 -- he was told the same of the label as of w, by no lie, and it comes to this order
 pub record IsLike (t : MessageTable) (w : List ℕ) (p order : ℕ) (node : Node) : Type 0 where

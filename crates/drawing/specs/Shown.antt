@@ -1,10 +1,11 @@
 -- The labels that are shown of the tree of lieutenant p (Lynch, Distributed Algorithms, section 6.2).
-use Rattle.std.specs.Prelude.{ℕ, zero, suc, ◌-◌, Bool, true, false, if◌then◌else◌, List, [], ◌∷◌, ◌++◌}
+use Rattle.std.specs.Prelude.{ℕ, zero, suc, ◌-◌, Bool, true, false, if◌then◌else◌, List, [], ◌∷◌, ◌++◌, Option, None, Some}
 use Rattle.std.specs.List.{flat_map}
 use Rattle.label.specs.Labels.{on, others}
-use Rattle.book.specs.Table.{MessageTable}
+use Rattle.book.specs.Conditions.{is_told}
+use Rattle.book.specs.Table.{MessageTable, told}
 use Rattle.drawing.specs.declared.node.Mark.{Mark}
-use Rattle.drawing.specs.declared.node.Mark.TheVariants.{Honest, Traitor}
+use Rattle.drawing.specs.declared.node.Mark.TheVariants.{Honest, Lie, Traitor}
 use Rattle.drawing.specs.declared.node.Extent.{Extent}
 use Rattle.drawing.specs.declared.node.Extent.TheVariants.{Open}
 use Rattle.drawing.specs.declared.node.View.{View}
@@ -17,11 +18,26 @@ is_open _ = false
 
 -- the view one level deeper
 abbrev pub deeper : View → View
-deeper view = record { depth = view.depth - 1; folds = view.folds }
+deeper view = record { depth = view.depth - 1; folds = view.folds; order = view.order }
+
+-- the view of a campaign in which the commander was to tell this order
+abbrev pub ordered : ℕ → View → View
+ordered order view = record { depth = view.depth; folds = view.folds; order = Some order }
+
+-- the mark of what a commander told who is named: a lie, where it is known to be another order than his own
+abbrev pub commander_mark : Option ℕ → ℕ → Option ℕ → Mark
+commander_mark None commander told = Traitor
+commander_mark (Some order) commander told = if is_told order told then Honest else Lie commander order
 
 -- the mark of the commander's own word
-abbrev pub root_mark : List ℕ → ℕ → Mark
-root_mark traitors commander = if on traitors commander then Traitor else Honest
+abbrev pub root_mark : List ℕ → Option ℕ → ℕ → Option ℕ → Mark
+root_mark traitors order commander told = if on traitors commander then commander_mark order commander told else Honest
+
+-- what is said of the commander's own word to p
+abbrev pub root_node : MessageTable → List ℕ → View → ℕ → Node
+root_node t traitors view p =
+    node_at t traitors view (root_mark traitors view.order t.commander (told t.messages (t.commander ∷ []) p)) t.bound
+    (t.commander ∷ []) p
 
 -- a label, and those below it, if they are shown
 abbrev pub with_those : Node → List Node → List Node
@@ -43,5 +59,5 @@ nodes_by t traitors view k w j p = with_those (node_at t traitors view (mark_at 
 -- all that are shown, the commander's first
 unfoldable pub nodes_of : MessageTable → List ℕ → View → ℕ → List Node
 nodes_of t traitors view p =
-    with_those (node_at t traitors view (root_mark traitors t.commander) t.bound (t.commander ∷ []) p)
+    with_those (root_node t traitors view p)
     (nodes_below t traitors (deeper view) t.bound (t.commander ∷ []) p)

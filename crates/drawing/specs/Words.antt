@@ -1,5 +1,5 @@
 -- What is said of a label, in words: each phrase but the first behind a stop.
-use Rattle.std.specs.Prelude.{ℕ, List, [], ◌++◌, codes, Option}
+use Rattle.std.specs.Prelude.{ℕ, List, [], ◌++◌, codes, None, Option}
 use Rattle.std.specs.Fmt.{decimal}
 use Rattle.book.specs.Explained.{dotted, order_words}
 use Rattle.drawing.specs.declared.node.Outcome.{Outcome}
@@ -12,6 +12,11 @@ use Rattle.drawing.specs.declared.node.Node.{Node}
 
 abbrev pub told_words : Option ℕ → List ℕ
 told_words told = codes "told " ++ order_words told
+
+-- how nothing counts, where there is no list
+abbrev pub counted_words : Outcome → Option ℕ → List ℕ
+counted_words Told None = codes ", so 0"
+counted_words outcome told = []
 
 abbrev pub outcome_words : List ℕ → Outcome → List ℕ
 outcome_words stop Told = []
@@ -31,8 +36,8 @@ extent_words stop (Folded count) = stop ++ decimal count ++ codes " below told t
 extent_words stop (Cut count) = stop ++ decimal count ++ codes " below not shown"
 
 abbrev pub words : List ℕ → Node → List ℕ
-words stop node = told_words node.told ++ outcome_words stop node.outcome ++ mark_words stop node.mark
-    ++ extent_words stop node.extent
+words stop node = told_words node.told ++ counted_words node.outcome node.told ++ outcome_words stop node.outcome
+    ++ mark_words stop node.mark ++ extent_words stop node.extent
 
 -- a label with what is said of it, on one line
 abbrev pub said : Node → List ℕ

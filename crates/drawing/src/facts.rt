@@ -96,7 +96,7 @@ pub(crate) fn is_named(traitors: &[u8], general: u8) -> bool
 }
 
 /// Whether this order was told.
-fn is_told(order: u32, told: Option<u32>) -> bool
+pub(crate) fn is_told(order: u32, told: Option<u32>) -> bool
     ensures { result ≡ is_told order told }
 {
     match told {

@@ -17,9 +17,9 @@ pub enum Outcome {
 /// How far the word of a label's last general is to be trusted.
 #[derive(Clone, Copy, Debug, PartialEq, Eq, Drop)]
 pub enum Mark {
-    /// He is not named as a traitor, or told what he took.
+    /// He is not named as a traitor, or told what he took: the commander, his order.
     Honest,
-    /// He is the commander, and named as a traitor.
+    /// He is the commander, and named as a traitor, and his order is not known.
     Traitor,
     /// This general is named as a traitor, and took this order, but told another one, or nothing.
     Lie(u8, u32),
@@ -38,13 +38,15 @@ pub enum Extent {
     Cut(u32),
 }
 
-/// How much of a tree is shown.
+/// How much of a tree is shown, and what is known of the commander.
 #[derive(Clone, Copy, Debug, PartialEq, Eq, Drop)]
 pub struct View {
     /// How many levels below the commander's, of 0 to 4.
     pub depth: u8,
     /// Whether labels are folded into one above them, where all tell the same.
     pub folds: bool,
+    /// The order that he was to tell, where it is known.
+    pub order: Option<u32>,
 }
 
 /// How the lines between labels are drawn in a text.

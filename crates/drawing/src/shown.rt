@@ -1,9 +1,9 @@
 //! The labels of a lieutenant's tree that are shown, each before those that go on from it.
 ghost use Rattle.std.specs.Prelude.{◌≡◌, ◌≢◌, ◌≤◌, ◌<◌, ◌+◌, ◌++◌, length, true, IfOk, OnOk};
 ghost use Rattle.book.specs.Grammar.{is_place};
-ghost use Rattle.drawing.specs.Shown.{deeper, is_open, nodes_below, nodes_of, root_mark, with_those};
+ghost use Rattle.drawing.specs.Shown.{deeper, is_open, nodes_below, nodes_of, ordered, root_mark, root_node, with_those};
 
-use crate::facts::{is_named, mark_at, node_at};
+use crate::facts::{is_named, is_told, mark_at, node_at};
 use crate::node::{Extent, Mark, Node, View};
 use book::Heard;
 use label::Label;
@@ -29,16 +29,7 @@ pub fn nodes<H: Heard>(
 {
     let commander = table.commander();
     let relays = table.bound();
-    let mark = root_mark(traitors, commander);
-    let root = node_at(
-        table,
-        traitors,
-        view,
-        general,
-        Label::of(commander),
-        mark,
-        relays,
-    );
+    let root = root_node(table, traitors, view, general);
     let label = Label::of(commander);
     let mut nodes = Vec::new(alloc);
     push_with(
@@ -47,14 +38,53 @@ pub fn nodes<H: Heard>(
     Ok(nodes)
 }
 
-/// The mark of the commander's own word, where these generals are named as traitors.
-pub fn root_mark(traitors: &[u8], commander: u8) -> Mark
-    ensures { result ≡ root_mark traitors.now commander }
+/// What is said of the commander's own word to a lieutenant, where these generals are named as traitors.
+pub fn root_node<H: Heard>(table: &H, traitors: &[u8], view: View, general: u8) -> Node
+    requires general { general < (H.seen table.now).generals }
+    requires lieutenant { general ≢ (H.seen table.now).commander }
+    ensures { result ≡ root_node (H.seen table.now) traitors.now view general }
 {
-    if is_named(traitors, commander) {
-        Mark::Traitor
-    } else {
-        Mark::Honest
+    let commander = table.commander();
+    let told = table.told(&Label::of(commander), general);
+    let mark = root_mark(traitors, view.order, commander, told);
+    node_at(
+        table,
+        traitors,
+        view,
+        general,
+        Label::of(commander),
+        mark,
+        table.bound(),
+    )
+}
+
+/// The mark of what the commander told, where these generals are named as traitors, and his order may be known.
+fn root_mark(traitors: &[u8], order: Option<u32>, commander: u8, told: Option<u32>) -> Mark
+    ensures { result ≡ root_mark traitors.now order commander told }
+{
+    if !is_named(traitors, commander) {
+        return Mark::Honest;
+    }
+    match order {
+        None => Mark::Traitor,
+        Some(order) => {
+            if is_told(order, told) {
+                Mark::Honest
+            } else {
+                Mark::Lie(commander, order)
+            }
+        }
+    }
+}
+
+/// The view of a campaign in which the commander was to tell this order.
+pub fn ordered(order: u32, view: View) -> View
+    ensures { result ≡ ordered order view }
+{
+    View {
+        depth: view.depth,
+        folds: view.folds,
+        order: Some(order),
     }
 }
 
@@ -72,6 +102,7 @@ pub fn deeper(view: View) -> View
     View {
         depth: view.depth.saturating_sub(1),
         folds: view.folds,
+        order: view.order,
     }
 }
 

@@ -1,6 +1,6 @@
 //! What is said of a label, in words.
 ghost use Rattle.std.specs.Prelude.{◌≡◌, ◌++◌, string_bytes, OnOk};
-ghost use Rattle.drawing.specs.Words.{extent_words, mark_words, outcome_words, said, told_words, words};
+ghost use Rattle.drawing.specs.Words.{counted_words, extent_words, mark_words, outcome_words, said, told_words, words};
 
 use crate::node::{Extent, Mark, Node, Outcome};
 use crate::places::put_label;
@@ -24,6 +24,7 @@ pub(crate) fn put_words(out: &mut String, stop: &str, node: &Node) -> Result<(),
     ensures { OnOk result (string_bytes out.new ≡ string_bytes out.old ++ words stop.now node.now) }
 {
     put_told(out, node.told)?;
+    put_counted(out, node.outcome, node.told)?;
     put_outcome(out, stop, node.outcome)?;
     put_mark(out, stop, node.mark)?;
     put_extent(out, stop, node.extent)
@@ -36,6 +37,16 @@ fn put_told(out: &mut String, told: Option<u32>) -> Result<(), AllocError>
     match told {
         Some(order) => write!(out, "told {order}"),
         None => out.push_str("told nothing"),
+    }
+}
+
+/// Adds how nothing counts, where there is no list.
+fn put_counted(out: &mut String, outcome: Outcome, told: Option<u32>) -> Result<(), AllocError>
+    ensures { OnOk result (string_bytes out.new ≡ string_bytes out.old ++ counted_words outcome told) }
+{
+    match (outcome, told) {
+        (Outcome::Told, None) => out.push_str(", so 0"),
+        _ => Ok(()),
     }
 }
 

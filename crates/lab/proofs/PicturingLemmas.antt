@@ -3,6 +3,7 @@ use Rattle.std.proofs.Common.{ℕ, ◌≡◌, ◌∙◌, ◌++◌, Bool, true, f
 use Rattle.book.specs.Grammar.{table_told}
 use Rattle.book.specs.Table.{MessageTable}
 use Rattle.drawing.specs.Drawn.{DrawsTable, drawn}
+use Rattle.drawing.specs.Shown.{ordered}
 use Rattle.drawing.specs.declared.form.Form.{Form}
 use Rattle.drawing.specs.declared.node.View.{View}
 use Rattle.retold.specs.Retold.{table_of, traitors_of}
@@ -19,7 +20,7 @@ module _ (text traitors : List ℕ) (view : View) (form : Form) (general : ℕ) 
   pub of_table : is_toml text ≡ false → DrawsTable text traitors view form general picture → IsTreeIn (is_toml text) text traitors view form general picture
   of_table none draws = subst (λ (own : Bool). IsTreeIn own text traitors view form general picture) (sym none) draws
 
-  pub of_campaign : (s : Scenario) → is_toml text ≡ true → Tells text s → DrawsTable (table_of (played s [])) (traitors_of s ++ traitors) view form general picture
+  pub of_campaign : (s : Scenario) → is_toml text ≡ true → Tells text s → DrawsTable (table_of (played s [])) (traitors_of s ++ traitors) (ordered s.order view) form general picture
       → IsTreeIn (is_toml text) text traitors view form general picture
   of_campaign s is tells draws = subst (λ (own : Bool). IsTreeIn own text traitors view form general picture) (sym is) (s, tells, draws)
 
@@ -27,12 +28,13 @@ module _ (text traitors : List ℕ) (view : View) (form : Form) (general : ℕ) 
   is_drawn c t told draws = (t, told, draws)
 
   -- of the campaign's own chronicle, where its own traitors are named besides
-  pub of_same : (s : Scenario) (c : Chronicle) (own all : List ℕ) → c ≡ played s [] → own ≡ traitors_of s → all ≡ own ++ traitors
-      → DrawsTable (table_of c) all view form general picture → DrawsTable (table_of (played s [])) (traitors_of s ++ traitors) view form general picture
-  of_same s c own all same are is drawn =
+  pub of_same : (s : Scenario) (c : Chronicle) (own all : List ℕ) (seen : View) → c ≡ played s [] → own ≡ traitors_of s → all ≡ own ++ traitors → seen ≡ ordered s.order view
+      → DrawsTable (table_of c) all seen form general picture → DrawsTable (table_of (played s [])) (traitors_of s ++ traitors) (ordered s.order view) form general picture
+  of_same s c own all seen same are is known drawn =
       let marked : all ≡ traitors_of s ++ traitors = is ∙ ap (λ (ts : List ℕ). ts ++ traitors) are in
-      subst (λ (ts : List ℕ). DrawsTable (table_of (played s [])) ts view form general picture) marked
-      (subst (λ (x : Chronicle). DrawsTable (table_of x) all view form general picture) same drawn)
+      subst (λ (v : View). DrawsTable (table_of (played s [])) (traitors_of s ++ traitors) v form general picture) known
+      (subst (λ (ts : List ℕ). DrawsTable (table_of (played s [])) ts seen form general picture) marked
+      (subst (λ (x : Chronicle). DrawsTable (table_of x) all seen form general picture) same drawn))
 
 pub not_drawn : (general : ℕ) (traitors text : List ℕ) (refusal : Refusal) (toml : Bool) → is_toml text ≡ toml → RefusesTreeIn toml general traitors text refusal → RefusesTree general traitors text refusal
 not_drawn general traitors text refusal toml is refuses = subst (λ (own : Bool). RefusesTreeIn own general traitors text refusal) (sym is) refuses

@@ -1,8 +1,9 @@
 -- What is drawn of a message table.
-use Rattle.std.specs.Prelude.{ℕ, Bool, true, false, List, [], ◌++◌, is_some}
+use Rattle.std.specs.Prelude.{ℕ, Bool, true, false, List, [], ◌++◌, None, is_some}
 use Rattle.command_line.specs.declared.tasks.Drawing.{Drawing}
 use Rattle.command_line.specs.declared.tasks.Drawing.TheVariants as drawings
 use Rattle.drawing.specs.Drawn.{DrawsTable}
+use Rattle.drawing.specs.Shown.{ordered}
 use Rattle.drawing.specs.declared.form.Form.{Form}
 use Rattle.drawing.specs.declared.form.Form.TheVariants.{Lines, Graph, Svg}
 use Rattle.drawing.specs.declared.node.Style.TheVariants.{Ascii, Boxes}
@@ -25,14 +26,15 @@ abbrev pub is_toml : List ℕ → Bool
 is_toml text = is_some (parse_document text)
 
 -- what the general was told by a message table, or by the letters of the oral campaign that a text tells, without a
--- schedule; drawn with these named as traitors, and of a campaign with its own besides
+-- schedule; drawn with these named as traitors, and of a campaign with its own besides, and as one whose order is known
 abbrev pub IsTreeIn : Bool → List ℕ → List ℕ → View → Form → ℕ → List ℕ → Type 0
 IsTreeIn false text named view form general picture = DrawsTable text named view form general picture
 IsTreeIn true text named view form general picture =
     (s : Scenario) × Tells text s
-    × DrawsTable (table_of (played s [])) (traitors_of s ++ named) view form general picture
+    × DrawsTable (table_of (played s [])) (traitors_of s ++ named) (ordered s.order view) form general picture
 
 -- the file tells a message table or an oral campaign, and this is what the general was told, drawn so far
 abbrev pub Pictures : ℕ → List ℕ → Drawing → ℕ → Bool → List ℕ → List ℕ → Type 0
 Pictures general named drawing depth folded first text =
-    IsTreeIn (is_toml first) first named (record { depth = depth; folds = folded }) (form_of drawing) general text
+    IsTreeIn (is_toml first) first named (record { depth = depth; folds = folded; order = None }) (form_of drawing)
+    general text

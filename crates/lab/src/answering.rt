@@ -106,6 +106,7 @@ pub fn answer(alloc: Global, task: &Task, bytes: &[u8]) -> Result<FirstAnswer, R
             let view = View {
                 depth: *depth,
                 folds: *folded,
+                order: None,
             };
             let text = as_text(bytes)?;
             Ok(FirstAnswer::Text(pictured(

@@ -1,5 +1,6 @@
 ghost use Rattle.std.specs.Prelude.{◌≡◌, ◌++◌, [], true, false, IfErr, IfOk, OnOk, string_bytes};
 ghost use Rattle.drawing.specs.Drawn.{DrawsTable};
+ghost use Rattle.drawing.specs.Shown.{ordered};
 ghost use Rattle.lab.specs.Campaigns.{played};
 ghost use Rattle.lab.specs.Picturing.{IsTreeIn, form_of, is_toml};
 ghost use Rattle.lab.specs.Refusals.{RefusesScenario, RefusesTree, RefusesTreeIn};
@@ -11,7 +12,7 @@ use crate::deciding::table_in;
 use crate::refusal::Refusal;
 use crate::strangers::know_tree;
 use command_line::Drawing;
-use drawing::{Form, Style, View, drawn, tree_drawn};
+use drawing::{Form, Style, View, drawn, ordered, tree_drawn};
 use retold::{hearing, told_table, traitors};
 use round::Scenario;
 use std::alloc::{AllocError, Global};
@@ -117,9 +118,10 @@ fn campaign_pictured(
     general: u8,
 ) -> Result<String, AllocError>
     ensures { IfOk result (λ picture. DrawsTable (table_of (played scenario []))
-        (traitors_of scenario ++ named.now) view form general (string_bytes picture)) }
+        (traitors_of scenario ++ named.now) (ordered scenario.order view) form general (string_bytes picture)) }
 {
     scenario.recall();
+    let view = ordered(scenario.order(), view);
     let mut all = traitors(alloc, &scenario)?;
     all.extend_from_slice(named)?;
     let schedule = Schedule {

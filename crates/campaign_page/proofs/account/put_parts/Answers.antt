@@ -2,7 +2,7 @@ use Rattle.std.proofs.Common.{◌++◌}
 use Rattle.std.specs.Prelude.{option_map}
 use Rattle.std.specs.String.{string_bytes}
 use Rattle.retold.specs.Retold.{traitors_of}
-use Rattle.campaign_page.specs.Account.{accesses_part, chronicle_part, lieutenants_part, parts, picture_part, programs_part, scenario_part, schedule_part, verdict_part}
+use Rattle.campaign_page.specs.Account.{accesses_part, chronicle_part, lieutenants_part, parts, picture_part, programs_part, scenario_part, schedule_part, verdict_part, view_of}
 use Rattle.campaign_page.proofs.ChainLemmas.{chained}
 use Rattle.campaign_page.proofs.account.put_parts.Goals as goal
 
@@ -16,7 +16,7 @@ returns g c =
     let time = schedule_part (option_map (λ s. s.now) c.args.schedule) in
     let two = programs_part told.scenario in
     let three = picture_part t told in
-    let four = lieutenants_part t (traitors_of told.scenario) in
+    let four = lieutenants_part t (traitors_of told.scenario) (view_of told.scenario) in
     let five = accesses_part told.accesses in
     let six = chronicle_part told in
     let seven = verdict_part told.verdict in
