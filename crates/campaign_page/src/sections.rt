@@ -122,7 +122,13 @@ pub(crate) fn put_lieutenants<H: Heard>(
 {
     let traitors = traitors(alloc, chronicle.scenario())?;
     put_heading(out, lieutenants_heading())?;
-    put_each_lieutenant(alloc, out, table, traitors.as_slice(), view_of(chronicle.scenario()))
+    put_each_lieutenant(
+        alloc,
+        out,
+        table,
+        traitors.as_slice(),
+        view_of(chronicle.scenario()),
+    )
 }
 
 /// Adds that of each lieutenant.

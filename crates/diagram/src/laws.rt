@@ -12,8 +12,8 @@ pub fn only_traitors_differ()
     ensures { OnlyTraitorsDiffer }
 {}
 
-/// There is one stroke for each round, sender, receiver and order, and whether an honest relay would tell so, as wide as
-/// the labels of which it was told.
+/// There is one stroke for each round, sender, receiver and order, and whether an honest relay would tell so, as wide
+/// as the labels of which it was told.
 pub fn strokes_are_exact()
     ensures { StrokesAreExact }
 {}
