@@ -1,3 +1,4 @@
+use crate::kind::Kind;
 use semantics::Request;
 
 /// How a program goes on after a call.
@@ -12,8 +13,8 @@ pub(crate) enum Flow {
 /// How a program goes on after an instruction.
 #[derive(Clone, Copy, Debug, PartialEq, Eq)]
 pub(crate) enum Stride {
-    /// It goes on at the unit.
-    Onward(usize),
+    /// It goes on at the unit; what was done is of this kind.
+    Onward(usize, Kind),
     /// It calls the helper of this number.
     Call(i32),
     /// It exits.

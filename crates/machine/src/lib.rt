@@ -7,8 +7,10 @@ mod arithmetic;
 mod calls;
 mod execution;
 mod flow;
+mod kind;
 mod registers;
 mod replies;
+mod rows;
 mod stop;
 mod tag;
 
