@@ -36,6 +36,14 @@ pub fn compared(width: Width, condition: Condition, a: u64, b: u64) -> bool
 {
     match width {
         Width::W64 => compare64(condition, a, b),
-        Width::W32 => compare32(condition, a, b),
+        Width::W32 => narrow_compared(condition, a, b),
     }
+}
+
+/// [`compared`] of 32 bits. It stands once.
+#[inline(never)]
+fn narrow_compared(condition: Condition, a: u64, b: u64) -> bool
+    ensures { result ≡ compared Width.W32 condition a b }
+{
+    compare32(condition, a, b)
 }
