@@ -1,0 +1,1 @@
+fn main(){ println!("cargo:rustc-link-search=/usr/lib/x86_64-linux-gnu"); println!("cargo:rustc-link-search=/tmp/interp/lib"); println!("cargo:rerun-if-changed=/tmp/interp/lib/libstepper.a"); println!("cargo:rustc-link-lib=rte_bpf"); println!("cargo:rustc-link-lib=rte_eal"); println!("cargo:rustc-link-lib=static=stepper"); println!("cargo:rustc-link-lib=static=libc_c"); }
