@@ -1,3 +1,4 @@
 mod Going
 mod LeastLemmas
 mod SumLemmas
+pub mod BrokenLemmas
