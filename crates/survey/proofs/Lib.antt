@@ -10,3 +10,4 @@ pub mod Cuts
 pub mod Heads
 pub mod PartLemmas
 pub mod Walks
+pub mod Written

@@ -29,7 +29,7 @@ same_lines l m x y h k e =
     let rests : 10 ∷ x ≡ 10 ∷ y = sym (from-append feed a 10 x h.free refl) ∙ (ap (from feed) both ∙ from-append feed b 10 y k.free refl) in
     (h.whole ∙ (ap (λ (l : List ℕ). l ++ 10 ∷ []) fronts ∙ sym k.whole), ap (drop 1) rests)
 
-member_line : (front w behind : List ℕ) → IsUnfed front → IsUnfed w → IsLine behind → IsLine (member front w behind)
+pub member_line : (front w behind : List ℕ) → IsUnfed front → IsUnfed w → IsLine behind → IsLine (member front w behind)
 member_line front w behind h k l =
     record {
       front = front ++ 58 ∷ (w ++ l.front);
