@@ -1,5 +1,5 @@
 -- Parts of a survey, line by line.
-use Rattle.std.proofs.Common.{ℕ, suc, ◌+◌, ◌<◌, ◌≤◌, ◌≡◌, ◌≢◌, ◌^◌, Bool, true, false, cond, List, [], ◌∷◌, ◌++◌, length, take, refl, sym, ap, subst, ◌∙◌, ⊎_elim, arith, append_assoc, append-nil, length-append, Option, None, Some}
+use Rattle.std.proofs.Common.{ℕ, suc, ◌+◌, ◌<◌, ◌≤◌, ◌≡◌, ◌≢◌, Bool, true, false, cond, List, [], ◌∷◌, ◌++◌, length, take, refl, sym, ap, subst, ◌∙◌, ⊎_elim, arith, append_assoc, append-nil, length-append, Option, None, Some}
 use Rattle.std.specs.Prelude.{◌==◌, not, flat_map, min, IsTrue}
 use Rattle.std.proofs.lemmas.Bool.{cases_lt, and_from, and_parts}
 use Rattle.std.proofs.lemmas.List.{take_all}
@@ -9,9 +9,8 @@ use Rattle.text.specs.Parts.{until}
 use Rattle.text.specs.Stop.{feed}
 use Rattle.survey.specs.declared.finding.Finding.{Finding}
 use Rattle.survey.specs.declared.parts.PartError.{PartError}
-use Rattle.survey.specs.Heads.{is_head}
 use Rattle.survey.specs.Lines.{line_text}
-use Rattle.survey.specs.Parts.{Adds, AddsAll, AreOf, IsFaulty, IsFurther, IsHeadLine, IsLine, IsOf, IsReadOn, IsSized, IsUnfed, IsWrong, StopsAt, found_in, row_text, cut_off, unknown, foreign, earlier, later}
+use Rattle.survey.specs.Parts.{Adds, AddsAll, AreOf, IsFaulty, IsHeadLine, IsLine, IsOf, IsReadOn, IsSized, IsUnfed, IsWrong, StopsAt, found_in, row_text, cut_off, unknown, foreign, earlier, later}
 
 -- a line up to its line feed, and with it
 same_ten : (c : ℕ) → c == 10 ≡ true → c ≡ 10

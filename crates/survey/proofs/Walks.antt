@@ -1,7 +1,7 @@
 -- A part is read in one way, and what is right in it is no fault.
-use Rattle.std.proofs.Common.{ℕ, suc, ◌+◌, ◌<◌, ◌≤◌, ◌≡◌, ◌≢◌, ◌^◌, Bool, true, false, List, [], ◌∷◌, ◌++◌, length, drop, refl, sym, ap, subst, ◌∙◌, arith, append_assoc, append-nil, length-append, Option, None, Some, codes}
+use Rattle.std.proofs.Common.{ℕ, ◌+◌, ◌<◌, ◌≡◌, ◌≢◌, ◌^◌, Bool, true, false, List, [], ◌∷◌, ◌++◌, length, drop, refl, sym, ap, subst, ◌∙◌, arith, append_assoc, append-nil, length-append, Option, None, Some, codes}
 use Rattle.std.specs.Prelude.{◌==◌, not, decimal, flat_map, IfErr, IfSome, OnOk, Result, Ok, Err}
-use Rattle.std.specs.List.{AllByRecursion, list_all}
+use Rattle.std.specs.List.{AllByRecursion}
 use Rattle.std.proofs.lemmas.Bool.Decides.{nat_tests}
 use Rattle.text.specs.Parts.{before, from}
 use Rattle.text.specs.Stop.{feed, is_within}
@@ -123,7 +123,7 @@ walk head (r ∷ rows) (q ∷ all) rest h a b e =
     let c = one_of IsCampaign r rows a in
     let d = one_of IsCampaign q all b in
     let both = same_lines (row_text head r) (row_text head q) (flat_map (row_text head) rows ++ rest) (flat_map (row_text head) all) (row_line head r h c.0) (row_line head q h d.0)
-        (sym (append_assoc (row_text head r) (flat_map (row_text head) rows) rest) ∙ e) in
+    (sym (append_assoc (row_text head r) (flat_map (row_text head) rows) rest) ∙ e) in
     let w = walk head rows all rest h c.1 d.1 both.1 in
     let is = same_row head r q h c.0 d.0 both.0 in
     record { more = w.more; split = λ i. sym is i ∷ w.split i; left = w.left }

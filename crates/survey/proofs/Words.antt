@@ -1,6 +1,5 @@
 -- How the words of a line are found, and what is found by them: that lines that are alike tell the same.
-use Rattle.std.specs.Prelude.{ℕ, ◌^◌, nat_lt, Bool, true, false, if◌then◌else◌, List, drop, bytes_eq, codes, Option, None, Some}
-use Rattle.text.specs.Number.{decimal_of}
+use Rattle.std.specs.Prelude.{ℕ, ◌^◌, Bool, true, false, if◌then◌else◌, List, drop, bytes_eq, codes, Option, None, Some}
 use Rattle.text.specs.Options.{◌>>=◌}
 use Rattle.text.specs.Parts.{before, from}
 use Rattle.text.specs.Stop.{colon, comma}

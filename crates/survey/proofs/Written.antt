@@ -1,5 +1,5 @@
 -- What is written of a family's campaigns is a part.
-use Rattle.std.proofs.Common.{ℕ, ◌≡◌, ◌<◌, ◌^◌, List, [], ◌∷◌, ◌++◌, map, refl, sym, ap, arith, codes, Option, None, Some}
+use Rattle.std.proofs.Common.{ℕ, ◌≡◌, ◌<◌, ◌^◌, List, [], ◌∷◌, ◌++◌, map, refl, ap, arith, codes, Option, None, Some}
 use Rattle.std.specs.Prelude.{decimal, flat_map, IfSome}
 use Rattle.combine.specs.declared.chosen.Rule.TheVariants.{Majority, Median}
 use Rattle.survey.specs.declared.finding.Finding.{Finding}
@@ -9,7 +9,7 @@ use Rattle.survey.specs.Family.{Family}
 use Rattle.survey.specs.Heads.{IsTold, adversary_word, head_text, manner_word, patience_word}
 use Rattle.survey.specs.Laws.{WrittenAreParts}
 use Rattle.survey.specs.Lines.{line_text}
-use Rattle.survey.specs.Parts.{IsHeadLine, IsLine, IsPart, IsUnfed, found_in, row_text}
+use Rattle.survey.specs.Parts.{IsHeadLine, IsLine, IsUnfed, found_in, row_text}
 use Rattle.survey.proofs.Walks.{decimal_unfed, member_line}
 
 manner_unfed : (m : Manner) → IsUnfed (manner_word m)
@@ -30,16 +30,16 @@ head_line f h free =
     record {
       begins = refl;
       line =
-        member_line (codes "{\"adversary\"") (adversary_word f.adversary) _ refl free
-        (member_line (codes ",\"bound_high\"") (decimal f.bound.high) _ refl (small_unfed f.bound.high h.bound.1)
-        (member_line (codes ",\"bound_low\"") (decimal f.bound.low) _ refl (small_unfed f.bound.low h.bound.0)
-        (member_line (codes ",\"generals_high\"") (decimal f.generals.high) _ refl (small_unfed f.generals.high h.generals.1)
-        (member_line (codes ",\"generals_low\"") (decimal f.generals.low) _ refl (small_unfed f.generals.low h.generals.0)
-        (member_line (codes ",\"line\"") (codes "\"family\"") _ refl refl
-        (member_line (codes ",\"manner\"") (manner_word f.manner) _ refl (manner_unfed f.manner)
-        (member_line (codes ",\"patience\"") (patience_word f.patience) _ refl (patience_unfed f.patience h.patience)
-        (member_line (codes ",\"traitors_high\"") (decimal f.traitors.high) _ refl (small_unfed f.traitors.high h.traitors.1)
-        (member_line (codes ",\"traitors_low\"") (decimal f.traitors.low) _ refl (small_unfed f.traitors.low h.traitors.0) end)))))))));
+          member_line (codes "{\"adversary\"") (adversary_word f.adversary) _ refl free
+          (member_line (codes ",\"bound_high\"") (decimal f.bound.high) _ refl (small_unfed f.bound.high h.bound.1)
+          (member_line (codes ",\"bound_low\"") (decimal f.bound.low) _ refl (small_unfed f.bound.low h.bound.0)
+          (member_line (codes ",\"generals_high\"") (decimal f.generals.high) _ refl (small_unfed f.generals.high h.generals.1)
+          (member_line (codes ",\"generals_low\"") (decimal f.generals.low) _ refl (small_unfed f.generals.low h.generals.0)
+          (member_line (codes ",\"line\"") (codes "\"family\"") _ refl refl
+          (member_line (codes ",\"manner\"") (manner_word f.manner) _ refl (manner_unfed f.manner)
+          (member_line (codes ",\"patience\"") (patience_word f.patience) _ refl (patience_unfed f.patience h.patience)
+          (member_line (codes ",\"traitors_high\"") (decimal f.traitors.high) _ refl (small_unfed f.traitors.high h.traitors.1)
+          (member_line (codes ",\"traitors_low\"") (decimal f.traitors.low) _ refl (small_unfed f.traitors.low h.traitors.0) end)))))))));
     }
 
 rows_text : (head : List ℕ) (found : List Finding) → flat_map line_text found ≡ flat_map (row_text head) (map Some found)

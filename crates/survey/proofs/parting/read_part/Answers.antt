@@ -1,4 +1,4 @@
-use Rattle.std.proofs.Common.{rules, ◌≡◌, ◌<◌, ◌^◌, true, false, refl, sym, ◌∙◌, subst, List, ℕ, arith}
+use Rattle.std.proofs.Common.{rules, ◌≡◌, true, sym, ◌∙◌, subst, List, ℕ, arith}
 use Rattle.std.proofs.lemmas.Result.{err_from_is_err_and, on_ok_weaker}
 use Rattle.survey.specs.declared.parts.PartError.{PartError}
 use Rattle.survey.specs.declared.parts.PartError.TheVariants.{Line, Family, Memory}

@@ -1,4 +1,4 @@
-use Rattle.std.proofs.Common.{◌≡◌, ◌^◌, ◌<◌, ◌∙◌, Some, arith}
+use Rattle.std.proofs.Common.{◌^◌, ◌∙◌, arith}
 use Rattle.survey.proofs.Rereading.{found_is, number_is_said, number_says}
 use Rattle.survey.proofs.reading.found_by.Goals as goal
 
