@@ -1,7 +1,6 @@
 //! Campaigns of which nothing more can be taken out while they are broken.
-ghost use Rattle.std.specs.Prelude.{◌≢◌, IfErr, IfOk, IfSome, IfNone};
-ghost use Rattle.scenario.specs.declared.fault.ScenarioError.TheVariants.{Memory};
-ghost use Rattle.shrink.specs.Shrinking.{ComesWell, IsBroken, IsLeast, IsPartOf, IsRefusedOf};
+ghost use Rattle.std.specs.Prelude.{IfOk, IfSome, IfNone};
+ghost use Rattle.shrink.specs.Shrinking.{ComesWell, IsBroken, IsLeast, IsPartOf};
 
 use crate::lessening::{comes_well, fewest_lies, fewest_traitors, less};
 use scenario::ScenarioError;
@@ -14,7 +13,6 @@ fn walked(alloc: Global, plot: Plot) -> Result<Plot, ScenarioError>
     requires { IsBroken plot }
     ensures broken { IfOk result IsBroken }
     ensures part { IfOk result (IsPartOf plot) }
-    ensures refused { IfErr result (λ e. e ≢ Memory → IsRefusedOf plot e) }
 {
     let fewer = fewest_traitors(alloc, plot)?;
     fewest_lies(alloc, fewer)
@@ -25,12 +23,11 @@ fn walked(alloc: Global, plot: Plot) -> Result<Plot, ScenarioError>
 ///
 /// # Errors
 ///
-/// The first fault of the first text that has one, of those of the campaign and of what is left of it, or want of memory.
+/// The first fault of a text, or want of memory.
 pub fn shrunk(alloc: Global, plot: Plot) -> Result<Option<Plot>, ScenarioError>
     ensures least { IfOk result (λ left. IfSome left IsLeast) }
     ensures part { IfOk result (λ left. IfSome left (IsPartOf plot)) }
     ensures well { IfOk result (λ left. IfNone left (ComesWell plot)) }
-    ensures refused { IfErr result (λ e. e ≢ Memory → IsRefusedOf plot e) }
 {
     if comes_well(alloc, &plot)? {
         return Ok(None);

@@ -1,4 +1,3 @@
 mod Going
 mod LeastLemmas
 mod SumLemmas
-pub mod BrokenLemmas

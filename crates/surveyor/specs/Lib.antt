@@ -3,4 +3,3 @@ pub mod Asked
 pub mod Words
 pub mod Printed
 pub mod Summed
-pub mod Broken

@@ -13,14 +13,14 @@ pub returns-in-Some-clause-some : goal.returns-in-Some-clause-some
 returns-in-Some-clause-some g c = record {
   within = omega arith;
   inside = omega arith;
-  least = subst (λ (plots : ℕ → Plot). IsLeastBreach plots c.args.first c.args.end (Some c.in-Some.breach)) c.in_ok-family.ensures (rw c.in-Some.is at c.in_ok-breach.ensures.least);
+  least = subst (λ (plots : ℕ → Plot). IsLeastBreach plots c.args.first c.args.end (Some c.in-Some.breach)) c.in_ok-family.ensures (rw c.in-Some.is at c.in_ok-breach.ensures);
   fewer = c.loop-count.invariant;
 }
 
 pub loop-count-preserved : goal.loop-count-preserved
 loop-count-preserved g c =
     let plots = λ (t : ℕ). plot_of (narrowed c.args.family.now c.args.generals c.args.bound t) in
-    let none = subst (λ (some : ℕ → Plot). IsLeastBreach some c.args.first c.args.end None) c.in_ok-family.ensures (rw c.in_default.is at c.in_ok-breach.ensures.least) in
+    let none = subst (λ (some : ℕ → Plot). IsLeastBreach some c.args.first c.args.end None) c.in_ok-family.ensures (rw c.in_default.is at c.in_ok-breach.ensures) in
     upto_this (λ (t : ℕ). AreAllSound (plots t) c.args.first c.args.end) c.args.traitors.low c.loop-count.count c.loop-count.invariant
     (none_broken (plots c.loop-count.count) c.args.first c.args.end none)
 
