@@ -9,5 +9,3 @@ pub mod Words
 pub mod Cuts
 pub mod Heads
 pub mod PartLemmas
-pub mod Walks
-pub mod Written

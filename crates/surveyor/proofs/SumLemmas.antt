@@ -21,7 +21,7 @@ headless bytes h found part = by part.rows part.led part.whole part.told
   where
     by : (rows : List (Option Finding)) → IsLed [] rows → bytes ≡ flat_map (row_text []) rows → found ≡ found_in rows → IsPart h bytes found
     by [] led whole told = record { rows = []; led = tt; whole = whole; told = told }
-    by (None ∷ rows) led whole told = absurd (let e = ap length led.line.whole in let l = length-append led.line.front (10 ∷ []) in omega arith)
+    by (None ∷ rows) led whole told = absurd (let e = ap length led.whole in let l = length-append led.front (10 ∷ []) in omega arith)
     by (Some f ∷ rows) led whole told = absurd led
 
 -- so many texts are parts of one survey, whatever its head, if they have none
@@ -47,11 +47,11 @@ one_told before head bytes first last count more old new one all read =
       texts = all.texts ++ bytes ∷ [];
       parts = all.parts ++ read.told ∷ [];
       each = λ h same. AllZip-append (IsPart h) all.texts (bytes ∷ []) all.parts (read.told ∷ [])
-          (all.each h (λ some. (let e = read.further.same some in same (λ none. some (sym e ∙ none)) ∙ e)))
-          (with_head head h bytes read.told same read.further.part, tt);
+          (all.each h (λ some. (let e = read.same some in same (λ none. some (sym e ∙ none)) ∙ e)))
+          (with_head head h bytes read.told same read.part, tt);
       named = (let l = length-append all.texts (bytes ∷ []) in let n = all.named in omega arith);
       whole = read.behind ∙ (ap (λ (l : List Finding). l ++ read.told) all.whole ∙ sym (joined_more all.parts read.told));
-      seeds = subst (λ (l : List Finding). AreOf first last l) (sym read.behind) (all_both (IsOf first last) old read.told all.seeds read.further.seeds);
+      seeds = subst (λ (l : List Finding). AreOf first last l) (sym read.behind) (all_both (IsOf first last) old read.told all.seeds read.seeds);
     }
 
 -- where no seed lacks and none is double, each is told once
