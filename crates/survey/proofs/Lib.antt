@@ -9,3 +9,5 @@ pub mod Words
 pub mod Cuts
 pub mod Heads
 pub mod PartLemmas
+pub mod Walks
+pub mod Written

@@ -3,3 +3,4 @@ pub mod Asked
 pub mod Words
 pub mod Printed
 pub mod Summed
+pub mod Broken
