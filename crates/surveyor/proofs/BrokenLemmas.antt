@@ -1,5 +1,5 @@
 -- What `--break` prints, entry by entry.
-use Rattle.std.proofs.Common.{ℕ, ◌+◌, ◌-◌, ◌<◌, ◌≤◌, ◌≡◌, Bool, true, false, List, [], ◌∷◌, ◌++◌, map, refl, sym, ap, subst, ◌∙◌, arith, append_assoc, append-nil, Option, None, Some}
+use Rattle.std.proofs.Common.{ℕ, ◌+◌, ◌-◌, ◌≤◌, ◌≡◌, Bool, true, false, List, [], ◌∷◌, ◌++◌, map, refl, sym, ap, subst, ◌∙◌, arith, append_assoc, append-nil, Option, None, Some}
 use Rattle.std.specs.Prelude.{flat_map, min, IfNone, IfSome}
 use Rattle.std.specs.List.{AllZip, range_with_len}
 use Rattle.std.specs.Io.KnownBytes.{Appends}
@@ -19,7 +19,7 @@ flat_more : {A : Type 0} (F : A → List ℕ) (xs : List A) (x : A) → flat_map
 flat_more F [] x = append-nil (F x)
 flat_more F (y ∷ xs) x = ap (λ (l : List ℕ). F y ++ l) (flat_more F xs x) ∙ sym (append_assoc (F y) (flat_map F xs) (F x))
 
-is_none : List Entry → Bool
+pub is_none : List Entry → Bool
 is_none [] = true
 is_none (e ∷ es) = false
 

@@ -1,5 +1,5 @@
 -- Whether each seed is told once.
-use Rattle.std.proofs.Common.{ℕ, ◌+◌, ◌<◌, ◌≤◌, ◌≡◌, ◌≢◌, Bool, true, false, cond, List, [], ◌∷◌, ◌++◌, length, map, refl, sym, ap, subst, ◌∙◌, arith, append_assoc, append-nil, Option, None, Some, ◌⊎◌, ⊎_elim, inl, inr}
+use Rattle.std.proofs.Common.{ℕ, ◌+◌, ◌<◌, ◌≤◌, ◌≡◌, ◌≢◌, Bool, true, false, cond, List, [], ◌∷◌, ◌++◌, length, refl, sym, ap, subst, ◌∙◌, arith, append_assoc, append-nil, Option, None, Some, ◌⊎◌, ⊎_elim, inl, inr}
 use Rattle.std.specs.Prelude.{nat_le, min, max, ◌==◌, ◌&&◌}
 use Rattle.std.specs.List.{fold}
 use Rattle.std.proofs.lemmas.Bool.{and_parts, cases_lt, eq-eqb, eqb-true, le-leb, leb-true}
@@ -8,7 +8,7 @@ use Rattle.std.proofs.lemmas.List.{map-append}
 use Rattle.std.proofs.lemmas.List.Sums.{sum_by_push}
 use Rattle.survey.specs.declared.finding.Finding.{Finding}
 use Rattle.survey.specs.Parts.{AreOf}
-use Rattle.survey_tables.specs.Covering.{AreApart, AreDoubles, AreHoles, is_in, is_within, seeds_in, times}
+use Rattle.survey_tables.specs.Covering.{AreApart, AreDoubles, AreHoles, is_in, seeds_in, times}
 use Rattle.survey_tables.specs.declared.stretch.Stretch.{Stretch}
 use Rattle.survey_tables.proofs.Exactness.{times_more}
 use Rattle.surveyor.specs.Summed.{AreEnds, IsAskedFor, IsCovered, IsCoveredBy, AreLeastAndGreatest, IsToldOf, span_of, with_seed}
@@ -23,7 +23,7 @@ still_told x found f h = let e = times_push x found f in omega (arith, e, h)
 now_told : (found : List Finding) (f : Finding) → IsToldOf f.seed (found ++ f ∷ [])
 now_told found f =
     let e = times_push f.seed found f in
-    let one : cond (f.seed == f.seed) 1 0 ≡ 1 = rw (eq-eqb f.seed f.seed refl) refl in
+    let one : 1 ≤ cond (f.seed == f.seed) 1 0 = rw (eq-eqb f.seed f.seed refl) (omega arith) in
     omega (arith, e, one)
 
 told_by : (x : ℕ) (found : List Finding) (f : Finding) (t : Bool) → (f.seed == x) ≡ t → 1 ≤ times x (seeds_in found) + cond t 1 0 → IsToldOf x found ⊎ (f.seed ≡ x)
@@ -140,11 +140,12 @@ no_doubles found (s ∷ ss) d apart once =
 -- a seed that is told is one of those that may be told
 told_within : (first last x : ℕ) (found : List Finding) → AreOf first last found → IsToldOf x found → (first ≤ x) × (x ≤ last)
 told_within first last x [] all told = absurd (omega (arith, told))
-told_within first last x (f ∷ found) all told = by (f.seed == x) refl (subst (λ (n : ℕ). 1 ≤ n) (times_more x f.seed (seeds_in found)) told)
+told_within first last x (f ∷ found) all told =
+    by (f.seed == x) refl (subst (λ (n : ℕ). 1 ≤ n) (times_more x f.seed (seeds_in found)) told) (λ h. told_within first last x found all.1 h)
   where
-    by : (t : Bool) → (f.seed == x) ≡ t → 1 ≤ cond t 1 0 + times x (seeds_in found) → (first ≤ x) × (x ≤ last)
-    by true e h = let same = eqb-true f.seed x e in let low = all.0.0 in let high = all.0.1 in (omega (arith, same, low), omega (arith, same, high))
-    by false e h = told_within first last x found all.1 (omega (arith, h))
+    by : (t : Bool) → (f.seed == x) ≡ t → 1 ≤ cond t 1 0 + times x (seeds_in found) → (IsToldOf x found → (first ≤ x) × (x ≤ last)) → (first ≤ x) × (x ≤ last)
+    by true e h more = let same = eqb-true f.seed x e in let low = all.0.0 in let high = all.0.1 in (omega (arith, same, low), omega (arith, same, high))
+    by false e h more = more (omega (arith, h))
 
 -- the status is 0 just where all are told once
 pub status_by : (seeds : Option (ℕ × ℕ)) (found : List Finding) (first last status : ℕ) (span : Option (ℕ × ℕ)) (holes doubles : List Stretch) → AreOf (span_of seeds).0 (span_of seeds).1 found → IsAskedFor seeds found span → span ≡ Some (first, last)

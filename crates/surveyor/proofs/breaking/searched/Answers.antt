@@ -1,4 +1,4 @@
-use Rattle.std.proofs.Common.{refl}
+use Rattle.std.proofs.Common.{◌+◌, refl}
 use Rattle.surveyor.proofs.BrokenLemmas.{searched_is}
 use Rattle.surveyor.proofs.breaking.searched.Goals as goal
 

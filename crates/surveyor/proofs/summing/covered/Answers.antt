@@ -1,6 +1,6 @@
 use Rattle.std.proofs.Common.{List, ◌∙◌, ap, length, sym}
 use Rattle.survey_tables.specs.declared.stretch.Stretch.{Stretch}
-use Rattle.surveyor.proofs.CoverLemmas.{none_asked, status_by}
+use Rattle.surveyor.proofs.CoverLemmas.{status_by}
 use Rattle.surveyor.proofs.summing.covered.Goals as goal
 
 pub returns : goal.returns
