@@ -1,12 +1,14 @@
 -- What is taken out makes a campaign smaller.
-use Rattle.std.proofs.Common.{ℕ, suc, ◌+◌, ◌<◌, ◌≤◌, ◌≡◌, List, ◌++◌, length, take, drop, get_or, ap, arith, add-one, Bool, true, false, subst, sym, ⊎_elim}
+use Rattle.std.proofs.Common.{ℕ, suc, ◌+◌, ◌<◌, ◌≤◌, ◌≡◌, length, take, drop, get_or, ap, arith, add-one, Bool, true, false, subst, sym, ⊎_elim}
 use Rattle.std.proofs.lemmas.Bool.{cases_lt}
 use Rattle.std.specs.Prelude.{sum_by, IfNone, IfSome, Option, None, Some}
-use Rattle.std.specs.List.{remove}
 use Rattle.std.proofs.lemmas.List.Edits.{length-remove}
 use Rattle.std.proofs.lemmas.List.Sums.{sum_by-append, sum_by-drop_more, sum_by-set, sum_by-take-drop}
+use Rattle.scenario.specs.declared.fault.ScenarioError.{ScenarioError}
+use Rattle.survey.specs.Judging.{IsRefused}
 use Rattle.survey.specs.Plot.{Plot, Traitor}
-use Rattle.shrink.specs.Shrinking.{Comes, ComesWell, IsBroken, IsLess, IsPartOf, IsStillBroken, without_lie, without_traitor, loyal, silent, whole, lessened, nobody, quieter, size, traitor_at}
+use Rattle.survey.specs.Wording.{plot_text}
+use Rattle.shrink.specs.Shrinking.{Comes, ComesWell, IsBroken, IsLess, IsPartOf, IsRefusedOf, IsStillBroken, without_lie, without_traitor, loyal, silent, whole, lessened, nobody, quieter, size, traitor_at}
 
 -- a traitor with his statements
 abbrev weight : Traitor → ℕ
@@ -68,3 +70,16 @@ less_then p q r s h =
     let smaller = less_size p s.less in
     let part = part_size q h in
     omega (arith, smaller, part)
+
+-- a text that is refused is that of a part
+pub refused_here : (p : Plot) (e : ScenarioError) → IsRefused (plot_text p) e → IsRefusedOf p e
+refused_here p e h = record { left = p; part = whole; refused = h }
+
+pub refused_traitor : (p q : Plot) (place : ℕ) (e : ScenarioError) → place < length p.traitors → q ≡ without_traitor p place → IsRefused (plot_text q) e → IsRefusedOf p e
+refused_traitor p q place e lt is h = record { left = q; part = lessened p q whole (subst (IsLess p) (sym is) (loyal place lt)); refused = h }
+
+pub refused_lie : (p q : Plot) (place index : ℕ) (e : ScenarioError) → place < length p.traitors → index < length (traitor_at p place).lies → q ≡ without_lie p place index → IsRefused (plot_text q) e → IsRefusedOf p e
+refused_lie p q place index e lt within is h = record { left = q; part = lessened p q whole (subst (IsLess p) (sym is) (silent place index lt within)); refused = h }
+
+pub refused_on : (p q : Plot) (e : ScenarioError) → IsPartOf p q → IsRefusedOf q e → IsRefusedOf p e
+refused_on p q e part h = record { left = h.left; part = part_on p q part h.part; refused = h.refused }

@@ -1,7 +1,9 @@
 -- The least of the campaigns that are left of many (own).
-use Rattle.std.specs.Prelude.{ℕ, ◌≡◌, ◌<◌, ◌≤◌, ◌==◌, nat_lt, Bool, true, false, cond, ◌&&◌, ◌||◌, List, length, sum_by, Option, None, Some, IfSome, MatchOption}
+use Rattle.std.specs.Prelude.{ℕ, ◌≡◌, ◌≢◌, ◌<◌, ◌≤◌, ◌==◌, nat_lt, Bool, false, cond, ◌&&◌, ◌||◌, List, length, sum_by, Option, None, Some, IfSome, MatchOption}
 use Rattle.std.specs.List.{All, AllZip, Contains}
 use Rattle.rayon.specs.Numbers.{nat_range}
+use Rattle.scenario.specs.declared.fault.ScenarioError.{ScenarioError}
+use Rattle.scenario.specs.declared.fault.ScenarioError.TheVariants.{Memory}
 use Rattle.survey.specs.declared.span.Span.{Span}
 use Rattle.survey.specs.Family.{Family}
 use Rattle.survey.specs.Plot.{Plot, Traitor}
@@ -10,7 +12,7 @@ use Rattle.survey.specs.declared.adversary.Adversary.{Adversary}
 use Rattle.survey.specs.declared.manner.Manner.{Manner}
 use Rattle.shrink.specs.declared.breach.Breach.{Breach}
 use Rattle.shrink.specs.declared.breach.Breaking.{Breaking}
-use Rattle.shrink.specs.Shrinking.{ComesWell, IsLeast, IsPartOf}
+use Rattle.shrink.specs.Shrinking.{ComesWell, IsLeast, IsPartOf, IsRefusedOf}
 
 -- how many statements the traitors have
 abbrev pub statements : Plot → ℕ
@@ -79,3 +81,22 @@ pub record IsBreaking (f : Family) (n m : ℕ) (span : Span) (first end : ℕ) (
 abbrev pub NoneBreaks : Family → ℕ → ℕ → Span → ℕ → ℕ → Type 0
 NoneBreaks f n m span first end =
     (t : ℕ) → span.low ≤ t → t ≤ span.high → AreAllSound (plot_of (narrowed f n m t)) first end
+
+-- a text of what is left of the campaign of this seed is refused so, but for want of memory
+abbrev pub IsRefusedBy : (ℕ → Plot) → ℕ → ScenarioError → Type 0
+IsRefusedBy plots seed e = e ≢ Memory → IsRefusedOf (plots seed) e
+
+-- of the campaign of one of these seeds
+pub record IsRefusedIn (plots : ℕ → Plot) (first end : ℕ) (e : ScenarioError) : Type 0 where
+  pub seed : ℕ
+  pub behind : first ≤ seed
+  pub before : seed < end
+  pub refused : IsRefusedOf (plots seed) e
+
+-- so it is with so many traitors of the span, of whom fewer break agreement in none of the campaigns
+pub record IsRefusedWith (f : Family) (n m : ℕ) (span : Span) (first end : ℕ) (e : ScenarioError) : Type 0 where
+  pub traitors : ℕ
+  pub within : span.low ≤ traitors
+  pub inside : traitors ≤ span.high
+  pub refused : IsRefusedIn (plot_of (narrowed f n m traitors)) first end e
+  pub fewer : (t : ℕ) → span.low ≤ t → t < traitors → AreAllSound (plot_of (narrowed f n m t)) first end

@@ -2,7 +2,8 @@
 use Rattle.std.specs.Prelude.{ℕ, ◌≡◌, ◌<◌, ◌+◌, Bool, true, false, [], length, sum_by, slice_set, slice_index_or}
 use Rattle.std.specs.List.{remove}
 use Rattle.world.specs.declared.verdict.Verdict.{Verdict}
-use Rattle.survey.specs.Judging.{IsJudged}
+use Rattle.scenario.specs.declared.fault.ScenarioError.{ScenarioError}
+use Rattle.survey.specs.Judging.{IsJudged, IsRefused}
 use Rattle.survey.specs.Plot.{Plot, Traitor}
 use Rattle.survey.specs.Sums.{is_sound}
 use Rattle.survey.specs.Wording.{plot_text}
@@ -72,3 +73,9 @@ pub record IsLeast (p : Plot) : Type 0 where
 pub record IsStillBroken (p q : Plot) : Type 0 where
   pub less : IsLess p q
   pub broken : IsBroken q
+
+-- the text of a campaign that is left of this one is refused so
+pub record IsRefusedOf (p : Plot) (e : ScenarioError) : Type 0 where
+  pub left : Plot
+  pub part : IsPartOf p left
+  pub refused : IsRefused (plot_text left) e

@@ -1,6 +1,9 @@
 //! Campaigns with a traitor or a statement less.
-ghost use Rattle.std.specs.Prelude.{◌≡◌, ◌<◌, IfOk, IfSome, IfNone, length};
-ghost use Rattle.shrink.specs.Shrinking.{AllLiesAreNeeded, Comes, ComesWell, IsBroken, IsPartOf, IsStillBroken, LiesAreNeeded, TraitorsAreNeeded, traitor_at, without_lie, without_traitor};
+ghost use Rattle.std.specs.Prelude.{◌≡◌, ◌≢◌, ◌<◌, IfErr, IfOk, IfSome, IfNone, length};
+ghost use Rattle.scenario.specs.declared.fault.ScenarioError.TheVariants.{Memory};
+ghost use Rattle.shrink.specs.Shrinking.{AllLiesAreNeeded, Comes, ComesWell, IsBroken, IsPartOf, IsRefusedOf, IsStillBroken, LiesAreNeeded, TraitorsAreNeeded, traitor_at, without_lie, without_traitor};
+ghost use Rattle.survey.specs.Judging.{IsRefused};
+ghost use Rattle.survey.specs.Wording.{plot_text};
 
 use crate::copying::copied;
 use scenario::ScenarioError;
@@ -30,7 +33,8 @@ fn without_lie(alloc: Global, plot: &Plot, place: usize, index: usize) -> Result
 
 /// Whether the loyal lieutenants of the campaign decide alike, and as a loyal commander has ordered.
 pub(crate) fn comes_well(alloc: Global, plot: &Plot) -> Result<bool, ScenarioError>
-    ensures { IfOk result (λ well. Comes well plot.now) }
+    ensures comes { IfOk result (λ well. Comes well plot.now) }
+    ensures refused { IfErr result (λ e. e ≢ Memory → IsRefused (plot_text plot.now) e) }
 {
     let text = plot_text(alloc, plot)?;
     let verdict = verdict_on(alloc, text.as_str())?;
@@ -42,6 +46,7 @@ fn less_traitor(alloc: Global, plot: &Plot, place: usize) -> Result<Option<Plot>
     requires { place < length plot.now.traitors }
     ensures some { IfOk result (λ less. IfSome less (IsStillBroken plot.now)) }
     ensures none { IfOk result (λ less. IfNone less (ComesWell (without_traitor plot.now place))) }
+    ensures refused { IfErr result (λ e. e ≢ Memory → IsRefusedOf plot.now e) }
 {
     let less = without_traitor(alloc, plot, place)?;
     if comes_well(alloc, &less)? {
@@ -61,6 +66,7 @@ fn less_lie(
     requires index { index < length (traitor_at plot.now place).lies }
     ensures some { IfOk result (λ less. IfSome less (IsStillBroken plot.now)) }
     ensures none { IfOk result (λ less. IfNone less (ComesWell (without_lie plot.now place index))) }
+    ensures refused { IfErr result (λ e. e ≢ Memory → IsRefusedOf plot.now e) }
 {
     let less = without_lie(alloc, plot, place, index)?;
     if comes_well(alloc, &less)? {
@@ -73,6 +79,7 @@ fn less_lie(
 fn fewer_traitors(alloc: Global, plot: &Plot) -> Result<Option<Plot>, ScenarioError>
     ensures some { IfOk result (λ less. IfSome less (IsStillBroken plot.now)) }
     ensures none { IfOk result (λ less. IfNone less (TraitorsAreNeeded plot.now)) }
+    ensures refused { IfErr result (λ e. e ≢ Memory → IsRefusedOf plot.now e) }
 {
     for place in 0..plot.traitors.len() {
         match less_traitor(alloc, plot, place)? {
@@ -88,6 +95,7 @@ fn fewer_lies_of(alloc: Global, plot: &Plot, place: usize) -> Result<Option<Plot
     requires { place < length plot.now.traitors }
     ensures some { IfOk result (λ less. IfSome less (IsStillBroken plot.now)) }
     ensures none { IfOk result (λ less. IfNone less (LiesAreNeeded plot.now place)) }
+    ensures refused { IfErr result (λ e. e ≢ Memory → IsRefusedOf plot.now e) }
 {
     for index in 0..plot.traitors[place].lies.len() {
         match less_lie(alloc, plot, place, index)? {
@@ -102,6 +110,7 @@ fn fewer_lies_of(alloc: Global, plot: &Plot, place: usize) -> Result<Option<Plot
 fn fewer_lies(alloc: Global, plot: &Plot) -> Result<Option<Plot>, ScenarioError>
     ensures some { IfOk result (λ less. IfSome less (IsStillBroken plot.now)) }
     ensures none { IfOk result (λ less. IfNone less (AllLiesAreNeeded plot.now)) }
+    ensures refused { IfErr result (λ e. e ≢ Memory → IsRefusedOf plot.now e) }
 {
     for place in 0..plot.traitors.len() {
         match fewer_lies_of(alloc, plot, place)? {
@@ -117,6 +126,7 @@ pub(crate) fn less(alloc: Global, plot: &Plot) -> Result<Option<Plot>, ScenarioE
     ensures some { IfOk result (λ less. IfSome less (IsStillBroken plot.now)) }
     ensures traitors { IfOk result (λ less. IfNone less (TraitorsAreNeeded plot.now)) }
     ensures lies { IfOk result (λ less. IfNone less (AllLiesAreNeeded plot.now)) }
+    ensures refused { IfErr result (λ e. e ≢ Memory → IsRefusedOf plot.now e) }
 {
     let fewer = fewer_traitors(alloc, plot)?;
     if fewer.is_some() {
@@ -130,6 +140,7 @@ pub(crate) fn fewest_traitors(alloc: Global, plot: Plot) -> Result<Plot, Scenari
     requires { IsBroken plot }
     ensures broken { IfOk result IsBroken }
     ensures part { IfOk result (IsPartOf plot) }
+    ensures refused { IfErr result (λ e. e ≢ Memory → IsRefusedOf plot e) }
 {
     let mut left = plot;
     let mut place = 0;
@@ -151,6 +162,7 @@ fn fewest_lies_of(alloc: Global, plot: Plot, place: usize) -> Result<Plot, Scena
     requires broken { IsBroken plot }
     ensures broken { IfOk result IsBroken }
     ensures part { IfOk result (IsPartOf plot) }
+    ensures refused { IfErr result (λ e. e ≢ Memory → IsRefusedOf plot e) }
 {
     let mut left = plot;
     let mut index = 0;
@@ -170,6 +182,7 @@ pub(crate) fn fewest_lies(alloc: Global, plot: Plot) -> Result<Plot, ScenarioErr
     requires { IsBroken plot }
     ensures broken { IfOk result IsBroken }
     ensures part { IfOk result (IsPartOf plot) }
+    ensures refused { IfErr result (λ e. e ≢ Memory → IsRefusedOf plot e) }
 {
     let mut left = plot;
     for place in 0..left.traitors.len() {

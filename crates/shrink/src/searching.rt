@@ -1,8 +1,9 @@
 //! The least of many broken campaigns.
-ghost use Rattle.std.specs.Prelude.{◌≡◌, ◌≤◌, IfOk, IfSome, IfNone};
+ghost use Rattle.std.specs.Prelude.{◌≡◌, ◌≢◌, ◌≤◌, IfErr, IfOk, IfSome, IfNone};
 ghost use Rattle.std.specs.List.{AllZip};
 ghost use Rattle.rayon.specs.Numbers.{nat_range};
-ghost use Rattle.shrink.specs.Breaches.{IsBreaking, IsLeastBreach, IsLeastOf, IsShrunk, NoneBreaks, better};
+ghost use Rattle.scenario.specs.declared.fault.ScenarioError.TheVariants.{Memory};
+ghost use Rattle.shrink.specs.Breaches.{IsBreaking, IsLeastBreach, IsLeastOf, IsRefusedBy, IsRefusedIn, IsRefusedWith, IsShrunk, NoneBreaks, better};
 ghost use Rattle.survey.specs.Plotting.{plot_of};
 
 use crate::breach::{Breach, Breaking};
@@ -21,7 +22,8 @@ use survey::{Family, Span, plot_of};
 ///
 /// The first fault of a text, or want of memory; so of every function here.
 pub fn breach_of(alloc: Global, family: &Family, seed: u64) -> Result<Option<Breach>, ScenarioError>
-    ensures { IfOk result (IsShrunk (plot_of family.now) seed) }
+    ensures shrunk { IfOk result (IsShrunk (plot_of family.now) seed) }
+    ensures refused { IfErr result (IsRefusedBy (plot_of family.now) seed) }
 {
     let plot = plot_of(alloc, family, seed)?;
     match shrunk(alloc, plot)? {
@@ -39,14 +41,16 @@ fn gathered<R: Threads + Sync>(
     first: u64,
     end: u64,
 ) -> Result<Result<Vec<Option<Breach>>, ScenarioError>, AllocError>
-    ensures { IfOk result (λ all. IfOk all
+    ensures shrunk { IfOk result (λ all. IfOk all
         (λ found. AllZip (IsShrunk (plot_of family.now)) (nat_range first end) found.items)) }
+    ensures refused { IfOk result (λ all. IfErr all (λ e. e ≢ Memory → IsRefusedIn (plot_of family.now) first end e)) }
 {
     (first..end)
         .into_par_iter()
         .map(
             |seed: u64| -> Result<Option<Breach>, ScenarioError>
-                ensures { IfOk result (IsShrunk (plot_of family.entry.now) seed) }
+                ensures { IfOk result (IsShrunk (plot_of family.entry.now) seed)
+                    × IfErr result (IsRefusedBy (plot_of family.entry.now) seed) }
             { breach_of(alloc, family, seed) },
         )
         .with_min_len(LEAST_PIECE)
@@ -64,7 +68,8 @@ pub fn breaches<R: Threads + Sync>(
     first: u64,
     end: u64,
 ) -> Result<Vec<Option<Breach>>, ScenarioError>
-    ensures { IfOk result (λ found. AllZip (IsShrunk (plot_of family.now)) (nat_range first end) found.items) }
+    ensures shrunk { IfOk result (λ found. AllZip (IsShrunk (plot_of family.now)) (nat_range first end) found.items) }
+    ensures refused { IfErr result (λ e. e ≢ Memory → IsRefusedIn (plot_of family.now) first end e) }
 {
     gathered(rt, alloc, family, first, end)?
 }
@@ -104,7 +109,8 @@ pub fn least_breach<R: Threads + Sync>(
     first: u64,
     end: u64,
 ) -> Result<Option<Breach>, ScenarioError>
-    ensures { IfOk result (IsLeastBreach (plot_of family.now) first end) }
+    ensures least { IfOk result (IsLeastBreach (plot_of family.now) first end) }
+    ensures refused { IfErr result (λ e. e ≢ Memory → IsRefusedIn (plot_of family.now) first end e) }
 {
     Ok(least(breaches(rt, alloc, family, first, end)?))
 }
@@ -125,6 +131,7 @@ pub fn breaking<R: Threads + Sync>(
     requires most { generals ≤ 13 }
     ensures some { IfOk result (λ found. IfSome found (IsBreaking family.now generals bound traitors first end)) }
     ensures none { IfOk result (λ found. IfNone found (NoneBreaks family.now generals bound traitors first end)) }
+    ensures refused { IfErr result (λ e. e ≢ Memory → IsRefusedWith family.now generals bound traitors first end e) }
 {
     for count in u16::from(traitors.low)..u16::from(traitors.high) + 1 {
         let count = count as u8;

@@ -1,6 +1,7 @@
 //! Campaigns of which nothing more can be taken out while they are broken.
-ghost use Rattle.std.specs.Prelude.{IfOk, IfSome, IfNone};
-ghost use Rattle.shrink.specs.Shrinking.{ComesWell, IsBroken, IsLeast, IsPartOf};
+ghost use Rattle.std.specs.Prelude.{◌≢◌, IfErr, IfOk, IfSome, IfNone};
+ghost use Rattle.scenario.specs.declared.fault.ScenarioError.TheVariants.{Memory};
+ghost use Rattle.shrink.specs.Shrinking.{ComesWell, IsBroken, IsLeast, IsPartOf, IsRefusedOf};
 
 use crate::lessening::{comes_well, fewest_lies, fewest_traitors, less};
 use scenario::ScenarioError;
@@ -13,6 +14,7 @@ fn walked(alloc: Global, plot: Plot) -> Result<Plot, ScenarioError>
     requires { IsBroken plot }
     ensures broken { IfOk result IsBroken }
     ensures part { IfOk result (IsPartOf plot) }
+    ensures refused { IfErr result (λ e. e ≢ Memory → IsRefusedOf plot e) }
 {
     let fewer = fewest_traitors(alloc, plot)?;
     fewest_lies(alloc, fewer)
@@ -23,11 +25,12 @@ fn walked(alloc: Global, plot: Plot) -> Result<Plot, ScenarioError>
 ///
 /// # Errors
 ///
-/// The first fault of a text, or want of memory.
+/// The first fault of a text, that of the campaign or of one that is left of it, or want of memory.
 pub fn shrunk(alloc: Global, plot: Plot) -> Result<Option<Plot>, ScenarioError>
     ensures least { IfOk result (λ left. IfSome left IsLeast) }
     ensures part { IfOk result (λ left. IfSome left (IsPartOf plot)) }
     ensures well { IfOk result (λ left. IfNone left (ComesWell plot)) }
+    ensures refused { IfErr result (λ e. e ≢ Memory → IsRefusedOf plot e) }
 {
     if comes_well(alloc, &plot)? {
         return Ok(None);

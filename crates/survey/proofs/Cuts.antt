@@ -10,7 +10,7 @@ use Rattle.text.proofs.BytesLemmas.{all-weaker}
 use Rattle.text.proofs.CutLemmas.{Lacks, before-append, from-append}
 use Rattle.text.proofs.DecimalLemmas.{digits-decimal}
 use Rattle.survey.specs.Lines.{member}
-use Rattle.survey.specs.Reading.{rest, word}
+use Rattle.survey.proofs.Words.{rest, word}
 
 pub word_of : (stop : Stop) (front w : List ℕ) (c : ℕ) (behind : List ℕ) → Lacks colon front → Lacks stop w → is_stop stop c ≡ true → word stop (member front w (c ∷ behind)) ≡ w
 word_of stop front w c behind free none is =

@@ -5,6 +5,9 @@ pub mod Choosing
 pub mod Gathered
 pub mod LineLemmas
 pub mod Keeping
+pub mod Words
 pub mod Cuts
 pub mod Heads
 pub mod PartLemmas
+pub mod Walks
+pub mod Written

@@ -1,12 +1,23 @@
--- A law of surveys (TOPLAS 1982, theorem 1, and theorem 2 for signed messages).
-use Rattle.std.specs.Prelude.{ℕ, ◌≡◌, ◌&&◌, not, List, count_by}
+-- Laws of surveys: that kept bounds are kept (TOPLAS 1982, theorem 1, and theorem 2 for signed messages), and that what
+-- is written is what is read (own).
+use Rattle.std.specs.Prelude.{ℕ, ◌≡◌, ◌&&◌, not, List, ◌++◌, count_by, flat_map}
 use Rattle.std.specs.List.{AllZip}
 use Rattle.survey.specs.declared.finding.Finding.{Finding}
 use Rattle.survey.specs.Family.{Family}
+use Rattle.survey.specs.Heads.{IsTold, adversary_word, head_text}
 use Rattle.survey.specs.Judging.{IsFindingOf}
+use Rattle.survey.specs.Lines.{line_text}
+use Rattle.survey.specs.Parts.{IsHeadLine, IsPart, IsUnfed}
 use Rattle.survey.specs.Sums.{is_sound}
 
 -- of the campaigns that seeds give none keeps the bound and is not sound
 abbrev pub KeptAreSound : Type 0
 KeptAreSound = (f : Family) (seeds : List ℕ) (found : List Finding) → AllZip (IsFindingOf f) seeds found
     → count_by (λ (x : Finding). x.verdict.bound && not (is_sound x.verdict)) found ≡ 0
+
+-- the head of a family whose bytecode has no line feed is a line; and a head with the lines of campaigns behind it is a
+-- part that tells just these
+pub record WrittenAreParts : Type 0 where
+  pub heads : (f : Family) → IsTold f → IsUnfed (adversary_word f.adversary) → IsHeadLine (head_text f)
+  pub parts : (f : Family) (found : List Finding) → IsHeadLine (head_text f)
+      → IsPart (head_text f) (head_text f ++ flat_map line_text found) found

@@ -8,5 +8,4 @@ pub mod Sums
 pub mod Lines
 pub mod Heads
 pub mod Parts
-pub mod Reading
 pub mod Laws

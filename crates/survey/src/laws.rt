@@ -1,6 +1,6 @@
 //! Laws of surveys: each function does nothing, and its contract is the law.
 ghost use Rattle.survey.specs.Heads.{HeadsTellFamilies};
-ghost use Rattle.survey.specs.Laws.{KeptAreSound};
+ghost use Rattle.survey.specs.Laws.{KeptAreSound, WrittenAreParts};
 ghost use Rattle.survey.specs.Sums.{SumsOfParts};
 
 /// The sums of two parts of a survey are those of the whole.
@@ -17,4 +17,9 @@ pub fn kept_are_sound()
 /// Families whose lines have the same head have the same campaigns, seed by seed.
 pub fn heads_tell_families()
     ensures { HeadsTellFamilies }
+{}
+
+/// What is written of a family's campaigns, its head and their lines, is a part that tells just these.
+pub fn written_are_parts()
+    ensures { WrittenAreParts }
 {}

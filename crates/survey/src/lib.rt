@@ -28,7 +28,7 @@ pub use family::Family;
 pub use finding::Finding;
 pub use heading::head;
 pub use judging::{found, judged, verdict_on};
-pub use laws::{heads_tell_families, kept_are_sound, sums_of_parts};
+pub use laws::{heads_tell_families, kept_are_sound, sums_of_parts, written_are_parts};
 pub use lie::{Lie, Said};
 pub use lines::{line, put_line};
 pub use manner::Manner;

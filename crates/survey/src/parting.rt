@@ -1,7 +1,7 @@
 //! Parts of a survey, read line by line.
-ghost use Rattle.std.specs.Prelude.{◌≡◌, ◌≢◌, ◌↔◌, ◌++◌, ◌∷◌, ℕ, List, [], IfSome, IsTrue, OnOk};
-ghost use Rattle.survey.specs.Heads.{IsHead};
-ghost use Rattle.survey.specs.Parts.{Adds, AddsAll, IsReadOn, IsSized};
+ghost use Rattle.std.specs.Prelude.{◌≡◌, ◌≢◌, ◌↔◌, ◌+◌, ◌<◌, ◌^◌, ◌++◌, ℕ, List, [], length, IfErr, IfNone, IfSome, IsTrue, OnOk};
+ghost use Rattle.survey.specs.declared.finding.Finding.{Finding as Found};
+ghost use Rattle.survey.specs.Parts.{Adds, AddsAll, IsFaulty, IsFurther, IsHeadLine, IsLine, IsReadOn, IsSized, IsUnfed, IsWrong, StopsAt};
 
 use crate::finding::Finding;
 use crate::heading::is_head;
@@ -12,8 +12,9 @@ use text::{Stop, find};
 
 /// The first line, with its line feed, and what stands behind it; none where no line feed is there.
 fn first_line(bytes: &[u8]) -> Option<(&[u8], &[u8])>
-    ensures line { IfSome result (λ cut. (front : List ℕ) × (cut.0.now ≡ front ++ 10 ∷ [])) }
+    ensures line { IfSome result (λ cut. IsLine cut.0.now) }
     ensures whole { IfSome result (λ cut. bytes.now ≡ cut.0.now ++ cut.1.now) }
+    ensures none { IfNone result (IsUnfed bytes.now) }
 {
     let end = find(Stop::Byte(b'\n'), bytes);
     if end < bytes.len() {
@@ -26,6 +27,9 @@ fn first_line(bytes: &[u8]) -> Option<(&[u8], &[u8])>
 fn take_head(head: &mut Vec<u8>, line: &[u8]) -> Result<(), PartError>
     ensures taken { OnOk result (head.new.items ≡ line.now) }
     ensures same { OnOk result (head.old.items ≢ [] → head.new.items ≡ head.old.items) }
+    ensures foreign { IfErr result (λ e. e ≢ PartError.Memory
+        → (e ≡ PartError.Family 1) × (head.old.items ≢ []) × (line.now ≢ head.old.items)) }
+    ensures left { IfErr result (λ e. e ≢ PartError.Memory → head.new.items ≡ head.old.items) }
 {
     if head.is_empty() {
         head.extend_from_slice(line)?;
@@ -57,8 +61,12 @@ fn add_row(
     seeds: (u64, u64),
     findings: &mut Vec<Finding>,
 ) -> Result<(), PartError>
-    requires { IsHead head.now }
-    ensures { OnOk result (Adds head.now line.now seeds.0 seeds.1 findings.old.items findings.new.items) }
+    requires head { IsHeadLine head.now }
+    requires line { IsLine line.now }
+    requires behind { 1 < number }
+    ensures added { OnOk result (Adds head.now line.now seeds.0 seeds.1 findings.old.items findings.new.items) }
+    ensures wrong { IfErr result (λ e. e ≢ PartError.Memory → IsWrong head.now line.now seeds.0 seeds.1 number e) }
+    ensures left { IfErr result (λ e. e ≢ PartError.Memory → findings.new.items ≡ findings.old.items) }
 {
     if is_head(line) {
         if line == head {
@@ -88,8 +96,11 @@ fn add_rows(
     seeds: (u64, u64),
     findings: &mut Vec<Finding>,
 ) -> Result<(), PartError>
-    requires { IsHead head.now }
-    ensures { OnOk result (AddsAll head.now lines.now seeds.0 seeds.1 findings.old.items findings.new.items) }
+    requires head { IsHeadLine head.now }
+    requires few { length lines.now + 2 < 2 ^ 64 }
+    ensures added { OnOk result (AddsAll head.now lines.now seeds.0 seeds.1 findings.old.items findings.new.items) }
+    ensures wrong { IfErr result (λ e. e ≢ PartError.Memory
+        → StopsAt head.now lines.now seeds.0 seeds.1 findings.old.items findings.new.items e) }
 {
     let mut rest = lines;
     let mut number: u64 = 2;
@@ -99,7 +110,7 @@ fn add_rows(
         };
         add_row(alloc, head, number, line, seeds, findings)?;
         rest = behind;
-        number = number.saturating_add(1);
+        number += 1;
     }
     Ok(())
 }
@@ -109,15 +120,22 @@ fn add_rows(
 ///
 /// # Errors
 ///
-/// The first line that is none of these, or want of memory.
+/// The first line that is none of these, behind whose lines the part is not read, or want of memory.
 pub fn read_part(
     alloc: Global,
     parts: &mut Parts,
     bytes: &[u8],
     seeds: (u64, u64),
 ) -> Result<(), PartError>
-    ensures { OnOk result (IsReadOn parts.old.head.items parts.new.head.items bytes.now seeds.0 seeds.1
+    ensures read { OnOk result (IsReadOn parts.old.head.items parts.new.head.items bytes.now seeds.0 seeds.1
         parts.old.findings.items parts.new.findings.items) }
+    ensures wrong { IfErr result (λ e. e ≢ PartError.Memory → IsFaulty parts.old.head.items parts.new.head.items
+        bytes.now seeds.0 seeds.1 parts.old.findings.items parts.new.findings.items e) }
+    // each right part is taken, and as just the campaigns that it was written of
+    ensures taken { (head : List ℕ) (told : List Found) → IsFurther parts.old.head.items head bytes.now
+        seeds.0 seeds.1 told → IfErr result (λ e. e ≡ PartError.Memory) }
+    ensures told { (head : List ℕ) (told : List Found) → IsFurther parts.old.head.items head bytes.now
+        seeds.0 seeds.1 told → OnOk result (parts.new.findings.items ≡ parts.old.findings.items ++ told) }
 {
     if bytes.is_empty() {
         return Ok(());

@@ -1,7 +1,6 @@
 //! Lines of what campaigns come to, read again.
-ghost use Rattle.std.specs.Prelude.{◌≡◌, ◌^◌, ◌↔◌, IfOk, IfSome, IsTrue, Some};
-ghost use Rattle.survey.specs.Lines.{AreNumbers, line_text};
-ghost use Rattle.survey.specs.Reading.{answer_told, flag_told, found_by, line_told, number_told, rest, word};
+ghost use Rattle.std.specs.Prelude.{◌≡◌, ◌^◌, ◌∷◌, ◌↔◌, ℕ, Bool, List, Option, IfOk, IfSome, IsTrue, Some};
+ghost use Rattle.survey.specs.Lines.{AreNumbers, AreWords, HasMember, answer_text, flag_text, line_text, number_told};
 ghost use Rattle.survey.specs.declared.finding.Finding.{Finding as Found};
 
 use crate::finding::Finding;
@@ -10,21 +9,21 @@ use std::alloc::{AllocError, Global};
 use text::{Stop, cut, decimal};
 use world::Verdict;
 
-/// The word behind the first colon up to the stop, and what stands from there on.
-fn member(stop: Stop, bytes: &[u8]) -> (&[u8], &[u8])
-    ensures word { result.0.now ≡ word stop bytes.now }
-    ensures rest { result.1.now ≡ rest stop bytes.now }
+/// The word behind the first colon up to this byte, and what stands from there on.
+fn member(end: u8, bytes: &[u8]) -> (&[u8], &[u8])
+    ensures word { (w behind : List ℕ) → HasMember end bytes.now w behind → result.0.now ≡ w }
+    ensures rest { (w behind : List ℕ) → HasMember end bytes.now w behind → result.1.now ≡ end ∷ behind }
 {
     let (_, behind) = cut(Stop::Byte(b':'), bytes);
     match behind.split_first() {
-        Some((_, behind)) => cut(stop, behind),
-        None => cut(stop, behind),
+        Some((_, behind)) => cut(Stop::Byte(end), behind),
+        None => cut(Stop::Byte(end), behind),
     }
 }
 
 /// The flag that a word says.
 fn flag_told(word: &[u8]) -> Option<bool>
-    ensures { result ≡ flag_told word.now }
+    ensures { (b : Bool) → word.now ≡ flag_text b → result ≡ Some b }
 {
     if word == b"true".as_slice() {
         return Some(true);
@@ -37,7 +36,7 @@ fn flag_told(word: &[u8]) -> Option<bool>
 
 /// The answer that a word says.
 fn answer_told(word: &[u8]) -> Option<Option<bool>>
-    ensures { result ≡ answer_told word.now }
+    ensures { (a : Option Bool) → word.now ≡ answer_text a → result ≡ Some a }
 {
     if word == b"null".as_slice() {
         return Some(None);
@@ -70,7 +69,6 @@ fn small_told(word: &[u8]) -> Option<u8>
 }
 
 /// What is found by these words, in the order of the line.
-#[tactic(auto, unfolding(crate::specs::Reading::found_by))]
 fn found_by(
     alike: &[u8],
     bound: &[u8],
@@ -80,7 +78,8 @@ fn found_by(
     seed: &[u8],
     traitors: &[u8],
 ) -> Option<Finding>
-    ensures { result ≡ found_by alike.now bound.now generals.now kept.now obeyed.now seed.now traitors.now }
+    ensures { (f : Found) → AreNumbers f
+        → AreWords f alike.now bound.now generals.now kept.now obeyed.now seed.now traitors.now → result ≡ Some f }
 {
     let alike = flag_told(alike)?;
     let bound = small_told(bound)?;
@@ -103,19 +102,17 @@ fn found_by(
 }
 
 /// What is found by the words of a line, whatever stands around them.
-#[tactic(auto, unfolding(crate::specs::Reading::line_told))]
 fn line_told(bytes: &[u8]) -> Option<Finding>
-    ensures { result ≡ line_told bytes.now }
+    ensures { (f : Found) → AreNumbers f → bytes.now ≡ line_text f → result ≡ Some f }
 {
-    let comma = Stop::Byte(b',');
-    let (alike, behind) = member(comma, bytes);
-    let (bound, behind) = member(comma, behind);
-    let (generals, behind) = member(comma, behind);
-    let (kept, behind) = member(comma, behind);
-    let (_, behind) = member(comma, behind);
-    let (obeyed, behind) = member(comma, behind);
-    let (seed, behind) = member(comma, behind);
-    let (traitors, _) = member(Stop::Byte(b'}'), behind);
+    let (alike, behind) = member(b',', bytes);
+    let (bound, behind) = member(b',', behind);
+    let (generals, behind) = member(b',', behind);
+    let (kept, behind) = member(b',', behind);
+    let (_, behind) = member(b',', behind);
+    let (obeyed, behind) = member(b',', behind);
+    let (seed, behind) = member(b',', behind);
+    let (traitors, _) = member(b'}', behind);
     found_by(alike, bound, generals, kept, obeyed, seed, traitors)
 }
 

@@ -3,7 +3,7 @@ ghost use Rattle.std.specs.Prelude.{◌≢◌, IfErr, IfOk};
 ghost use Rattle.std.specs.List.{AllZip};
 ghost use Rattle.rayon.specs.Numbers.{nat_range};
 ghost use Rattle.scenario.specs.declared.fault.ScenarioError.TheVariants.{Memory};
-ghost use Rattle.survey.specs.Judging.{IsFindingOf, IsRefusedBy, IsRefusedIn};
+ghost use Rattle.survey.specs.Judging.{IsFindingOf, IsFirstRefused, IsRefusedBy, IsRefusedIn};
 
 use crate::family::Family;
 use crate::finding::Finding;
@@ -21,7 +21,7 @@ const LEAST_PIECE: usize = 32;
 ///
 /// # Errors
 ///
-/// The first fault of the first text that has one, or want of memory.
+/// The first fault of the text of the least seed whose text has one, or want of memory.
 pub fn survey_in_turn(
     alloc: Global,
     family: &Family,
@@ -29,7 +29,7 @@ pub fn survey_in_turn(
     end: u64,
 ) -> Result<Vec<Finding>, ScenarioError>
     ensures found { IfOk result (λ findings. AllZip (IsFindingOf family.now) (nat_range first end) findings.items) }
-    ensures refused { IfErr result (λ e. e ≢ Memory → IsRefusedIn family.now first end e) }
+    ensures refused { IfErr result (λ e. e ≢ Memory → IsFirstRefused family.now first end e) }
 {
     let mut findings = Vec::new(alloc);
     for seed in first..end {

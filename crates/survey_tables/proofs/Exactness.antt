@@ -23,7 +23,7 @@ if_has x a b true = stretch_has x a b
 if_has x a b false = refl
 
 -- how often a seed stands in a list with one more
-times_more : (x s : ℕ) (seeds : List ℕ) → times x (s ∷ seeds) ≡ cond (s == x) 1 0 + times x seeds
+pub times_more : (x s : ℕ) (seeds : List ℕ) → times x (s ∷ seeds) ≡ cond (s == x) 1 0 + times x seeds
 times_more x s seeds =
     sum_by-append (λ (y : ℕ). cond (y == x) 1 0) (s ∷ []) seeds ∙ ap (λ n. n + times x seeds) (zero_plus (cond (s == x) 1 0))
 

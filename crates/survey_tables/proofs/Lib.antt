@@ -1,4 +1,5 @@
 pub mod Comparing
 pub mod Rising
 pub mod Exactness
+pub mod Apart
 pub mod Pieces

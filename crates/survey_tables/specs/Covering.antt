@@ -1,5 +1,5 @@
 -- Which seeds lack in a survey, and which stand in it more than once (own).
-use Rattle.std.specs.Prelude.{ℕ, ◌≡◌, ◌-◌, ◌+◌, ◌==◌, nat_lt, nat_le, min, max, Bool, ◌&&◌, cond, List, [], ◌∷◌, ◌++◌, map, count_by}
+use Rattle.std.specs.Prelude.{ℕ, ⊤, ◌≡◌, ◌≤◌, ◌-◌, ◌+◌, ◌==◌, nat_lt, nat_le, min, max, Bool, ◌&&◌, cond, List, [], ◌∷◌, ◌++◌, map, count_by}
 use Rattle.std.specs.List.{list_any}
 use Rattle.std.specs.List.Sorted.{IsNonDecreasing, IsPermutation}
 use Rattle.survey.specs.declared.finding.Finding.{Finding}
@@ -27,6 +27,14 @@ AreHoles first last seeds stretches =
 -- in the stretches stand just the seeds that stand there twice or more
 abbrev pub AreDoubles : List ℕ → List Stretch → Type 0
 AreDoubles seeds stretches = (x : ℕ) → is_in x stretches ≡ nat_le 2 (times x seeds)
+
+-- each has seeds, from this seed on, and before the next begins comes a seed that is in neither
+abbrev pub AreApartFrom : ℕ → List Stretch → Type 0
+AreApartFrom a [] = ⊤
+AreApartFrom a (s ∷ stretches) = (a ≤ s.first) × (s.first ≤ s.last) × AreApartFrom (s.last + 2) stretches
+
+abbrev pub AreApart : List Stretch → Type 0
+AreApart stretches = AreApartFrom 0 stretches
 
 -- these are the seeds, ascending
 pub record AreAscending (seeds sorted : List ℕ) : Type 0 where

@@ -3,3 +3,4 @@ pub mod Covering
 pub mod Groups
 pub mod Tables
 pub mod Pictures
+pub mod Breakings

@@ -7,7 +7,7 @@ use itoa::Buffer;
 use std::alloc::AllocError;
 
 /// Adds spaces, as many as a text of some length needs to have this width, and the text.
-fn put_padded(out: &mut String, width: usize, text: &str) -> Result<(), AllocError>
+pub(crate) fn put_padded(out: &mut String, width: usize, text: &str) -> Result<(), AllocError>
     ensures { OnOk result (string_bytes out.new ≡ string_bytes out.old ++ padded width text.now) }
 {
     for _ in 0..width.saturating_sub(text.len()) {

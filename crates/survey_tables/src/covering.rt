@@ -1,6 +1,6 @@
 //! Which seeds lack in a survey, and which stand in it more than once.
 ghost use Rattle.std.specs.Prelude.{◌≡◌, ◌++◌, IfOk, OnOk};
-ghost use Rattle.survey_tables.specs.Covering.{AreAscending, AreDoubles, AreHoles, gaps, repeated, seeds_in, stretch, stretches, stretches_from};
+ghost use Rattle.survey_tables.specs.Covering.{AreApart, AreAscending, AreDoubles, AreHoles, gaps, repeated, seeds_in, stretch, stretches, stretches_from};
 
 use crate::stretch::Stretch;
 use std::alloc::{AllocError, Global};
@@ -55,7 +55,7 @@ fn gaps(alloc: Global, next: u64, seeds: &[u64], last: u64) -> Result<Vec<Stretc
     Ok(found)
 }
 
-/// The stretches of seeds from `first` to `last` of which there is no campaign.
+/// The stretches of seeds from `first` to `last` of which there is no campaign: no two that touch.
 ///
 /// # Errors
 ///
@@ -66,7 +66,8 @@ pub fn holes(
     first: u64,
     last: u64,
 ) -> Result<Vec<Stretch>, AllocError>
-    ensures { IfOk result (λ found. AreHoles first last (seeds_in findings.now) found.items) }
+    ensures holes { IfOk result (λ found. AreHoles first last (seeds_in findings.now) found.items) }
+    ensures apart { IfOk result (λ found. AreApart found.items) }
 {
     let seeds = ascending(alloc, findings)?;
     gaps(alloc, first, seeds.as_slice(), last)
@@ -123,13 +124,14 @@ fn stretches(alloc: Global, seeds: &[u64]) -> Result<Vec<Stretch>, AllocError>
     }
 }
 
-/// The stretches of seeds of which there is more than one campaign.
+/// The stretches of seeds of which there is more than one campaign: no two that touch.
 ///
 /// # Errors
 ///
 /// `AllocError` where memory is refused.
 pub fn doubles(alloc: Global, findings: &[Finding]) -> Result<Vec<Stretch>, AllocError>
-    ensures { IfOk result (λ found. AreDoubles (seeds_in findings.now) found.items) }
+    ensures doubles { IfOk result (λ found. AreDoubles (seeds_in findings.now) found.items) }
+    ensures apart { IfOk result (λ found. AreApart found.items) }
 {
     let seeds = ascending(alloc, findings)?;
     let twice = repeated(alloc, seeds.as_slice())?;

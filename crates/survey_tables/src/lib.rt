@@ -2,6 +2,7 @@
 //! specs/.
 #![tactic(auto)]
 
+mod breaking;
 mod cell;
 mod cells;
 mod counts;
@@ -12,6 +13,7 @@ mod picturing;
 mod stretch;
 mod tabling;
 
+pub use breaking::breaking_text;
 pub use counts::{lines_text, sums_text};
 pub use covering::{doubles, holes};
 pub use group::Group;

@@ -15,7 +15,7 @@ use Rattle.surveyor.specs.declared.asked.Survey.{Survey}
 use Rattle.surveyor.specs.Printed.{IsPlayed, IsPrinted, IsToldIn, added, head_in, lines_in, summary_text}
 
 -- numbers up to a middle, and from there on
-range_both : (a n m : ℕ) → range_with_len a (n + m) ≡ range_with_len a n ++ range_with_len (a + n) m
+pub range_both : (a n m : ℕ) → range_with_len a (n + m) ≡ range_with_len a n ++ range_with_len (a + n) m
 range_both a zero m = (let e : a ≡ a + 0 = omega arith in let f : 0 + m ≡ m = omega arith in λ i. range_with_len (e i) (f i))
 range_both a (suc n) m =
     let e : suc n + m ≡ suc (n + m) = omega arith in

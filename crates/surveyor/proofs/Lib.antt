@@ -1,3 +1,5 @@
 mod Going
 mod LeastLemmas
 mod SumLemmas
+mod CoverLemmas
+mod BrokenLemmas

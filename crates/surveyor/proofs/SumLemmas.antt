@@ -1,4 +1,4 @@
--- What files tell, one behind the other, and whether each seed is told once.
+-- What files tell, one behind the other.
 use Rattle.std.proofs.Common.{ℕ, ◌+◌, ◌≤◌, ◌≡◌, ◌≢◌, false, List, [], ◌∷◌, ◌++◌, length, refl, sym, ap, subst, ◌∙◌, arith, append_assoc, append-nil, length-append, Option, None, Some}
 use Rattle.std.specs.Prelude.{flat_map, nat_le, ◌==◌, ◌&&◌, IfSome}
 use Rattle.std.specs.List.{AllZip}
@@ -7,9 +7,7 @@ use Rattle.rayon.proofs.ListFacts.{AllZip-append}
 use Rattle.survey.specs.declared.finding.Finding.{Finding}
 use Rattle.survey.specs.Parts.{AreOf, IsLed, IsOf, IsPart, IsReadOn, found_in, row_text}
 use Rattle.survey.proofs.PartLemmas.{all_both}
-use Rattle.survey_tables.specs.Covering.{AreDoubles, AreHoles, is_in, seeds_in, times}
-use Rattle.survey_tables.specs.declared.stretch.Stretch.{Stretch}
-use Rattle.surveyor.specs.Summed.{IsCovered, IsCoveredBy, joined}
+use Rattle.surveyor.specs.Summed.{joined}
 
 joined_more : (parts : List (List Finding)) (part : List Finding) → joined (parts ++ part ∷ []) ≡ joined parts ++ part
 joined_more [] part = append-nil part
@@ -21,7 +19,7 @@ headless bytes h found part = by part.rows part.led part.whole part.told
   where
     by : (rows : List (Option Finding)) → IsLed [] rows → bytes ≡ flat_map (row_text []) rows → found ≡ found_in rows → IsPart h bytes found
     by [] led whole told = record { rows = []; led = tt; whole = whole; told = told }
-    by (None ∷ rows) led whole told = absurd (let e = ap length led.whole in let l = length-append led.front (10 ∷ []) in omega arith)
+    by (None ∷ rows) led whole told = absurd (let e = ap length led.line.whole in let l = length-append led.line.front (10 ∷ []) in omega arith)
     by (Some f ∷ rows) led whole told = absurd led
 
 -- so many texts are parts of one survey, whatever its head, if they have none
@@ -47,34 +45,9 @@ one_told before head bytes first last count more old new one all read =
       texts = all.texts ++ bytes ∷ [];
       parts = all.parts ++ read.told ∷ [];
       each = λ h same. AllZip-append (IsPart h) all.texts (bytes ∷ []) all.parts (read.told ∷ [])
-          (all.each h (λ some. (let e = read.same some in same (λ none. some (sym e ∙ none)) ∙ e)))
-          (with_head head h bytes read.told same read.part, tt);
+          (all.each h (λ some. (let e = read.further.same some in same (λ none. some (sym e ∙ none)) ∙ e)))
+          (with_head head h bytes read.told same read.further.part, tt);
       named = (let l = length-append all.texts (bytes ∷ []) in let n = all.named in omega arith);
       whole = read.behind ∙ (ap (λ (l : List Finding). l ++ read.told) all.whole ∙ sym (joined_more all.parts read.told));
-      seeds = subst (λ (l : List Finding). AreOf first last l) (sym read.behind) (all_both (IsOf first last) old read.told all.seeds read.seeds);
-    }
-
--- where no seed lacks and none is double, each is told once
-told_once : (first last x t : ℕ) → first ≤ x → x ≤ last → false ≡ (nat_le first x && (nat_le x last && (t == 0))) → false ≡ nat_le 2 t → t ≡ 1
-told_once first last x t low high some few = grind (arith, nat_tests)
-
-empty : (xs : List Stretch) → length xs ≡ 0 → xs ≡ []
-empty [] e = refl
-empty (x ∷ xs) e = absurd (omega arith)
-
-pub covered_by : (first last : ℕ) (found : List Finding) (holes doubles : List Stretch) → AreHoles first last (seeds_in found) holes → AreDoubles (seeds_in found) doubles → length holes ≡ 0 → length doubles ≡ 0 → IsCovered first last found
-covered_by first last found holes doubles h d lacks twice x low high =
-    let hole : false ≡ (nat_le first x && (nat_le x last && (times x (seeds_in found) == 0))) = ap (is_in x) (sym (empty holes lacks)) ∙ h x in
-    let double : false ≡ nat_le 2 (times x (seeds_in found)) = ap (is_in x) (sym (empty doubles twice)) ∙ d x in
-    told_once first last x (times x (seeds_in found)) low high hole double
-
-pub status_by : (seeds : Option (ℕ × ℕ)) (found : List Finding) (first last status : ℕ) (span : Option (ℕ × ℕ)) (holes doubles : List Stretch) → IfSome seeds (λ s. span ≡ Some s) → span ≡ Some (first, last)
-    → AreHoles first last (seeds_in found) holes → AreDoubles (seeds_in found) doubles → (status ≡ 0 → (length holes ≡ 0) × (length doubles ≡ 0)) → (status ≢ 0 → status ≡ 1) → IsCoveredBy seeds found status
-status_by None found first last status span holes doubles said is h d well ill = record { well = tt; ill = ill }
-status_by (Some s) found first last status span holes doubles said is h d well ill =
-    let e : Some s ≡ Some (first, last) = sym said ∙ is in
-    let same : s ≡ (first, last) = cc in
-    record {
-      well = λ z. subst (λ (p : ℕ × ℕ). IsCovered p.0 p.1 found) (sym same) (covered_by first last found holes doubles h d (well z).0 (well z).1);
-      ill = ill;
+      seeds = subst (λ (l : List Finding). AreOf first last l) (sym read.behind) (all_both (IsOf first last) old read.told all.seeds read.further.seeds);
     }

@@ -3,3 +3,5 @@ pub mod Asked
 pub mod Words
 pub mod Printed
 pub mod Summed
+pub mod Broken
+pub mod Telling

@@ -1,5 +1,5 @@
 -- What is printed of campaigns, and what is said of the seeds of files (docs/FORMATS.md, "Surveys").
-use Rattle.std.specs.Prelude.{ℕ, ◌≡◌, ◌+◌, List, [], ◌++◌, length, flat_map, decimal, codes, Option, None, Some}
+use Rattle.std.specs.Prelude.{ℕ, ◌≡◌, ◌+◌, cond, List, [], ◌∷◌, ◌++◌, length, flat_map, decimal, codes, Option, None, Some}
 use Rattle.std.specs.List.{AllZip}
 use Rattle.std.specs.Io.KnownBytes.{Appends}
 use Rattle.rayon.specs.Numbers.{nat_range}
@@ -9,7 +9,7 @@ use Rattle.survey.specs.Heads.{head_text}
 use Rattle.survey.specs.Judging.{IsFindingOf}
 use Rattle.survey.specs.Lines.{line_text}
 use Rattle.survey.specs.Plotting.{plot_of}
-use Rattle.survey.specs.Sums.{sums_of}
+use Rattle.survey.specs.Sums.{is_sound, sums_of}
 use Rattle.survey.specs.Wording.{plot_text}
 use Rattle.survey_tables.specs.Counts.{sums_text}
 use Rattle.survey_tables.specs.Groups.{groups_of}
@@ -43,6 +43,11 @@ added _ found = found
 abbrev pub head_in : Shape → Family → List ℕ
 head_in Lines f = head_text f
 head_in _ f = []
+
+-- the seeds of the campaigns in which agreement is broken, or the order disobeyed: those that are kept
+abbrev pub broken_seeds : List Finding → List ℕ
+broken_seeds [] = []
+broken_seeds (f ∷ found) = cond (is_sound f.verdict) (broken_seeds found) (f.seed ∷ broken_seeds found)
 
 -- the text is that of the campaigns of the seeds
 pub record IsPlayed (s : Survey) (f : Family) (text : List ℕ) : Type 0 where

@@ -1,5 +1,5 @@
 -- What files with lines of a survey come to (docs/FORMATS.md, "Surveys").
-use Rattle.std.specs.Prelude.{ℕ, ◌≡◌, ◌≢◌, ◌≤◌, ◌-◌, ◌^◌, IfSome, List, [], ◌∷◌, ◌++◌, length, Option, None, Some}
+use Rattle.std.specs.Prelude.{ℕ, ◌≡◌, ◌≢◌, ◌≤◌, ◌-◌, ◌^◌, min, max, List, [], ◌∷◌, ◌++◌, length, Option, None, Some}
 use Rattle.std.specs.List.{AllZip}
 use Rattle.std.specs.Io.KnownBytes.{Appends}
 use Rattle.survey.specs.declared.finding.Finding.{Finding}
@@ -28,14 +28,40 @@ pub record IsTold (m : Merge) (head : List ℕ) (found : List Finding) : Type 0 
   pub whole : found ≡ joined parts
   pub seeds : AreOf (span_of m.seeds).0 (span_of m.seeds).1 found
 
--- each seed from the first to the last is told just once
-abbrev pub IsCovered : ℕ → ℕ → List Finding → Type 0
-IsCovered first last found = (x : ℕ) → first ≤ x → x ≤ last → times x (seeds_in found) ≡ 1
+-- a seed is told
+abbrev pub IsToldOf : ℕ → List Finding → Type 0
+IsToldOf x found = 1 ≤ times x (seeds_in found)
 
--- the status is 0 only where it is so with the seeds that are said, if some are; else it is 1
+-- each seed that is said is told just once; where none are said, each from one that is told to another
+abbrev pub IsCovered : Option (ℕ × ℕ) → List Finding → Type 0
+IsCovered None found = (a x b : ℕ) → IsToldOf a found → IsToldOf b found → a ≤ x → x ≤ b → times x (seeds_in found) ≡ 1
+IsCovered (Some s) found = (x : ℕ) → s.0 ≤ x → x ≤ s.1 → times x (seeds_in found) ≡ 1
+
+-- the status is 0 exactly where it is so, and else 1
 pub record IsCoveredBy (seeds : Option (ℕ × ℕ)) (found : List Finding) (status : ℕ) : Type 0 where
-  pub well : IfSome seeds (λ s. status ≡ 0 → IsCovered s.0 s.1 found)
+  pub well : status ≡ 0 → IsCovered seeds found
+  pub covered : IsCovered seeds found → status ≡ 0
   pub ill : status ≢ 0 → status ≡ 1
+
+-- these ends, or further ones, so that a seed lies within
+abbrev pub with_seed : Option (ℕ × ℕ) → ℕ → Option (ℕ × ℕ)
+with_seed None seed = Some (seed, seed)
+with_seed (Some ends) seed = Some (min ends.0 seed, max ends.1 seed)
+
+-- the least and the greatest seed that is told, if one is
+pub record AreLeastAndGreatest (found : List Finding) (ends : ℕ × ℕ) : Type 0 where
+  pub first : IsToldOf ends.0 found
+  pub last : IsToldOf ends.1 found
+  pub within : (x : ℕ) → IsToldOf x found → (ends.0 ≤ x) × (x ≤ ends.1)
+
+abbrev pub AreEnds : List Finding → Option (ℕ × ℕ) → Type 0
+AreEnds found None = found ≡ []
+AreEnds found (Some ends) = AreLeastAndGreatest found ends
+
+-- the seeds that are said or, where none are, those ends
+abbrev pub IsAskedFor : Option (ℕ × ℕ) → List Finding → Option (ℕ × ℕ) → Type 0
+IsAskedFor None found span = AreEnds found span
+IsAskedFor (Some seeds) found span = span ≡ Some seeds
 
 -- what the parts come to is printed
 pub record IsSummed (m : Merge) (old new : Option (List ℕ)) (status : ℕ) : Type 0 where

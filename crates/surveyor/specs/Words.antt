@@ -1,8 +1,12 @@
 -- What words name (docs/FORMATS.md, "Surveys").
-use Rattle.std.specs.Prelude.{ℕ, ◌≡◌, Bool, true, false, if◌then◌else◌, List, bytes_eq, codes, Option, None, Some, string_bytes}
+use Rattle.std.specs.Prelude.{ℕ, ◌≡◌, ◌≢◌, IsSomeAnd, Bool, true, false, if◌then◌else◌, List, bytes_eq, codes, Option, None, Some, string_bytes}
+use Rattle.hex.specs.Hex.{encode_lower}
+use Rattle.asm.specs.Program.{program_of}
+use Rattle.codec.specs.Spelling.{program_bytes}
+use Rattle.verify.specs.Judgement.{judged}
 use Rattle.combine.specs.declared.chosen.Rule.TheVariants.{Majority, Median}
 use Rattle.survey.specs.declared.adversary.Adversary.{Adversary}
-use Rattle.survey.specs.declared.adversary.Adversary.TheVariants.{Lies, Silent, Collude}
+use Rattle.survey.specs.declared.adversary.Adversary.TheVariants.{Lies, Silent, Collude, Given}
 use Rattle.survey.specs.declared.manner.Manner.{Manner}
 use Rattle.survey.specs.declared.manner.Manner.TheVariants.{Oral, Signed}
 use Rattle.survey.specs.Family.{Family}
@@ -21,11 +25,22 @@ manner_named (Some rule) false =
     else if bytes_eq rule (codes "median") then Some (Oral Median)
     else None
 
--- what traitors do, where a word names it
+-- the text is an assembly program that the verifier accepts, and this is its bytecode in hex
+abbrev pub IsProgramOf : List ℕ → List ℕ → Type 0
+IsProgramOf text hex =
+    IsSomeAnd (program_of text) (λ program. (judged program ≡ None) × (hex ≡ encode_lower (program_bytes program)))
+
+-- each traitor has the program of some text
+abbrev pub IsGiven : Adversary → Type 0
+IsGiven (Given hex) = (text : List ℕ) × IsProgramOf text (string_bytes hex)
+IsGiven _ = ⊥
+
+-- what traitors do whom a word names
 pub record IsNamed (word : List ℕ) (a : Adversary) : Type 0 where
   pub lies : word ≡ codes "lies" → a ≡ Lies
   pub silent : word ≡ codes "silent" → a ≡ Silent
   pub collude : word ≡ codes "collude" → a ≡ Collude
+  pub given : word ≢ codes "lies" → word ≢ codes "silent" → word ≢ codes "collude" → IsGiven a
 
 -- the family that is asked for
 pub record IsFamilyOf (s : Survey) (f : Family) : Type 0 where

@@ -1,17 +1,21 @@
 //! What breaks agreement, for each number of generals and each bound.
-ghost use Rattle.std.specs.Prelude.{◌≤◌};
+ghost use Rattle.std.specs.Prelude.{◌≡◌, ◌≤◌, ◌+◌, ◌-◌, min, Option, IfOk, OnOk};
+ghost use Rattle.std.specs.Io.KnownBytes.{Appends};
+ghost use Rattle.shrink.specs.declared.breach.Breaking.{Breaking as Found};
+ghost use Rattle.survey_tables.specs.Breakings.{breaking_text};
 ghost use Rattle.surveyor.specs.Asked.{IsSurvey};
+ghost use Rattle.surveyor.specs.Broken.{IsBreakAnswered, IsBroken, IsSearched, break_header, cut_to, gap};
 
 use crate::asked::Survey;
 use crate::family::family_of;
 use crate::pieces::refused;
 use crate::printing::print;
 use crate::telling::Fault;
-use shrink::{Breach, breaking, statements};
-use std::alloc::{AllocError, Global};
+use shrink::{Breaking, breaking};
 use std::thread::Threads;
 use streams::Output;
-use survey::{Family, Span, plot_text};
+use survey::{Family, Span};
+use survey_tables::breaking_text;
 
 /// Prints for each number of generals and each bound that they can have the fewest traitors by whom agreement is broken
 /// in a seed's campaign, and the least of what is left of these.
@@ -27,27 +31,65 @@ pub fn broken<T: Threads + Sync, O: Output>(
     is_table: bool,
 ) -> Result<(), Fault>
     requires { IsSurvey asked.now }
+    ensures { OnOk result (IsBreakAnswered asked.now is_table (O.contents out.old) (O.contents out.new)) }
 {
     let family = family_of(rt, asked)?;
-    if is_table {
-        print(out, "generals bound traitors statements seed\n")?;
-    }
+    put_entries(rt, threads, out, asked, &family, is_table)
+}
+
+/// Prints it of the family's campaigns.
+fn put_entries<T: Threads + Sync, O: Output>(
+    rt: &HostRuntime,
+    threads: &T,
+    out: &mut O,
+    asked: &Survey,
+    family: &Family,
+    is_table: bool,
+) -> Result<(), Fault>
+    requires { IsSurvey asked.now }
+    ensures { OnOk result (IsBroken asked.now family.now is_table (O.contents out.old) (O.contents out.new)) }
+{
+    print(out, break_header(is_table))?;
     let mut is_first = true;
-    for generals in asked.generals.low..asked.generals.high + 1 {
-        let most = generals.saturating_sub(2).min(4);
-        for bound in asked.bound.low..asked.bound.high.min(most) + 1 {
-            if !is_table && !is_first {
-                print(out, "\n")?;
-            }
+    let end = asked.generals.high + 1;
+    for generals in asked.generals.low..end {
+        let most = bounds_end(generals, asked.bound);
+        for bound in asked.bound.low..most {
+            print(out, gap(is_table, is_first))?;
+            put_entry(rt, threads, out, asked, family, generals, bound, is_table)?;
             is_first = false;
-            put_breaking(rt, threads, out, asked, &family, generals, bound, is_table)?;
         }
     }
     Ok(())
 }
 
+/// One more than the greatest bound of the span that so many generals can have.
+fn bounds_end(generals: u8, bound: Span) -> u8
+    ensures { result ≡ min bound.high (min 4 (generals - 2)) + 1 }
+{
+    bound.high.min(generals.saturating_sub(2).min(4)) + 1
+}
+
+/// The head of a table.
+fn break_header(is_table: bool) -> &'static str
+    ensures { result.now ≡ break_header is_table }
+{
+    if is_table {
+        "generals bound traitors statements seed\n"
+    } else {
+        ""
+    }
+}
+
+/// What stands before an entry: an empty line before each campaign but the first.
+fn gap(is_table: bool, is_first: bool) -> &'static str
+    ensures { result.now ≡ gap is_table is_first }
+{
+    if is_table || is_first { "" } else { "\n" }
+}
+
 /// Prints it for these numbers.
-fn put_breaking<T: Threads + Sync, O: Output>(
+fn put_entry<T: Threads + Sync, O: Output>(
     rt: &HostRuntime,
     threads: &T,
     out: &mut O,
@@ -60,60 +102,51 @@ fn put_breaking<T: Threads + Sync, O: Output>(
     requires asked { IsSurvey asked.now }
     requires least { 2 ≤ generals }
     requires most { generals ≤ 13 }
+    ensures { OnOk result ((found : Option Found) × IsSearched asked.now family.now generals bound found
+        × Appends (O.contents out.old) (O.contents out.new) (breaking_text is_table generals bound found)) }
 {
-    let alloc = rt.alloc();
-    let traitors = Span {
-        low: asked.traitors.low.min(generals),
-        high: asked.traitors.high.min(generals),
-    };
-    let end = asked.last + 1;
-    let found = match breaking(
+    let found = searched(rt, threads, asked, family, generals, bound)?;
+    let text = breaking_text(rt.alloc(), is_table, generals, bound, found.as_ref())?;
+    print(out, text.as_str())
+}
+
+/// What breaks agreement of generals of these numbers, if something does.
+fn searched<T: Threads + Sync>(
+    rt: &HostRuntime,
+    threads: &T,
+    asked: &Survey,
+    family: &Family,
+    generals: u8,
+    bound: u8,
+) -> Result<Option<Breaking>, Fault>
+    requires asked { IsSurvey asked.now }
+    requires least { 2 ≤ generals }
+    requires most { generals ≤ 13 }
+    ensures { IfOk result (IsSearched asked.now family.now generals bound) }
+{
+    let (first, end) = (asked.first, asked.last + 1);
+    let traitors = cut_to(generals, asked.traitors);
+    match breaking(
         threads,
-        alloc,
+        rt.alloc(),
         family,
         generals,
         bound,
         traitors,
-        asked.first,
+        first,
         end,
     ) {
-        Ok(found) => found,
-        Err(error) => return Err(refused(asked.first, end, error)),
-    };
-    let text = match found {
-        Some(found) => breaking_text(alloc, generals, bound, &found.breach, is_table)?,
-        None if is_table => format!(in alloc;
-            "{generals:>8} {bound:>5}        -          -    -\n"
-        )?,
-        None => format!(in alloc;
-            "# generals {generals} bound {bound} traitors - statements - seed -\n"
-        )?,
-    };
-    print(out, text.as_str())
+        Ok(found) => Ok(found),
+        Err(error) => Err(refused(first, end, error)),
+    }
 }
 
-/// A row, or the campaign behind a comment.
-fn breaking_text(
-    alloc: Global,
-    generals: u8,
-    bound: u8,
-    breach: &Breach,
-    is_table: bool,
-) -> Result<String, AllocError> {
-    let (traitors, statements) = (breach.plot.traitors.len(), statements(&breach.plot));
-    let seed = breach.seed;
-    let mut out = String::new(alloc);
-    if is_table {
-        writeln!(
-            &mut out,
-            "{generals:>8} {bound:>5} {traitors:>8} {statements:>10} {seed:>4}"
-        )?;
-        return Ok(out);
+/// The traitors of a span, cut to all generals where they are more.
+fn cut_to(generals: u8, span: Span) -> Span
+    ensures { result ≡ cut_to generals span }
+{
+    Span {
+        low: span.low.min(generals),
+        high: span.high.min(generals),
     }
-    writeln!(
-        &mut out,
-        "# generals {generals} bound {bound} traitors {traitors} statements {statements} seed {seed}"
-    )?;
-    out.push_str(plot_text(alloc, &breach.plot)?.as_str())?;
-    Ok(out)
 }

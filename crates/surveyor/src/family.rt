@@ -1,7 +1,7 @@
 //! The family that is asked for.
-ghost use Rattle.std.specs.Prelude.{◌≡◌, IfOk};
+ghost use Rattle.std.specs.Prelude.{◌≡◌, ℕ, IfOk, List, string_bytes};
 ghost use Rattle.surveyor.specs.Asked.{IsSurvey};
-ghost use Rattle.surveyor.specs.Words.{IsFamilyOf, IsNamed};
+ghost use Rattle.surveyor.specs.Words.{IsFamilyOf, IsNamed, IsProgramOf};
 
 use crate::asked::Survey;
 use crate::input::bytes_of;
@@ -44,13 +44,22 @@ fn adversary_of(rt: &HostRuntime, word: &str) -> Result<Adversary, Fault>
     }
 }
 
-/// The bytecode of a file of assembly, or of standard input, in hex. The verifier must accept it.
-fn hex_of(rt: &HostRuntime, name: &str) -> Result<String, Fault> {
+/// The bytecode of a file of assembly, or of standard input, in hex.
+fn hex_of(rt: &HostRuntime, name: &str) -> Result<String, Fault>
+    ensures { IfOk result (λ hex. (text : List ℕ) × IsProgramOf text (string_bytes hex)) }
+{
     let alloc = rt.alloc();
     let bytes = bytes_of(rt, name)?;
-    let Ok(text) = str::from_utf8(bytes.as_slice()) else {
-        return Err(Fault::Unread(String::from_str(alloc, name)?));
-    };
+    match str::from_utf8(bytes.as_slice()) {
+        Ok(text) => program_hex(alloc, text),
+        Err(_) => Err(Fault::Unread(String::from_str(alloc, name)?)),
+    }
+}
+
+/// The bytecode of a text of assembly, in hex. The verifier must accept it.
+fn program_hex(alloc: Global, text: &str) -> Result<String, Fault>
+    ensures { IfOk result (λ hex. IsProgramOf text.now (string_bytes hex)) }
+{
     let program = match assemble(alloc, text) {
         Ok(program) => program,
         Err(error) => return Err(Fault::Refused(format!(in alloc; "refused {error}")?)),

@@ -8,7 +8,7 @@ use std::io::{self, ErrorKind, Write};
 ///
 /// # Errors
 ///
-/// The file cannot be written, or one stands where it is to be written first.
+/// The file cannot be written, or one stands where it is to be written first, which is told then.
 pub fn keep(rt: &HostRuntime, folder: &str, seed: u64, text: &str) -> Result<(), Fault> {
     let alloc = rt.alloc();
     let name = format!(in alloc; "{folder}/{seed}.toml")?;
@@ -19,34 +19,51 @@ pub fn keep(rt: &HostRuntime, folder: &str, seed: u64, text: &str) -> Result<(),
     };
     match written {
         Ok(()) => Ok(()),
-        Err(error) if error.kind() == ErrorKind::OutOfMemory => Err(Fault::Memory),
-        Err(_) => Err(Fault::Unwritten(Some(name))),
+        Err(error) => Err(unwritten(error.kind(), name, beside)),
     }
 }
 
-/// Makes the folder of this name, where there is none, and tries whether it takes files.
+/// Makes the folder of this name, where there is none, and tries whether it takes files. The number tells the file that
+/// is tried from those of other calls.
 ///
 /// # Errors
 ///
 /// It is no folder and cannot be made, or it takes no file.
-pub fn open_folder(rt: &HostRuntime, folder: &str) -> Result<(), Fault> {
+pub fn open_folder(rt: &HostRuntime, folder: &str, number: u64) -> Result<(), Fault> {
     let alloc = rt.alloc();
-    let name = format!(in alloc; "{folder}/.survey.new")?;
-    match opened(rt, folder, name.as_str()) {
+    let name = String::from_str(alloc, folder)?;
+    let tried = format!(in alloc; "{folder}/.{number}.survey.new")?;
+    match opened(rt, folder, tried.as_str()) {
         Ok(()) => Ok(()),
-        Err(error) if error.kind() == ErrorKind::OutOfMemory => Err(Fault::Memory),
-        Err(_) => Err(Fault::Unwritten(Some(String::from_str(alloc, folder)?))),
+        Err(error) => Err(unwritten(error.kind(), name, tried)),
+    }
+}
+
+/// That a file is not written: the one beside it is told where it stood there already.
+fn unwritten(kind: ErrorKind, name: String, beside: String) -> Fault {
+    match kind {
+        ErrorKind::OutOfMemory => Fault::Memory,
+        ErrorKind::AlreadyExists => Fault::Unwritten(Some(beside)),
+        _ => Fault::Unwritten(Some(name)),
     }
 }
 
 /// Makes the folder, where there is none, writes a file of this name, and takes it away again.
 fn opened(rt: &HostRuntime, folder: &str, name: &str) -> io::Result<()> {
     if metadata(rt, folder).is_err() {
-        create_dir(rt, folder)?;
+        made(rt, folder)?;
     }
     let file = new_file(rt, name)?;
     drop(file);
     remove_file(rt, name)
+}
+
+/// Makes the folder, unless another has just made it.
+fn made(rt: &HostRuntime, folder: &str) -> io::Result<()> {
+    match create_dir(rt, folder) {
+        Err(error) if error.kind() != ErrorKind::AlreadyExists => Err(error),
+        _ => Ok(()),
+    }
 }
 
 /// A file of this name that was not there.

@@ -16,11 +16,14 @@ mod summing;
 mod surveying;
 mod telling;
 
+ghost use Rattle.std.specs.Prelude.{IfOk};
+ghost use Rattle.surveyor.specs.Telling.{IsUnasked};
+
 use asked::{Asked, AskedError, request};
 use breaking::broken;
+use std::env;
 use std::process::ExitCode;
 use std::thread::Threads;
-use std::{env, io};
 use summing::summed;
 use surveying::surveyed;
 use telling::{Fault, tell};
@@ -51,21 +54,27 @@ fn called<T: Threads + Sync>(rt: &HostRuntime, threads: &T) -> Result<u8, Fault>
             Ok(0)
         }
         Ok(Asked::Merge(merge)) => summed(rt, &mut rt.stdout(), &merge),
-        Err(AskedError::Words(error)) => Ok(unasked(rt, error)?),
-        Err(AskedError::Value(why)) => {
-            let _ = rt.eprintln(format_args!("error: {why}"));
-            Ok(2)
-        }
-        Err(AskedError::Memory) => Err(Fault::Memory),
+        Err(error) => unasked(rt, error),
     }
 }
 
-/// Prints what `clap` says of words that ask for nothing, help among it. The result is the exit status.
-fn unasked(rt: &HostRuntime, error: clap::Error) -> io::Result<u8> {
-    if error.use_stderr() {
-        let _ = error.print(rt);
-        return Ok(2);
+/// Says why the words ask for nothing, or prints help. The result is the exit status.
+fn unasked(rt: &HostRuntime, error: AskedError) -> Result<u8, Fault>
+    ensures { IfOk result (IsUnasked error) }
+{
+    match error {
+        AskedError::Words(error) => {
+            if error.use_stderr() {
+                let _ = error.print(rt);
+                return Ok(2);
+            }
+            error.print(rt)?;
+            Ok(0)
+        }
+        AskedError::Value(why) => {
+            let _ = rt.eprintln(format_args!("error: {why}"));
+            Ok(2)
+        }
+        AskedError::Memory => Err(Fault::Memory),
     }
-    error.print(rt)?;
-    Ok(0)
 }

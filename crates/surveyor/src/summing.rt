@@ -1,6 +1,7 @@
 //! What files tell.
-ghost use Rattle.std.specs.Prelude.{◌≡◌, ◌≢◌, IfOk, IfSome, Some, length};
-ghost use Rattle.surveyor.specs.Summed.{IsCoveredBy, IsSummed, IsTold, span_of};
+ghost use Rattle.std.specs.Prelude.{◌≡◌, ◌≢◌, IfOk, length};
+ghost use Rattle.survey.specs.Parts.{AreOf};
+ghost use Rattle.surveyor.specs.Summed.{AreEnds, IsAskedFor, IsCoveredBy, IsSummed, IsTold, span_of, with_seed};
 
 use crate::asked::Merge;
 use crate::input::bytes_of;
@@ -86,15 +87,23 @@ fn refusal(alloc: Global, name: &str, first: &str, error: PartError) -> Result<F
     Ok(Fault::Refused(line))
 }
 
+/// These ends, or further ones, so that a seed lies within.
+fn with_seed(ends: Option<(u64, u64)>, seed: u64) -> Option<(u64, u64)>
+    ensures { result ≡ with_seed ends seed }
+{
+    match ends {
+        None => Some((seed, seed)),
+        Some((first, last)) => Some((first.min(seed), last.max(seed))),
+    }
+}
+
 /// The least and the greatest seed of these campaigns.
-fn ends(all: &[Finding]) -> Option<(u64, u64)> {
+fn ends(all: &[Finding]) -> Option<(u64, u64)>
+    ensures { AreEnds all.now result }
+{
     let mut ends: Option<(u64, u64)> = None;
     for finding in all {
-        let seed = finding.seed;
-        ends = match ends {
-            None => Some((seed, seed)),
-            Some((first, last)) => Some((first.min(seed), last.max(seed))),
-        };
+        ends = with_seed(ends, finding.seed);
     }
     ends
 }
@@ -102,7 +111,7 @@ fn ends(all: &[Finding]) -> Option<(u64, u64)> {
 /// The seeds that are asked for: those that are said or, where none are, those from the least to the greatest that is
 /// told.
 fn asked_for(seeds: Option<(u64, u64)>, all: &[Finding]) -> Option<(u64, u64)>
-    ensures { IfSome seeds (λ s. result ≡ Some s) }
+    ensures { IsAskedFor seeds all.now result }
 {
     match seeds {
         Some(seeds) => Some(seeds),
@@ -113,6 +122,7 @@ fn asked_for(seeds: Option<(u64, u64)>, all: &[Finding]) -> Option<(u64, u64)>
 /// The exit status where these seeds lack, and these are double.
 fn status_of(holes: &[Stretch], doubles: &[Stretch]) -> u8
     ensures well { result ≡ 0 → (length holes.now ≡ 0) × (length doubles.now ≡ 0) }
+    ensures none { length holes.now ≡ 0 → length doubles.now ≡ 0 → result ≡ 0 }
     ensures ill { result ≢ 0 → result ≡ 1 }
 {
     if !holes.is_empty() {
@@ -126,6 +136,7 @@ fn status_of(holes: &[Stretch], doubles: &[Stretch]) -> u8
 
 /// Says which seeds lack, and which stand there more than once. The result is the exit status.
 fn covered(rt: &HostRuntime, seeds: Option<(u64, u64)>, all: &[Finding]) -> Result<u8, Fault>
+    requires { AreOf (span_of seeds).0 (span_of seeds).1 all.now }
     ensures { IfOk result (IsCoveredBy seeds all.now) }
 {
     let alloc = rt.alloc();

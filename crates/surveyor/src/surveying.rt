@@ -1,8 +1,8 @@
 //! The campaigns of a survey.
-ghost use Rattle.std.specs.Prelude.{◌≡◌, ◌≢◌, ◌++◌, OnOk};
+ghost use Rattle.std.specs.Prelude.{◌≡◌, ◌≢◌, ◌++◌, IfOk, OnOk};
 ghost use Rattle.std.specs.Io.KnownBytes.{Appends};
 ghost use Rattle.surveyor.specs.Asked.{IsSurvey};
-ghost use Rattle.surveyor.specs.Printed.{IsPrinted, IsSurveyed, added, head_in, lines_in};
+ghost use Rattle.surveyor.specs.Printed.{IsPrinted, IsSurveyed, added, broken_seeds, head_in, lines_in};
 
 use crate::asked::{Shape, Survey};
 use crate::family::family_of;
@@ -12,6 +12,7 @@ use crate::printing::{print, put_summary};
 use crate::progress::Progress;
 use crate::shrinking::shrunken;
 use crate::telling::Fault;
+use std::alloc::{AllocError, Global};
 use std::thread::Threads;
 use streams::Output;
 use survey::{Family, Finding, campaign_text, head, is_sound, survey};
@@ -33,7 +34,7 @@ pub fn surveyed<T: Threads + Sync, O: Output>(
 {
     let family = family_of(rt, asked)?;
     if let Some(folder) = &asked.keep {
-        open_folder(rt, folder.as_str())?;
+        open_folder(rt, folder.as_str(), asked.first)?;
     }
     if asked.shape == Shape::Least {
         return shrunken(rt, threads, out, asked, &family);
@@ -68,8 +69,9 @@ fn played<T: Threads + Sync, O: Output>(
             Err(error) => return Err(refused(next, until, error)),
         };
         put_lines(rt, out, asked.shape, found.as_slice())?;
-        keep_broken(rt, asked, family, found.as_slice())?;
-        broken = broken.saturating_add(broken_in(found.as_slice()));
+        let seeds = broken_seeds(alloc, found.as_slice())?;
+        keep_all(rt, asked, family, seeds.as_slice())?;
+        broken = broken.saturating_add(seeds.len() as u64);
         add(asked.shape, &mut all, found.as_slice())?;
         next = until;
         progress.tell(next.saturating_sub(1), broken)?;
@@ -78,15 +80,17 @@ fn played<T: Threads + Sync, O: Output>(
     put_summary(alloc, out, asked.shape, told)
 }
 
-/// In how many of the campaigns agreement is broken, or the order disobeyed.
-fn broken_in(found: &[Finding]) -> u64 {
-    let mut broken: u64 = 0;
+/// The seeds of those of the campaigns in which agreement is broken, or the order disobeyed.
+fn broken_seeds(alloc: Global, found: &[Finding]) -> Result<Vec<u64>, AllocError>
+    ensures { IfOk result (λ seeds. seeds.items ≡ broken_seeds found.now) }
+{
+    let mut seeds = Vec::new(alloc);
     for finding in found {
         if !is_sound(finding.verdict) {
-            broken = broken.saturating_add(1);
+            seeds.push(finding.seed)?;
         }
     }
-    broken
+    Ok(seeds)
 }
 
 /// Adds campaigns to those that are summed, unless lines are printed alone.
@@ -130,21 +134,14 @@ fn put_lines<O: Output>(
     print(out, lines_text(rt.alloc(), found)?.as_str())
 }
 
-/// Keeps those of the campaigns in which agreement is broken, or the order disobeyed, where a folder is named.
-fn keep_broken(
-    rt: &HostRuntime,
-    asked: &Survey,
-    family: &Family,
-    found: &[Finding],
-) -> Result<(), Fault> {
+/// Keeps the campaigns of these seeds, where a folder is named.
+fn keep_all(rt: &HostRuntime, asked: &Survey, family: &Family, seeds: &[u64]) -> Result<(), Fault> {
     let Some(folder) = &asked.keep else {
         return Ok(());
     };
-    for finding in found {
-        if !is_sound(finding.verdict) {
-            let text = campaign_text(rt.alloc(), family, finding.seed)?;
-            keep(rt, folder.as_str(), finding.seed, text.as_str())?;
-        }
+    for seed in seeds {
+        let text = campaign_text(rt.alloc(), family, *seed)?;
+        keep(rt, folder.as_str(), *seed, text.as_str())?;
     }
     Ok(())
 }

@@ -1,4 +1,7 @@
 //! What is told where a survey comes to no end.
+ghost use Rattle.std.specs.Prelude.{◌≡◌};
+ghost use Rattle.surveyor.specs.Telling.{status_of};
+
 use scenario::ScenarioError;
 use std::alloc::{AllocError, AllocFailed};
 use std::io::{self, ErrorKind};
@@ -42,20 +45,32 @@ impl From<io::Error> for Fault {
     }
 }
 
+/// The exit status of a call that comes to this end.
+fn status_of(fault: &Fault) -> u8
+    ensures { result ≡ status_of fault.now }
+{
+    match fault {
+        Fault::Unread(_) | Fault::Unwritten(_) | Fault::Refused(_) | Fault::Campaign(_, _, _) => 1,
+        Fault::Words => 2,
+        Fault::Memory => 3,
+    }
+}
+
 /// Says why on standard error. The result is the exit status.
-pub fn tell(rt: &HostRuntime, fault: Fault) -> u8 {
-    let (written, status) = match fault {
-        Fault::Unread(name) => (rt.eprintln(format_args!("fault read {name}")), 1),
-        Fault::Unwritten(Some(name)) => (rt.eprintln(format_args!("fault write {name}")), 1),
-        Fault::Unwritten(None) => (rt.eprintln("fault write"), 1),
-        Fault::Refused(line) => (rt.eprintln(line), 1),
-        Fault::Campaign(first, last, error) => (
-            rt.eprintln(format_args!("refused {error} (of seeds {first}..{last})")),
-            1,
-        ),
-        Fault::Words => (rt.eprintln("error: the words are not UTF-8"), 2),
-        Fault::Memory => (rt.eprintln("out of memory"), 3),
+pub fn tell(rt: &HostRuntime, fault: Fault) -> u8
+    ensures { result ≡ status_of fault }
+{
+    let status = status_of(&fault);
+    let _ = match fault {
+        Fault::Unread(name) => rt.eprintln(format_args!("fault read {name}")),
+        Fault::Unwritten(Some(name)) => rt.eprintln(format_args!("fault write {name}")),
+        Fault::Unwritten(None) => rt.eprintln("fault write"),
+        Fault::Refused(line) => rt.eprintln(line),
+        Fault::Campaign(first, last, error) => {
+            rt.eprintln(format_args!("refused {error} (of seeds {first}..{last})"))
+        }
+        Fault::Words => rt.eprintln("error: the words are not UTF-8"),
+        Fault::Memory => rt.eprintln("out of memory"),
     };
-    let _ = written;
     status
 }

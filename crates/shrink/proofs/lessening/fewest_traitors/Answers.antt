@@ -1,5 +1,6 @@
 use Rattle.shrink.specs.Shrinking.{IsStillBroken, whole}
-use Rattle.shrink.proofs.Parts.{out_on, some_of}
+use Rattle.shrink.proofs.Parts.{out_on, some_of, refused_on}
+use Rattle.std.proofs.lemmas.Result.{err_from_is_err_and}
 use Rattle.shrink.proofs.lessening.fewest_traitors.Goals as goal
 use Rattle.shrink.proofs.lessening.fewest_traitors.Goals.{then-place-len+in_ok-less+in-Some, then-place-len+in_ok-less+in-None, else-place-len}
 
@@ -13,3 +14,8 @@ loop-preserved c =
       | then-place-len+in_ok-less+in-None w ↦ rw w.left-is c.loop.invariant
       | else-place-len w ↦ rw w.left-is c.loop.invariant
     ]
+
+pub returns-in_err-less-clause-refused : goal.returns-in_err-less-clause-refused
+returns-in_err-less-clause-refused c =
+    let p = err_from_is_err_and c.from_residual.result c.from_residual.ensures.1 in
+    rw (p.1, p.2) (λ other. refused_on c.args.plot c.loop.left c.in_err-less.field-0.0 c.loop.invariant.1 (c.in_err-less.ensures.refused other))

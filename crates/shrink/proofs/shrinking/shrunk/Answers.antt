@@ -1,10 +1,11 @@
 use Rattle.std.proofs.Common.{Bool, subst}
 use Rattle.shrink.specs.Shrinking.{Comes, IsStillBroken, whole}
-use Rattle.shrink.proofs.Parts.{less_then, out_on, part_on, some_of}
+use Rattle.shrink.proofs.Parts.{less_then, out_on, part_on, some_of, refused_here, refused_on}
+use Rattle.std.proofs.lemmas.Result.{err_from_is_err_and}
 use Rattle.shrink.proofs.shrinking.shrunk.Goals as goal
 
 pub loop-left-init : goal.loop-left-init
-loop-left-init c = (subst (λ (x : Bool). Comes x c.args.plot) c.if-branch.false c.in_ok-comes_well.ensures, whole)
+loop-left-init c = (subst (λ (x : Bool). Comes x c.args.plot) c.if-branch.false c.in_ok-comes_well.ensures.comes, whole)
 
 pub loop-left-smaller : goal.loop-left-smaller
 loop-left-smaller c =
@@ -16,3 +17,20 @@ loop-left-preserved c =
     let still = some_of c.in_ok-smaller.field-0 c.in-Some.smaller (IsStillBroken c.loop-left.left) c.in-Some.is c.in_ok-smaller.ensures.some in
     let part = out_on c.args.plot c.loop-left.left c.in-Some.smaller c.loop-left.invariant.1 still in
     (c.in_ok-left.ensures.broken, part_on c.args.plot c.in-Some.smaller part.1 c.in_ok-left.ensures.part)
+
+pub returns-in_err-comes_well-clause-refused : goal.returns-in_err-comes_well-clause-refused
+returns-in_err-comes_well-clause-refused c =
+    let p = err_from_is_err_and c.from_residual.result c.from_residual.ensures.1 in
+    rw (p.1, p.2) (λ other. refused_here c.args.plot c.in_err-comes_well.field-0.0 (c.in_err-comes_well.ensures.refused other))
+
+pub returns-in_err-smaller-clause-refused : goal.returns-in_err-smaller-clause-refused
+returns-in_err-smaller-clause-refused c =
+    let p = err_from_is_err_and c.from_residual-in_err-smaller.result c.from_residual-in_err-smaller.ensures.1 in
+    rw (p.1, p.2) (λ other. refused_on c.args.plot c.loop-left.left c.in_err-smaller.field-0.0 c.loop-left.invariant.1 (c.in_err-smaller.ensures.refused other))
+
+pub returns-in_err-left-clause-refused : goal.returns-in_err-left-clause-refused
+returns-in_err-left-clause-refused c =
+    let p = err_from_is_err_and c.from_residual-in_err-left.result c.from_residual-in_err-left.ensures.1 in
+    let still = some_of c.in_ok-smaller.field-0 c.in-Some.smaller (IsStillBroken c.loop-left.left) c.in-Some.is c.in_ok-smaller.ensures.some in
+    let part = out_on c.args.plot c.loop-left.left c.in-Some.smaller c.loop-left.invariant.1 still in
+    rw (p.1, p.2) (λ other. refused_on c.args.plot c.in-Some.smaller c.in_err-left.field-0.0 part.1 (c.in_err-left.ensures.refused other))

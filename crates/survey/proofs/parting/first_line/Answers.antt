@@ -1,7 +1,7 @@
-use Rattle.std.proofs.Common.{ℕ, ◌+◌, ◌<◌, ◌∙◌, ap, subst, length, take}
+use Rattle.std.proofs.Common.{ℕ, ◌+◌, ◌<◌, ◌≤◌, ◌∙◌, ap, subst, length, take, arith}
 use Rattle.text.specs.Parts.{until}
 use Rattle.text.specs.Stop.{feed}
-use Rattle.survey.proofs.PartLemmas.{line_ends}
+use Rattle.survey.proofs.PartLemmas.{unfed_all, whole_line}
 use Rattle.survey.proofs.parting.first_line.Goals as goal
 
 pub returns-then-end-bytes-clause-line : goal.returns-then-end-bytes-clause-line
@@ -9,5 +9,12 @@ returns-then-end-bytes-clause-line c =
     let bytes = c.args.bytes.now in
     let is = c.find-end.ensures.found in
     let lt : until feed bytes < length bytes = subst (λ (n : ℕ). n < length bytes) is c.if-end-bytes.true in
-    let ends = line_ends bytes lt in
-    (ends.0, c.split_at.ensures.front ∙ (ap (λ (n : ℕ). take (n + 1) bytes) is ∙ ends.1))
+    whole_line bytes c.split_at.result.0.now (c.split_at.ensures.front ∙ ap (λ (n : ℕ). take (n + 1) bytes) is) lt
+
+pub returns-clause-none : goal.returns-clause-none
+returns-clause-none c =
+    let bytes = c.args.bytes.now in
+    let is = c.find-end.ensures.found in
+    let past = c.if-end-bytes.false in
+    let le : length bytes ≤ until feed bytes = omega arith in
+    unfed_all bytes le

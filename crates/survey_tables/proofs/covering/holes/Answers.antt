@@ -1,11 +1,12 @@
 use Rattle.std.proofs.Common.{ℕ, List, ◌≡◌, ◌∙◌, ap, subst, sym}
 use Rattle.std.proofs.lemmas.Result.{IfOk-weaker}
-use Rattle.survey_tables.specs.Covering.{AreHoles, gaps, seeds_in}
+use Rattle.survey_tables.specs.Covering.{AreApart, AreHoles, gaps, seeds_in}
+use Rattle.survey_tables.proofs.Apart.{all_gaps_apart}
 use Rattle.survey_tables.proofs.Exactness.{holes_exact}
 use Rattle.survey_tables.proofs.covering.holes.Goals as goal
 
-pub returns : goal.returns
-returns c =
+pub returns-clause-holes : goal.returns-clause-holes
+returns-clause-holes c =
     let first = c.args.first in
     let last = c.args.last in
     let told = seeds_in c.args.findings.now in
@@ -13,3 +14,11 @@ returns c =
     let slice = ap (λ (s : List ℕ). gaps first s last) c.as_slice.ensures.value in
     IfOk-weaker c.gaps.result (λ v. v.items ≡ gaps first c.as_slice.result.now last) (λ v. AreHoles first last told v.items)
     (λ v e. subst (AreHoles first last told) (sym (e ∙ slice)) exact) c.gaps.ensures
+
+pub returns-clause-apart : goal.returns-clause-apart
+returns-clause-apart c =
+    let first = c.args.first in
+    let last = c.args.last in
+    let seeds = c.as_slice.result.now in
+    IfOk-weaker c.gaps.result (λ v. v.items ≡ gaps first seeds last) (λ v. AreApart v.items)
+    (λ v e. subst AreApart (sym e) (all_gaps_apart first seeds last)) c.gaps.ensures

@@ -17,5 +17,5 @@ loop-next-preserved g c =
       from = omega arith;
       until = high;
       least = and_more (plot_of c.args.family.now) c.args.asked.now.first c.loop-next.next c.min-until.result c.loop-next.so_far c.least.result c.better-so_far.result c.in-Ok.found.items
-          c.loop-next.invariant.from low c.loop-next.invariant.least c.in-Ok.ensures c.least.ensures c.better-so_far.ensures;
+          c.loop-next.invariant.from low c.loop-next.invariant.least c.in-Ok.ensures.shrunk c.least.ensures c.better-so_far.ensures;
     }

@@ -15,4 +15,4 @@ loop-name-preserved c =
     let new = c.read_part.new.parts.findings.items in
     let seeds = span_of c.args.asked.now.seeds in
     one_told before head c.as_slice.result.now seeds.0 seeds.1 c.loop-name.name-index (c.loop-name.name-index + 1) old new refl c.loop-name.invariant
-    (subst (λ (p : ℕ × ℕ). IsReadOn before head c.as_slice.result.now p.0 p.1 old new) c.span_of.ensures c.in-Ok.ensures)
+    (subst (λ (p : ℕ × ℕ). IsReadOn before head c.as_slice.result.now p.0 p.1 old new) c.span_of.ensures c.in-Ok.ensures.read)

@@ -1,12 +1,12 @@
--- How the words of a line are found.
-use Rattle.std.specs.Prelude.{ℕ, ◌^◌, nat_lt, Bool, true, false, if◌then◌else◌, List, drop, bytes_eq, codes, Option, None, Some}
-use Rattle.text.specs.Number.{decimal_of}
+-- How the words of a line are found, and what is found by them: that lines that are alike tell the same.
+use Rattle.std.specs.Prelude.{ℕ, ◌^◌, Bool, true, false, if◌then◌else◌, List, drop, bytes_eq, codes, Option, None, Some}
 use Rattle.text.specs.Options.{◌>>=◌}
 use Rattle.text.specs.Parts.{before, from}
 use Rattle.text.specs.Stop.{colon, comma}
 use Rattle.text.specs.declared.stop.Stop.{Stop}
 use Rattle.text.specs.declared.stop.Stop.TheVariants.{Byte}
 use Rattle.survey.specs.declared.finding.Finding.{Finding}
+use Rattle.survey.specs.Lines.{number_told}
 
 -- what stands behind the first colon up to the stop, and from there on
 abbrev pub word : Stop → List ℕ → List ℕ
@@ -21,10 +21,6 @@ flag_told bytes =
 
 abbrev pub answer_told : List ℕ → Option (Option Bool)
 answer_told bytes = if bytes_eq bytes (codes "null") then Some None else flag_told bytes >>= λ b. Some (Some b)
-
--- a number below a limit
-abbrev pub number_told : ℕ → List ℕ → Option ℕ
-number_told limit bytes = decimal_of bytes >>= λ n. if nat_lt n limit then Some n else None
 
 -- what is found by these words, in the order of the line
 unfoldable pub found_by : List ℕ → List ℕ → List ℕ → List ℕ → List ℕ → List ℕ → List ℕ → Option Finding
