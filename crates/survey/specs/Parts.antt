@@ -97,7 +97,8 @@ IsCampaign f = IsSized f × (f.seed < 2 ^ 64)
 pub data IsWrong (head rest : List ℕ) (first last number : ℕ) : PartError → Type 0 where
   cut_off : rest ≢ [] → IsUnfed rest → IsWrong head rest first last number (Line number)
   unknown : (line more : List ℕ) → rest ≡ line ++ more → IsLine line → is_head line ≡ false
-      → (1 < number → (f : Finding) → IsCampaign f → line ≢ line_text f) → IsWrong head rest first last number (Line number)
+      → (1 < number → (f : Finding) → IsCampaign f → line ≢ line_text f)
+      → IsWrong head rest first last number (Line number)
   foreign : (line more : List ℕ) → rest ≡ line ++ more → IsHeadLine line → head ≢ [] → line ≢ head
       → IsWrong head rest first last number (Foreign number)
   earlier : (f : Finding) (more : List ℕ) → rest ≡ line_text f ++ more → IsCampaign f → 1 < number → f.seed < first
@@ -106,7 +107,8 @@ pub data IsWrong (head rest : List ℕ) (first last number : ℕ) : PartError �
       → IsWrong head rest first last number (Seed number f.seed)
 
 -- a text is read up to its first wrong line: those before it are right, and are read
-pub record IsFaulty (before head bytes : List ℕ) (first last : ℕ) (old new : List Finding) (e : PartError) : Type 0 where
+pub record IsFaulty (before head bytes : List ℕ) (first last : ℕ) (old new : List Finding)
+    (e : PartError) : Type 0 where
   pub rows : List (Option Finding)
   pub rest : List ℕ
   pub led : IsLed head rows
