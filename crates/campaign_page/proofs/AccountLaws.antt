@@ -75,8 +75,8 @@ pub svg_content : (wide : Bool) (svg element : List ℕ) → IsElement element �
 svg_content wide svg element is e =
     let drawn : IsContent svg =
     subst IsContent (sym e) (joined element (codes "\n") (proved_elements_are_elements.content element is) (text (codes "\n") (bare_text (codes "\n") refl))) in
-    joined (heading picture_heading ++ picture wide picture_name svg) (paragraph picture_hint)
-    (below picture_heading (picture wide picture_name svg) (proved_parts_are_content.picture wide picture_name svg drawn)) (proved_parts_are_content.paragraph picture_hint)
+    joined (heading picture_heading ++ paragraph picture_hint) (picture wide picture_name svg)
+    (below picture_heading (paragraph picture_hint) (proved_parts_are_content.paragraph picture_hint)) (proved_parts_are_content.picture wide picture_name svg drawn)
 
 picture_content : (t : MessageTable) (c : Chronicle) → IsContent (picture_part t c)
 picture_content t c = let drawn = proved_diagrams_are_elements t c in svg_content (is_wide c.scenario c.accesses) (svg_text t c) drawn.0 drawn.1 drawn.2

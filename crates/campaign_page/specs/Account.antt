@@ -112,7 +112,7 @@ abbrev pub is_wide : Scenario → List Access → Bool
 is_wide s accesses = nat_lt 1300 (width s.generals accesses)
 
 abbrev pub picture_told : Bool → List ℕ → List ℕ
-picture_told is_wide svg = heading picture_heading ++ picture is_wide picture_name svg ++ paragraph picture_hint
+picture_told is_wide svg = heading picture_heading ++ paragraph picture_hint ++ picture is_wide picture_name svg
 
 abbrev pub picture_part : MessageTable → Chronicle → List ℕ
 picture_part t c = picture_told (is_wide c.scenario c.accesses) (svg_text t c)

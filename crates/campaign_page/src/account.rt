@@ -120,23 +120,19 @@ fn put_diagram<H: Heard>(
 }
 
 /// Whether the picture of a campaign with these accesses has a wide sheet on paper.
-pub fn is_wide(
-    alloc: Global,
-    scenario: &Scenario,
-    accesses: &[Access],
-) -> Result<bool, AllocError>
+pub fn is_wide(alloc: Global, scenario: &Scenario, accesses: &[Access]) -> Result<bool, AllocError>
     ensures { IfOk result (λ wide. wide ≡ is_wide scenario.now accesses.now) }
 {
     Ok(width(alloc, scenario.generals(), accesses)? > 1300)
 }
 
-/// Adds this picture, and where it is to be had alone.
+/// Adds where this picture is to be had alone, and the picture.
 pub fn put_svg(out: &mut String, is_wide: bool, svg: &str) -> Result<(), AllocError>
     ensures { OnOk result (string_bytes out.new ≡ string_bytes out.old ++ picture_told is_wide svg.now) }
 {
     put_heading(out, picture_heading())?;
-    put_picture(out, is_wide, picture_name(), svg)?;
-    put_paragraph(out, picture_hint())
+    put_paragraph(out, picture_hint())?;
+    put_picture(out, is_wide, picture_name(), svg)
 }
 
 /// Adds the chronicle.

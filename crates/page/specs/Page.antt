@@ -29,9 +29,9 @@ look =
     ++ codes "margin:0;overflow-x:auto}summary:focus-visible,figure:focus-visible{outline:3px solid #0b5fa5;outline-offs"
     ++ codes "et:2px}@media(prefers-color-scheme:dark){body{background:#111;color:#eee}summary:focus-visible,figure:focu"
     ++ codes "s-visible{outline-color:#6cb8f5}}@page wide{size:A3 landscape;margin:5mm}@media print{body{background:#fff"
-    ++ codes ";color:#000}main{max-width:none;padding:0}figure{overflow:visible;break-inside:avoid}h2:has(+.wide),.wide{"
-    ++ codes "page:wide}.wide{break-inside:auto}h2,summary{break-after:avoid}summary{list-style:none}svg{max-width:100%;"
-    ++ codes "height:auto}details::details-content{content-visibility:visible;block-size:auto}}"
+    ++ codes ";color:#000}main{max-width:none;padding:0}figure{overflow:visible;break-inside:avoid}.wide{page:wide}.wide"
+    ++ codes "::after{content:'';display:block;break-after:page}h2,summary{break-after:avoid}summary{list-style:none}svg"
+    ++ codes "{max-width:100%;height:auto}details::details-content{content-visibility:visible;block-size:auto}}"
 
 abbrev pub look_end : List ℕ
 look_end = codes "</style>\n<title>"

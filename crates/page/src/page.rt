@@ -47,7 +47,8 @@ fn look() -> &'static str
 {
     ":root{color-scheme:light dark}body{margin:0;background:#fff;color:#111;font:16px/1.5 sans-serif}\
      main{max-width:70rem;margin:auto;padding:1rem}h1{font-size:1.4rem}h2{font-size:1.15rem;margin-top:2rem}\
-     pre{margin:.5rem 0;padding-left:.6rem;border-left:3px solid #8a8a8a;font:13px/1.45 monospace;white-space:pre-wrap;overflow-wrap:anywhere}\
+     pre{margin:.5rem 0;padding-left:.6rem;border-left:3px solid #8a8a8a;font:13px/1.45 \
+     monospace;white-space:pre-wrap;overflow-wrap:anywhere}\
      ul{list-style:none;margin:.2rem 0 .2rem .3rem;padding-left:.8rem;border-left:1px solid #8a8a8a}\
      table{border-collapse:collapse;table-layout:fixed;width:100%}th:nth-child(-n+2){width:4.5rem}\
      th,td{border:1px solid #8a8a8a;padding:.2rem .3rem;text-align:left;vertical-align:top;overflow-wrap:anywhere}\
@@ -57,7 +58,8 @@ fn look() -> &'static str
      @media(prefers-color-scheme:dark){body{background:#111;color:#eee}\
      summary:focus-visible,figure:focus-visible{outline-color:#6cb8f5}}@page wide{size:A3 landscape;margin:5mm}\
      @media print{body{background:#fff;color:#000}main{max-width:none;padding:0}\
-     figure{overflow:visible;break-inside:avoid}h2:has(+.wide),.wide{page:wide}.wide{break-inside:auto}\
+     figure{overflow:visible;break-inside:avoid}.wide{page:wide}\
+     .wide::after{content:'';display:block;break-after:page}\
      h2,summary{break-after:avoid}summary{list-style:none}svg{max-width:100%;height:auto}\
      details::details-content{content-visibility:visible;block-size:auto}}"
 }

@@ -7,7 +7,8 @@ ghost use Rattle.trace.specs.SignedText.{signed_text};
 use crate::lieutenants::put_lieutenants;
 use crate::verdict::put_verdict;
 use campaign_page::{
-    is_wide, put_chronicle_text, put_listed, put_programs, put_scenario, put_schedule, put_svg, title,
+    is_wide, put_chronicle_text, put_listed, put_programs, put_scenario, put_schedule, put_svg,
+    title,
 };
 use page::{finish, start};
 use round::Scenario;
