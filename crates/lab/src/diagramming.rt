@@ -1,7 +1,6 @@
 //! Campaigns as pictures.
 ghost use Rattle.std.specs.Prelude.{◌≡◌, IfErr, IfOk};
 ghost use Rattle.lab.specs.Diagrams.{IsCampaignDrawn, IsDiagram, IsRecordDrawn};
-ghost use Rattle.lab.specs.Promises.{AreFaithful};
 ghost use Rattle.lab.specs.Refusals.{RefusesChronicle, RefusesText};
 ghost use Rattle.retold.specs.Retold.{IsWhole};
 ghost use Rattle.scenario.specs.declared.messages.Campaign.TheVariants.{Oral, Signed};
@@ -38,7 +37,7 @@ pub fn diagrammed(
 }
 
 /// An oral one.
-#[tactic(auto, using(crate::proofs::CampaignLemmas::played_wholly, crate::proofs::DiagramLemmas::of_same, crate::proofs::PromiseLemmas::played_faithful, crate::proofs::PromiseLemmas::played_kept))]
+#[tactic(auto, using(crate::proofs::CampaignLemmas::played_wholly, crate::proofs::DiagramLemmas::of_same, crate::proofs::PromiseLemmas::played_kept))]
 fn oral_diagrammed(
     alloc: Global,
     scenario: Scenario,
@@ -85,7 +84,7 @@ pub fn record_diagrammed(
 }
 
 /// An oral one.
-#[tactic(auto, using(crate::proofs::CampaignLemmas::told_wholly, crate::proofs::DiagramLemmas::of_same, crate::proofs::PromiseLemmas::told_faithful, crate::proofs::PromiseLemmas::told_kept))]
+#[tactic(auto, using(crate::proofs::CampaignLemmas::told_wholly, crate::proofs::DiagramLemmas::of_same, crate::proofs::PromiseLemmas::told_kept))]
 fn oral_record_diagrammed(
     alloc: Global,
     scenario: &Scenario,
@@ -117,11 +116,9 @@ fn signed_record_diagrammed(
 /// The picture of a chronicle, with the message table that its letters tell.
 #[tactic(auto, using(crate::proofs::DiagramLemmas::is_diagram))]
 fn diagram_of(alloc: Global, chronicle: &Chronicle) -> Result<Vec<u8>, AllocError>
-    requires whole { IsWhole chronicle.now }
-    requires faithful { AreFaithful chronicle.now }
+    requires { IsWhole chronicle.now }
     ensures { IfOk result (λ picture. IsDiagram chronicle.now picture.items) }
 {
-    chronicle.scenario().recall();
     let told = hearing(alloc, chronicle)?;
     let table = told_table(&told, chronicle);
     Ok(campaign_svg(alloc, &table, chronicle)?.into_bytes())

@@ -7,7 +7,6 @@ use Rattle.std.proofs.lemmas.List.{length-map}
 use Rattle.std.proofs.lemmas.Option.{slice_get-map}
 use Rattle.std.proofs.lemmas.Bool.{cases_lt, cond-true, cond-false, lt-ltb, le-ltb}
 use Rattle.combine.specs.declared.chosen.Rule.{Rule}
-use Rattle.combine.specs.Chosen.{combined_by}
 use Rattle.label.specs.Labels.{others}
 use Rattle.label.specs.Lieutenants.{lieutenants}
 use Rattle.label.specs.Oral.{Messages}
@@ -23,11 +22,9 @@ use Rattle.round.specs.Scenario.{Scenario, IsScenario}
 use Rattle.round.specs.Told.{IsTreeOf, ToldSeen, WasTold, lieutenant_at}
 use Rattle.world.specs.Chronicle.{Chronicle}
 use Rattle.tables.specs.Hearing.{heard}
-use Rattle.tables.specs.Laws.{IsTableOf}
 use Rattle.tables.specs.Written.{table_text}
 use Rattle.tables.proofs.Flattened.{tables_same}
-use Rattle.tables.proofs.Reread.{decides_same}
-use Rattle.retold.specs.Retold.{Explains, ExplainsAsked, IsTableFor, explained_of, table_of, traitors_of}
+use Rattle.retold.specs.Retold.{Explains, ExplainsAsked, explained_of, table_of, traitors_of}
 use Rattle.retold.proofs.Heard.{heard_is}
 
 -- lists that are the same at each place
@@ -106,36 +103,6 @@ told_from c h s trees n m k by t inside es et en em ek eb told read =
     in
     let is : (w : List ℕ) (p : ℕ) → is_place_of c.scenario.generals c.scenario.bound c.scenario.commander w p ≡ true → heard h.trees w p ≡ messages c.letters w p = heard_is c.scenario c.letters h its told in
     ap table_told (sym (tables_same (heard h.trees) (messages c.letters) c.scenario.generals c.scenario.bound c.scenario.commander c.scenario.rule its.commander is)) ∙ (ap table_told (sym same) ∙ read)
-
--- and it is that of the chronicle's messages
-pub table_from : (c : Chronicle) (h : ToldSeen) (s : Scenario) (trees : List LieutenantTree) (n m k : ℕ) (by : Rule) (t : MessageTable)
-    → IsScenario s → s ≡ c.scenario → trees ≡ h.trees → n ≡ s.generals → m ≡ s.bound → k ≡ s.commander → by ≡ s.rule → WasTold c.scenario c.letters h
-    → IsTableOf (heard trees) n m k by t → IsTableFor c t
-table_from c h s trees n m k by t inside es et en em ek eb told is =
-    let its : IsScenario c.scenario = subst IsScenario es inside in
-    let same : (w : List ℕ) (p : ℕ) → is_place_of c.scenario.generals c.scenario.bound c.scenario.commander w p ≡ true → heard h.trees w p ≡ messages c.letters w p = heard_is c.scenario c.letters h its told in
-    let gn : n ≡ c.scenario.generals = en ∙ ap (λ (x : Scenario). x.generals) es in
-    let gm : m ≡ c.scenario.bound = em ∙ ap (λ (x : Scenario). x.bound) es in
-    let gk : k ≡ c.scenario.commander = ek ∙ ap (λ (x : Scenario). x.commander) es in
-    let gb : by ≡ c.scenario.rule = eb ∙ ap (λ (x : Scenario). x.rule) es in
-    let first : IsTableOf (heard h.trees) n m k by t = subst (λ (ts : List LieutenantTree). IsTableOf (heard ts) n m k by t) et is in
-    let second : IsTableOf (heard h.trees) c.scenario.generals m k by t = subst (λ (a : ℕ). IsTableOf (heard h.trees) a m k by t) gn first in
-    let third : IsTableOf (heard h.trees) c.scenario.generals c.scenario.bound k by t = subst (λ (b : ℕ). IsTableOf (heard h.trees) c.scenario.generals b k by t) gm second in
-    let fourth : IsTableOf (heard h.trees) c.scenario.generals c.scenario.bound c.scenario.commander by t = subst (λ (d : ℕ). IsTableOf (heard h.trees) c.scenario.generals c.scenario.bound d by t) gk third in
-    let own : IsTableOf (heard h.trees) c.scenario.generals c.scenario.bound c.scenario.commander c.scenario.rule t =
-    subst (λ (rule : Rule). IsTableOf (heard h.trees) c.scenario.generals c.scenario.bound c.scenario.commander rule t) gb fourth
-    in
-    let there : (w : List ℕ) (p : ℕ) → is_place_of t.generals t.bound t.commander w p ≡ is_place_of c.scenario.generals c.scenario.bound c.scenario.commander w p =
-    λ w p. λ i. is_place_of (own.generals i) (own.bound i) (own.commander i) w p
-    in
-    record {
-      generals = own.generals;
-      bound = own.bound;
-      commander = own.commander;
-      rule = own.rule;
-      told = λ w p place. own.told w p place ∙ same w p (sym (there w p) ∙ place);
-      decides = λ p l ne. own.decides p l ne ∙ decides_same (combined_by c.scenario.rule) c.scenario.generals c.scenario.bound c.scenario.commander p (heard h.trees) (messages c.letters) its.commander l ne same;
-    }
 
 -- what is said of the table that the chronicle's text is read as
 pub explains_or_error : (c : Chronicle) (s : Scenario) (t : MessageTable) (general : Option ℕ) (traitors named : List ℕ) → s ≡ c.scenario

@@ -10,18 +10,12 @@ use Rattle.round.specs.Scenario.{Scenario, is_traitor}
 use Rattle.round.specs.Told.{AreRoundsOf}
 use Rattle.world.specs.Chronicle.{Chronicle, decisions}
 use Rattle.tables.specs.Answers.{ExplainsOne, ExplainsTable}
-use Rattle.tables.specs.Laws.{IsTableOf}
 use Rattle.tables.specs.Written.{table_text}
 
 -- the table of a campaign's messages: of each label, the shorter ones first, for each receiver who is off it what its
 -- last general told him of the rest by his letter, and no line where he told him nothing
 abbrev pub table_of : Chronicle → List ℕ
 table_of c = table_text (messages c.letters) c.scenario.generals c.scenario.bound c.scenario.commander c.scenario.rule
-
--- the table tells the campaign's messages, and decides by them
-abbrev pub IsTableFor : Chronicle → MessageTable → Type 0
-IsTableFor c t =
-    IsTableOf (messages c.letters) c.scenario.generals c.scenario.bound c.scenario.commander c.scenario.rule t
 
 -- all rounds are told, each by letters of that round, and the decisions are those of their messages
 pub record IsWhole (c : Chronicle) : Type 0 where

@@ -1,7 +1,7 @@
 //! The message table that a campaign's letters tell.
 ghost use Rattle.std.specs.Prelude.{suc, ◌≡◌, IfOk, Ok, length, string_bytes};
 ghost use Rattle.book.specs.Grammar.{table_told};
-ghost use Rattle.retold.specs.Retold.{IsRetold, IsTableFor, IsWhole, table_of};
+ghost use Rattle.retold.specs.Retold.{IsRetold, IsWhole, table_of};
 ghost use Rattle.round.specs.Told.{AreRoundsOf, WasTold};
 
 use round::{Round, Scenario, Told};
@@ -44,13 +44,11 @@ pub fn hearing(alloc: Global, chronicle: &Chronicle) -> Result<Told, AllocError>
     hear(alloc, chronicle.scenario(), chronicle.letters())
 }
 
-/// The message table of a campaign, as what its lieutenants were told tells it: that which its text is read as, and
-/// which tells its messages.
+/// The message table of a campaign, as what its lieutenants were told tells it: that which its text is read as.
 pub fn told_table<'a>(told: &'a Told, chronicle: &Chronicle) -> TreeTable<'a>
     requires whole { IsWhole chronicle.now }
     requires told { WasTold chronicle.now.scenario chronicle.now.letters told.now }
-    ensures read { table_told (table_of chronicle.now) ≡ Ok result }
-    ensures table { IsTableFor chronicle.now result }
+    ensures { table_told (table_of chronicle.now) ≡ Ok result }
 {
     let scenario = chronicle.scenario();
     scenario.recall();

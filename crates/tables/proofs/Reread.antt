@@ -23,7 +23,7 @@ use Rattle.book.proofs.FormLemmas.{AreFew, begun_some, few_all, lines_read, mess
 use Rattle.book.proofs.Places.{Place, places, is_in, AllDiffer, fits, is_place_of, are_places, places_differ, all_found}
 use Rattle.tables.specs.Collected.{collected, message, messages_at, told_more}
 use Rattle.tables.specs.Written.{first_line, line_of, mark_of, table_text, telling}
-use Rattle.tables.specs.Laws.{AreOrders, IsTableOf, TablesAreRead}
+use Rattle.tables.specs.Laws.{AreOrders, TablesAreRead}
 use Rattle.tables.proofs.Telling.{tell_of, tell_lacks, head, head_read, head_lacks}
 use Rattle.tables.proofs.Flattened.{placed, written_is}
 
@@ -239,18 +239,18 @@ read_again M orders n m c rule inside =
 pub collected_tells : (M : Messages) (n m c : ℕ) (w : List ℕ) (p : ℕ) → is_place_of n m c w p ≡ true → told (messages_at M (places n m c)) w p ≡ M w p
 collected_tells M n m c w p e = found M w p (places n m c) ∙ cond-true (is_in w p (places n m c)) (M w p) None (all_found n m c w p e)
 
--- it is the table of these messages
-pub collected_is : (M : Messages) (n m c : ℕ) (rule : Rule) → is_within n m c ≡ true → IsTableOf M n m c rule (collected M n m c rule)
-unfolding decision_of
-collected_is M n m c rule inside = record {
-  generals = refl;
-  bound = refl;
-  commander = refl;
-  rule = refl;
-  told = collected_tells M n m c;
-  decides = λ p lp ne. decides_same (combined_by rule) n m c p (told (messages_at M (places n m c))) M (limits n m c inside).present lp ne (collected_tells M n m c);
-}
-
 -- the law, as specs/Laws states it
 pub proved_tables_are_read : TablesAreRead
-proved_tables_are_read M orders n m c rule inside = (collected M n m c rule, read_again M orders n m c rule inside, collected_is M n m c rule inside)
+unfolding decision_of
+proved_tables_are_read M orders n m c rule inside = (
+  collected M n m c rule,
+  read_again M orders n m c rule inside,
+  record {
+    generals = refl;
+    bound = refl;
+    commander = refl;
+    rule = refl;
+    told = collected_tells M n m c;
+    decides = λ p lp ne. decides_same (combined_by rule) n m c p (told (messages_at M (places n m c))) M (limits n m c inside).present lp ne (collected_tells M n m c);
+  },
+)

@@ -7,7 +7,6 @@ ghost use Rattle.book.specs.Grammar.{table_told};
 ghost use Rattle.book.specs.Table.{AreNumbersWithin};
 ghost use Rattle.book.specs.Trees.{tree_of};
 ghost use Rattle.tables.specs.Hearing.{heard};
-ghost use Rattle.tables.specs.Laws.{IsTableOf};
 ghost use Rattle.tables.specs.Written.{table_text};
 
 use crate::trees::recall_orders;
@@ -66,8 +65,7 @@ impl<'a> TreeTable<'a> {
         requires within { AreNumbersWithin generals bound commander }
         requires filled { (M : Messages)
             × (trees.now ≡ map (tree_of generals bound commander M) (lieutenants generals commander)) }
-        ensures read { table_told (table_text (heard trees.now) generals bound commander rule) ≡ Ok result }
-        ensures table { IsTableOf (heard trees.now) generals bound commander rule result }
+        ensures { table_told (table_text (heard trees.now) generals bound commander rule) ≡ Ok result }
     {
         recall_orders(trees);
         TreeTable {

@@ -1,7 +1,7 @@
 use Rattle.std.proofs.Common.{subst, sym}
 use Rattle.round.specs.Scenario.{Scenario}
 use Rattle.round.specs.Told.{WasTold}
-use Rattle.retold.proofs.Trees.{filled_from, table_from, told_from, within_from}
+use Rattle.retold.proofs.Trees.{filled_from, told_from, within_from}
 use Rattle.retold.proofs.retelling.told_table.Goals as goal
 
 pub of-requires : goal.of-requires
@@ -12,12 +12,7 @@ of-requires c = record {
       c.trees.ensures c.generals.ensures.same c.bound.ensures.same c.commander-commander.ensures.same;
 }
 
-pub returns-clause-table : goal.returns-clause-table
-returns-clause-table c =
-    table_from c.args.chronicle.now c.args.told.now c.scenario-scenario.result.now c.trees.result.now c.generals.result c.bound.result c.commander-commander.result c.rule.result c.of.result
-    c.recall.ensures c.scenario-scenario.ensures c.trees.ensures c.generals.ensures.same c.bound.ensures.same c.commander-commander.ensures.same c.rule.ensures c.requires.told c.of.ensures.table
-
-pub returns-clause-read : goal.returns-clause-read
-returns-clause-read c =
+pub returns : goal.returns
+returns c =
     told_from c.args.chronicle.now c.args.told.now c.scenario-scenario.result.now c.trees.result.now c.generals.result c.bound.result c.commander-commander.result c.rule.result c.of.result
-    c.recall.ensures c.scenario-scenario.ensures c.trees.ensures c.generals.ensures.same c.bound.ensures.same c.commander-commander.ensures.same c.rule.ensures c.requires.told c.of.ensures.read
+    c.recall.ensures c.scenario-scenario.ensures c.trees.ensures c.generals.ensures.same c.bound.ensures.same c.commander-commander.ensures.same c.rule.ensures c.requires.told c.of.ensures

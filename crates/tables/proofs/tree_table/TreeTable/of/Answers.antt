@@ -1,14 +1,10 @@
 use Rattle.tables.specs.Hearing.{heard}
-use Rattle.tables.proofs.Reread.{collected_is, read_again, within}
+use Rattle.tables.proofs.Reread.{read_again, within}
 use Rattle.tables.proofs.TreeTables.{trees_collected}
 use Rattle.tables.proofs.tree_table.TreeTable.of.Goals as goal
 
 pub invariant_of-result : goal.invariant_of-result
 invariant_of-result c = trees_collected c.args.generals c.args.bound c.args.commander c.args.rule c.requires.filled.0 c.args.trees.now c.requires.within c.requires.filled.1
 
-pub returns-clause-table : goal.returns-clause-table
-returns-clause-table c =
-    collected_is (heard c.args.trees.now) c.args.generals c.args.bound c.args.commander c.args.rule (within c.args.generals c.args.bound c.args.commander c.requires.within)
-
-pub returns-clause-read : goal.returns-clause-read
-returns-clause-read c = read_again (heard c.args.trees.now) c.recall_orders.ensures c.args.generals c.args.bound c.args.commander c.args.rule (within c.args.generals c.args.bound c.args.commander c.requires.within)
+pub returns : goal.returns
+returns c = read_again (heard c.args.trees.now) c.recall_orders.ensures c.args.generals c.args.bound c.args.commander c.args.rule (within c.args.generals c.args.bound c.args.commander c.requires.within)
