@@ -1,5 +1,6 @@
 //! What the marks of a picture mean, below its rows.
 ghost use Rattle.std.specs.Prelude.{◌≡◌, ◌≤◌, ◌<◌, ◌^◌, ◌++◌, string_bytes, OnOk};
+ghost use Rattle.std.specs.List.{list_any};
 ghost use Rattle.drawing.specs.Legend.{count_of, has_circle, has_dashes, has_diamond, has_square, legend, marks_of, meaning, meaning_if, meaning_words, meanings, one_if, rule, rule_at};
 
 use crate::facts::is_honest;
@@ -12,11 +13,39 @@ pub(crate) fn marks(nodes: &[Node]) -> Marks
     ensures { result ≡ marks_of nodes.now }
 {
     Marks {
-        circle: nodes.iter().any(|node| has_circle(node)),
-        square: nodes.iter().any(|node| has_square(node)),
-        diamond: nodes.iter().any(|node| has_diamond(node)),
-        dashes: nodes.iter().any(|node| has_dashes(node)),
+        circle: any_circle(nodes),
+        square: any_square(nodes),
+        diamond: any_diamond(nodes),
+        dashes: any_dashes(nodes),
     }
+}
+
+/// Whether one of these labels has a circle.
+fn any_circle(nodes: &[Node]) -> bool
+    ensures { result ≡ list_any has_circle nodes.now }
+{
+    nodes.iter().any(|node| has_circle(node))
+}
+
+/// Whether one of them has a square.
+fn any_square(nodes: &[Node]) -> bool
+    ensures { result ≡ list_any has_square nodes.now }
+{
+    nodes.iter().any(|node| has_square(node))
+}
+
+/// Whether one of them has a diamond.
+fn any_diamond(nodes: &[Node]) -> bool
+    ensures { result ≡ list_any has_diamond nodes.now }
+{
+    nodes.iter().any(|node| has_diamond(node))
+}
+
+/// Whether one of them has dashes.
+fn any_dashes(nodes: &[Node]) -> bool
+    ensures { result ≡ list_any has_dashes nodes.now }
+{
+    nodes.iter().any(|node| has_dashes(node))
 }
 
 /// Whether no lie is known of a label.
@@ -132,7 +161,8 @@ fn put_meanings(out: &mut String, marks: Marks, place: u128) -> Result<(), Alloc
         Mark::Honest,
         Outcome::Divided,
         "no order has a majority",
-    )
+    )?;
+    Ok(())
 }
 
 /// Adds what a mark means, where it stands in the picture.
