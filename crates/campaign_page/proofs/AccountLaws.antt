@@ -1,5 +1,5 @@
 -- Campaigns' pages are elements.
-use Rattle.std.proofs.Common.{ℕ, zero, suc, ◌≡◌, ◌==◌, nat_lt, List, [], ◌∷◌, ◌++◌, Option, None, Some, codes, encode_utf8, refl, subst, sym}
+use Rattle.std.proofs.Common.{ℕ, zero, suc, ◌≡◌, ◌==◌, nat_lt, Bool, List, [], ◌∷◌, ◌++◌, Option, None, Some, codes, encode_utf8, refl, subst, sym}
 use Rattle.std.specs.Prelude.{if◌then◌else◌}
 use Rattle.std.specs.Fmt.{decimal}
 use Rattle.std.specs.List.{flat_map, range_with_len}
@@ -31,7 +31,7 @@ use Rattle.trace.specs.Text.{chronicle_text}
 use Rattle.world.specs.Chronicle.{Chronicle}
 use Rattle.world.specs.declared.schedule.Repeat.{Repeat}
 use Rattle.world.specs.declared.verdict.Verdict.{Verdict}
-use Rattle.campaign_page.specs.Account.{access_heads, access_row, accesses_heading, accesses_part, bound_told, chronicle_heading, chronicle_shown, chronicle_part, course_told, elsewhere_words, general_name, lieutenant_part, lieutenant_told, lieutenant_words, lieutenants_heading, lieutenants_part, parts, picture_heading, picture_hint, picture_name, picture_part, picture_told, program_if, program_part, no_programs, programs_heading, programs_part, programs_told, recorded_words, scenario_heading, scenario_part, schedule_heading, schedule_part, title, unscheduled_words, verdict_heading, verdict_part, verdict_told, view_of, why_part}
+use Rattle.campaign_page.specs.Account.{access_heads, access_row, accesses_heading, accesses_part, bound_told, chronicle_heading, chronicle_shown, chronicle_part, course_told, elsewhere_words, general_name, is_wide, lieutenant_part, lieutenant_told, lieutenant_words, lieutenants_heading, lieutenants_part, parts, picture_heading, picture_hint, picture_name, picture_part, picture_told, program_if, program_part, no_programs, programs_heading, programs_part, programs_told, recorded_words, scenario_heading, scenario_part, schedule_heading, schedule_part, title, unscheduled_words, verdict_heading, verdict_part, verdict_told, view_of, why_part}
 use Rattle.campaign_page.specs.Calls.{named_calls}
 use Rattle.campaign_page.specs.Trees.{item_by, items_below, label_item, node_by, root_told, tree_told}
 use Rattle.campaign_page.specs.Laws.{CampaignPagesAreElements}
@@ -71,15 +71,15 @@ programs_content s =
     below programs_heading (programs_told programs) (told_content programs (all (program_part s) (range_with_len 0 s.generals) (λ g. program_content g (program_of s g))))
 
 -- a picture that is an element, and a line feed
-pub svg_content : (svg element : List ℕ) → IsElement element → svg ≡ element ++ codes "\n" → IsContent (picture_told svg)
-svg_content svg element is e =
+pub svg_content : (wide : Bool) (svg element : List ℕ) → IsElement element → svg ≡ element ++ codes "\n" → IsContent (picture_told wide svg)
+svg_content wide svg element is e =
     let drawn : IsContent svg =
     subst IsContent (sym e) (joined element (codes "\n") (proved_elements_are_elements.content element is) (text (codes "\n") (bare_text (codes "\n") refl))) in
-    joined (heading picture_heading ++ picture picture_name svg) (paragraph picture_hint)
-    (below picture_heading (picture picture_name svg) (proved_parts_are_content.picture picture_name svg drawn)) (proved_parts_are_content.paragraph picture_hint)
+    joined (heading picture_heading ++ paragraph picture_hint) (picture wide picture_name svg)
+    (below picture_heading (paragraph picture_hint) (proved_parts_are_content.paragraph picture_hint)) (proved_parts_are_content.picture wide picture_name svg drawn)
 
 picture_content : (t : MessageTable) (c : Chronicle) → IsContent (picture_part t c)
-picture_content t c = let drawn = proved_diagrams_are_elements t c in svg_content (svg_text t c) drawn.0 drawn.1 drawn.2
+picture_content t c = let drawn = proved_diagrams_are_elements t c in svg_content (is_wide c.scenario c.accesses) (svg_text t c) drawn.0 drawn.1 drawn.2
 
 why_content : (t : MessageTable) (traitors : List ℕ) (g : ℕ) → IsContent (why_part t traitors g)
 why_content t traitors g =

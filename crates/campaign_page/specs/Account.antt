@@ -7,6 +7,7 @@ use Rattle.book.specs.Decisions.{decision_of}
 use Rattle.book.specs.Explained.{explained_one}
 use Rattle.book.specs.Table.{MessageTable}
 use Rattle.diagram.specs.Foot.{alike_words, bound_words, obeyed_words}
+use Rattle.diagram.specs.Layout.{width}
 use Rattle.diagram.specs.Svg.{svg_text}
 use Rattle.diagram.specs.Words.{answered_words, asked_words}
 use Rattle.drawing.specs.declared.node.View.{View}
@@ -60,7 +61,6 @@ verdict_heading = codes "Verdict, and what was promised"
 unfoldable pub picture_name : List ℕ
 picture_name = codes "Space-time diagram"
 
--- on paper a wide picture is made narrow, and its letters small
 unfoldable pub picture_hint : List ℕ
 picture_hint = codes "The same picture alone, to enlarge or to print at any size, is what byzlab draw writes."
 
@@ -106,12 +106,16 @@ programs_told (c ∷ cs) = c ∷ cs
 abbrev pub programs_part : Scenario → List ℕ
 programs_part s = heading programs_heading ++ programs_told (flat_map (program_part s) (range_with_len 0 s.generals))
 
--- the picture
-abbrev pub picture_told : List ℕ → List ℕ
-picture_told svg = heading picture_heading ++ picture picture_name svg ++ paragraph picture_hint
+-- the picture; on paper one of more than this width has a wide sheet, since a narrow one would make its letters too
+-- small to be read
+abbrev pub is_wide : Scenario → List Access → Bool
+is_wide s accesses = nat_lt 1300 (width s.generals accesses)
+
+abbrev pub picture_told : Bool → List ℕ → List ℕ
+picture_told is_wide svg = heading picture_heading ++ paragraph picture_hint ++ picture is_wide picture_name svg
 
 abbrev pub picture_part : MessageTable → Chronicle → List ℕ
-picture_part t c = picture_told (svg_text t c)
+picture_part t c = picture_told (is_wide c.scenario c.accesses) (svg_text t c)
 
 -- what a lieutenant decides, his tree, three levels below the commander's, and shorter where all tell the same, and how
 -- his decision comes about

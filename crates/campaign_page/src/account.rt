@@ -1,14 +1,16 @@
 //! A campaign as a page.
 ghost use Rattle.std.specs.Prelude.{◌≡◌, ◌++◌, encode_utf8, flat_map, option_map, string_bytes, IfOk, OnOk};
-ghost use Rattle.campaign_page.specs.Account.{picture_hint, picture_name, chronicle_heading, picture_heading, scenario_heading, chronicle_shown, chronicle_part, page_text, parts, picture_part, picture_told, scenario_part, title, title_words};
+ghost use Rattle.campaign_page.specs.Account.{picture_hint, picture_name, chronicle_heading, picture_heading, scenario_heading, chronicle_shown, chronicle_part, page_text, is_wide, parts, picture_part, picture_told, scenario_part, title, title_words};
 ghost use Rattle.trace.specs.Text.{chronicle_text};
 
 use crate::accesses::put_accesses;
 use crate::schedule::put_schedule;
 use crate::sections::{put_lieutenants, put_programs_of};
 use crate::verdict::put_verdict;
+use board::Access;
 use book::Heard;
 use diagram::campaign_svg;
+use diagram::layout::width;
 use page::{finish, put_heading, put_lines, put_paragraph, put_picture, start};
 use round::Scenario;
 use std::alloc::{AllocError, Global};
@@ -113,16 +115,24 @@ fn put_diagram<H: Heard>(
         ++ picture_part (H.seen table.now) chronicle.now) }
 {
     let svg = campaign_svg(alloc, table, chronicle)?;
-    put_svg(out, svg.as_str())
+    let wide = is_wide(alloc, chronicle.scenario(), chronicle.accesses())?;
+    put_svg(out, wide, svg.as_str())
 }
 
-/// Adds this picture, and where it is to be had alone.
-pub fn put_svg(out: &mut String, svg: &str) -> Result<(), AllocError>
-    ensures { OnOk result (string_bytes out.new ≡ string_bytes out.old ++ picture_told svg.now) }
+/// Whether the picture of a campaign with these accesses has a wide sheet on paper.
+pub fn is_wide(alloc: Global, scenario: &Scenario, accesses: &[Access]) -> Result<bool, AllocError>
+    ensures { IfOk result (λ wide. wide ≡ is_wide scenario.now accesses.now) }
+{
+    Ok(width(alloc, scenario.generals(), accesses)? > 1300)
+}
+
+/// Adds where this picture is to be had alone, and the picture.
+pub fn put_svg(out: &mut String, is_wide: bool, svg: &str) -> Result<(), AllocError>
+    ensures { OnOk result (string_bytes out.new ≡ string_bytes out.old ++ picture_told is_wide svg.now) }
 {
     put_heading(out, picture_heading())?;
-    put_picture(out, picture_name(), svg)?;
-    put_paragraph(out, picture_hint())
+    put_paragraph(out, picture_hint())?;
+    put_picture(out, is_wide, picture_name(), svg)
 }
 
 /// Adds the chronicle.
@@ -203,7 +213,7 @@ fn picture_name() -> &'static str
     "Space-time diagram"
 }
 
-/// Where the picture is to be had alone: on paper a wide one is made narrow, and its letters small.
+/// Where the picture is to be had alone.
 #[tactic(auto, unfolding(crate::specs::Account::picture_hint))]
 fn picture_hint() -> &'static str
     ensures { result.now ≡ picture_hint }

@@ -12,7 +12,7 @@ mod sections;
 mod verdict;
 
 pub use accesses::put_listed;
-pub use account::{page_text, put_chronicle_text, put_scenario, put_svg, title};
+pub use account::{is_wide, page_text, put_chronicle_text, put_scenario, put_svg, title};
 pub use laws::{campaign_pages_are_elements, folds_hide_nothing, names_are_read};
 pub use schedule::put_schedule;
 pub use sections::put_programs;

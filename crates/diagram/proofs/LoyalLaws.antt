@@ -15,14 +15,15 @@ use Rattle.book.proofs.Places.{all_flat}
 use Rattle.book.proofs.TreeLemmas.{place_of_tree}
 use Rattle.drawing.proofs.PlaceLemmas.{place_next, teller_told}
 use Rattle.round.specs.Letters.{messages}
-use Rattle.round.specs.Scenario.{is_traitor}
+use Rattle.round.specs.Scenario.{Scenario, is_traitor}
+use Rattle.tables.specs.Laws.{IsTableOf}
 use Rattle.tables.proofs.Reread.{apart_first, first_label, place_from}
 use Rattle.world.specs.World.{opening, run}
 use Rattle.world.proofs.Agreeing.{proved_worlds_agree}
 use Rattle.diagram.specs.declared.stroke.Stroke.{Stroke}
 use Rattle.diagram.specs.declared.telling.Telling.{Telling}
 use Rattle.diagram.specs.Facts.{added, is_before, is_same, made, strokes_below, strokes_of, strokes_to, strokes_with, telling_at, tellings_below, tellings_by, tellings_of}
-use Rattle.diagram.specs.Laws.{IsDrawnHonest, OnlyTraitorsDiffer}
+use Rattle.diagram.specs.Laws.{BlamesTraitors, IsDrawnHonest, OnlyTraitorsDiffer}
 use Rattle.diagram.specs.Words.{kind_of}
 
 -- who tells what he took does not differ
@@ -121,22 +122,25 @@ weaker : {A : Type 0} (P Q : A → Type 0) (xs : List A) → ((x : A) → P x �
 weaker P Q [] h a = tt
 weaker P Q (x ∷ xs) h a = (h x a.0, weaker P Q xs h a.1)
 
-pub proved_only_traitors_differ : OnlyTraitorsDiffer
+-- of the table of such messages
+pub blamed : (s : Scenario) (M : Messages) (t : MessageTable) → s.commander < s.generals
+    → ((g : ℕ) → g < s.generals → is_traitor s g ≡ false → IsFaithful s.generals s.commander s.bound s.order M g) → IsTableOf M s.generals s.bound s.commander s.rule t
+    → BlamesTraitors s t
 unfolding strokes_of
+blamed s M t present faithful table =
+    let P : ℕ → ℕ → ℕ → Type 0 = λ n m c. (g : ℕ) → g < n → is_traitor s g ≡ false → IsFaithful n c m s.order M g in
+    let first : P t.generals s.bound s.commander = subst (λ (n : ℕ). P n s.bound s.commander) (sym table.generals) faithful in
+    let second : P t.generals t.bound s.commander = subst (λ (m : ℕ). P t.generals m s.commander) (sym table.bound) first in
+    let third : P t.generals t.bound t.commander = subst (λ (c : ℕ). P t.generals t.bound c) (sym table.commander) second in
+    let n = table.generals in
+    let c = table.commander in
+    let R : Stroke → Type 0 = λ stroke. is_traitor s stroke.teller ≡ false → IsDrawnHonest stroke in
+    All-from_recursion R (strokes_of t s.order)
+    (weaker (IsPlain (is_traitor s)) R (strokes_of t s.order) (λ stroke plain loyal. (plain loyal, drawn_plain stroke.differs stroke.told (plain loyal)))
+    (to_plain M s.order (is_traitor s) t table.told (omega arith) third t.generals (omega arith)))
+
+pub proved_only_traitors_differ : OnlyTraitorsDiffer
 proved_only_traitors_differ = record {
-  drawn = λ s events t is.
-      let table = is.table in
-      let M : Messages = messages (run (opening s) events).closed in
-      let P : ℕ → ℕ → ℕ → Type 0 = λ n m c. (g : ℕ) → g < n → is_traitor s g ≡ false → IsFaithful n c m s.order M g in
-      let first : P t.generals s.bound s.commander = subst (λ (n : ℕ). P n s.bound s.commander) (sym table.generals) (proved_worlds_agree.faithful s events is.scenario is.finished) in
-      let second : P t.generals t.bound s.commander = subst (λ (m : ℕ). P t.generals m s.commander) (sym table.bound) first in
-      let third : P t.generals t.bound t.commander = subst (λ (c : ℕ). P t.generals t.bound c) (sym table.commander) second in
-      let present : s.commander < s.generals = is.scenario.commander in
-      let n = table.generals in
-      let c = table.commander in
-      let R : Stroke → Type 0 = λ stroke. is_traitor s stroke.teller ≡ false → IsDrawnHonest stroke in
-      All-from_recursion R (strokes_of t s.order)
-      (weaker (IsPlain (is_traitor s)) R (strokes_of t s.order) (λ stroke plain loyal. (plain loyal, drawn_plain stroke.differs stroke.told (plain loyal)))
-      (to_plain M s.order (is_traitor s) t table.told (omega arith) third t.generals (omega arith)));
+  drawn = λ s events t is. blamed s (messages (run (opening s) events).closed) t is.scenario.commander (proved_worlds_agree.faithful s events is.scenario is.finished) is.table;
   honest = λ t w j p e. told_so (taken (told t.messages) w j) (told t.messages (w ++ j ∷ []) p) e;
 }

@@ -21,8 +21,8 @@ use Rattle.diagram.specs.Laws.{DiagramsAreElements}
 use Rattle.diagram.specs.Legend.{differs_meaning, legend, legend_of, marks_words, meaning_at, missing_meaning, told_meaning, wide_meaning}
 use Rattle.diagram.specs.Layout.{access_top, board, column, fan_top, height, rows_top, top_of, width}
 use Rattle.diagram.specs.Shapes.{group_at, group_start, line, mark, stroke_at, stroke_open, stroke_way, text_at, text_start, title}
-use Rattle.diagram.specs.Svg.{board_head, box_words, campaign_words, general_head, head, head_of, heads, key, look, picture, start, svg_text}
-use Rattle.diagram.specs.Words.{access_words, answer_words, asked_words, copy_words, differs_words, from_words, general_words, is_copy, kind, kind_of, labels_words, order_words, outline, outline_of, role_words, row_words, shown_words, stroke_words, swap_words, tells_words, word_words}
+use Rattle.diagram.specs.Svg.{board_head, box_words, campaign_words, description, general_head, head, head_of, heads, key, key_end, look, picture, start, svg_text}
+use Rattle.diagram.specs.Words.{access_words, answer_words, asked_words, copied_words, copy_words, differs_words, from_words, general_words, in_full, is_copy, kind, kind_of, labels_words, order_words, outline, outline_of, role_words, row_words, shown_words, stroke_words, swap_words, tells_words, word_words}
 
 -- ---- words
 
@@ -112,6 +112,9 @@ access_text a =
     many (general_words a.general ++ codes " " ++ asked_words a.request) (answer_words a.reply)
     (many (general_words a.general ++ codes " ") (asked_words a.request) (many (general_words a.general) (codes " ") (general_text a.general) (bare_text (codes " ") refl)) (asked_text a.request))
     (answer_text a.reply)
+
+pub full_text : (words : List ℕ) → IsText words → IsText (in_full words)
+full_text words t = many (codes " In full: " ++ words) (codes ".") (many (codes " In full: ") words (bare_text (codes " In full: ") refl) t) (bare_text (codes ".") refl)
 
 pub shown_text : (a : Access) → IsText (shown_words a)
 shown_text a =
@@ -486,9 +489,23 @@ key_words =
     ++ codes "thing, where something was to be told. Above the lines stand the accesses to the board, in its order. Square: a traito"
     ++ codes "r."
 
-key_content : IsContent key
+pub copied_text : (accesses : List Access) → IsText (flat_map copied_words accesses)
+copied_text accesses =
+    text-flat_map copied_words accesses
+    (λ a. cond_both (is_copy a.request) (in_full (access_words a)) [] IsText (λ _. full_text (access_words a) (access_text a)) (λ _. no_text))
+
+description_parts : (first words more close feed : List ℕ) → (first ++ words) ++ more ++ (close ++ feed) ≡ (first ++ (words ++ more) ++ close) ++ feed
+description_parts first words more close feed = simp append_assoc
+
+-- a description that begins and goes on with such words
+pub described_content : (words more : List ℕ) → IsText words → IsText more → IsContent ((codes "<desc>" ++ words) ++ more ++ key_end)
+described_content words more w m =
+    subst IsContent (sym (description_parts (codes "<desc>") words more (codes "</desc>") (codes "\n")))
+    (fed (element (codes "desc") [] (words ++ more)) (nested (codes "desc") [] (words ++ more) (bare_tag (codes "desc") refl) (text (words ++ more) (many words more w m))))
+
+description_content : (accesses : List Access) → IsContent (description accesses)
 unfolding key
-key_content = fed (element (codes "desc") [] key_words) (nested (codes "desc") [] key_words (bare_tag (codes "desc") refl) (text key_words (bare_text key_words refl)))
+description_content accesses = described_content key_words (flat_map copied_words accesses) (bare_text key_words refl) (copied_text accesses)
 
 abbrev look_words : List ℕ
 look_words =
@@ -505,11 +522,12 @@ pub look_content : IsContent look
 unfolding look
 look_content = fed (element (codes "style") [] look_words) (nested (codes "style") [] look_words (bare_tag (codes "style") refl) (text look_words (bare_text look_words refl)))
 
-head_content : (s : Scenario) → IsContent (head s)
-head_content s =
+head_content : (s : Scenario) (accesses : List Access) → IsContent (head s accesses)
+head_content s accesses =
     let w : List ℕ = campaign_words s.generals s.bound s.commander s.order in
     let t : IsText w = campaign_text s.generals s.bound s.commander s.order in
-    joined (title w ++ key ++ look) (text_at (codes "head") 16 28 w) (joined (title w ++ key) look (joined (title w) key (title_content w t) key_content) look_content)
+    let d : List ℕ = description accesses in
+    joined (title w ++ d ++ look) (text_at (codes "head") 16 28 w) (joined (title w ++ d) look (joined (title w) d (title_content w t) (description_content accesses)) look_content)
     (text_content (codes "head") 16 28 w (bare_text (codes "head") refl) t)
 
 general_content : (g : ℕ) (commander traitor : Bool) → IsContent (general_head g commander traitor)
@@ -583,14 +601,14 @@ proved_diagrams_are_elements t c =
     let wide : ℕ = width s.generals c.accesses in
     let w : ℕ = wide + 16 in
     let h : ℕ = bottom + 230 in
-    let a : List ℕ = head s in
+    let a : List ℕ = head s c.accesses in
     let b : List ℕ = heads s c.accesses in
     let d : List ℕ = bands s.generals strokes c.accesses wide (s.bound + 1) in
     let e : List ℕ = foot c wide bottom in
     let inside : List ℕ = a ++ b ++ d ++ e in
     let is : IsContent inside =
     joined (a ++ b ++ d) e
-    (joined (a ++ b) d (joined a b (head_content s) (heads_content s c.accesses)) (all (band s.generals strokes c.accesses wide) (range_with_len 0 (s.bound + 1)) (band_content s.generals strokes c.accesses wide)))
+    (joined (a ++ b) d (joined a b (head_content s c.accesses) (heads_content s c.accesses)) (all (band s.generals strokes c.accesses wide) (range_with_len 0 (s.bound + 1)) (band_content s.generals strokes c.accesses wide)))
     (foot_content c wide bottom) in (
       element (codes "svg") (attributes (decimal w) (decimal h)) (codes "\n" ++ inside),
       record {

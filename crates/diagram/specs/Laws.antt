@@ -32,10 +32,14 @@ pub record IsFinishedTable (s : Scenario) (events : List Event) (t : MessageTabl
 abbrev pub IsDrawnHonest : Stroke → Type 0
 IsDrawnHonest stroke = (stroke.differs ≡ false) × (kind stroke ≡ codes "told")
 
--- there all strokes of a loyal general are drawn so; and whoever tells of a label what he took of it does not differ
+-- all strokes of a loyal general are drawn so: in red is only what traitors tell
+abbrev pub BlamesTraitors : Scenario → MessageTable → Type 0
+BlamesTraitors s t = All (λ stroke. is_traitor s stroke.teller ≡ false → IsDrawnHonest stroke) (strokes_of t s.order)
+
+-- so it is there; and whoever tells of a label what he took of it does not differ
 pub record OnlyTraitorsDiffer : Type 0 where
   pub drawn : (s : Scenario) (events : List Event) (t : MessageTable) → IsFinishedTable s events t →
-      All (λ stroke. is_traitor s stroke.teller ≡ false → IsDrawnHonest stroke) (strokes_of t s.order)
+      BlamesTraitors s t
   pub honest : (t : MessageTable) (w : List ℕ) (j p : ℕ) →
       told t.messages (w ++ j ∷ []) p ≡ Some (taken (told t.messages) w j) → (telling_at t w j p).differs ≡ false
 

@@ -12,7 +12,7 @@ use Rattle.diagram.specs.Facts.{strokes_of}
 use Rattle.diagram.specs.Foot.{foot, shape_of, sort_of}
 use Rattle.diagram.specs.Layout.{board, column, top_of, width}
 use Rattle.diagram.specs.Shapes.{group_at, mark, text_at, title}
-use Rattle.diagram.specs.Words.{general_words, role_words}
+use Rattle.diagram.specs.Words.{copied_words, general_words, role_words}
 
 -- what every picture begins with, and its size, with its units
 unfoldable pub start : List ℕ
@@ -30,14 +30,20 @@ campaign_words n m c order =
     decimal n ++ (codes " generals, traitors provided for: "
     ++ (decimal m ++ (codes "; commander " ++ (decimal c ++ (codes " was given order " ++ decimal order)))))
 
--- what is told of the picture to those who do not see it
+-- what is told of the picture to those who do not see it, and of accesses whose words it has no room for
 unfoldable pub key : List ℕ
 key =
     codes "<desc>A column for each general, and a band for each round, from above. In a band a line leads down from who tells som"
     ++ codes "ething to whom he tells it, as wide as he tells it of labels, up to 5, and below stands in the column of the receiver "
     ++ codes "what he was told. Circle and plain line: as an honest relay tells it. Diamond and dashes: something else. Cross and do"
     ++ codes "ts: nothing, where something was to be told. Above the lines stand the accesses to the board, in its order. Square: a "
-    ++ codes "traitor.</desc>\n"
+    ++ codes "traitor."
+
+abbrev pub key_end : List ℕ
+key_end = codes "</desc>\n"
+
+abbrev pub description : List Access → List ℕ
+description accesses = key ++ flat_map copied_words accesses ++ key_end
 
 -- how it looks: on paper, and on a dark ground where one is wished for
 unfoldable pub look : List ℕ
@@ -52,9 +58,9 @@ look =
     ++ codes "itor{fill:#ff8095}}</style>\n"
 
 -- what stands before the columns
-abbrev pub head : Scenario → List ℕ
-head s =
-    title (campaign_words s.generals s.bound s.commander s.order) ++ key ++ look
+abbrev pub head : Scenario → List Access → List ℕ
+head s accesses =
+    title (campaign_words s.generals s.bound s.commander s.order) ++ description accesses ++ look
     ++ text_at (codes "head") 16 28 (campaign_words s.generals s.bound s.commander s.order)
 
 -- who has which column
@@ -85,7 +91,7 @@ svg_with strokes c =
     let bottom = top_of s.generals strokes c.accesses (s.bound + 1) in
     let wide = width s.generals c.accesses in
     picture (wide + 16) (bottom + 230)
-    (head s ++ heads s c.accesses ++ bands s.generals strokes c.accesses wide (s.bound + 1) ++ foot c wide bottom)
+    (head s c.accesses ++ heads s c.accesses ++ bands s.generals strokes c.accesses wide (s.bound + 1) ++ foot c wide bottom)
 
 -- the picture of a chronicle, whose letters tell this message table
 unfoldable pub svg_text : MessageTable → Chronicle → List ℕ

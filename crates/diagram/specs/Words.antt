@@ -89,6 +89,14 @@ is_copy _ = false
 abbrev pub shown_words : Access → List ℕ
 shown_words a = asked_words a.request ++ (if is_copy a.request then [] else answer_words a.reply)
 
+-- what a picture has no room for, in a sentence of its description
+abbrev pub in_full : List ℕ → List ℕ
+in_full words = codes " In full: " ++ words ++ codes "."
+
+-- the words of a copy, and of another access nothing
+abbrev pub copied_words : Access → List ℕ
+copied_words a = if is_copy a.request then in_full (access_words a) else []
+
 abbrev pub role_words : Bool → Bool → List ℕ
 role_words true true = codes "commander, traitor"
 role_words true false = codes "commander, loyal"

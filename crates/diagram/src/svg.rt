@@ -3,7 +3,7 @@ ghost use Rattle.std.specs.Prelude.{◌≡◌, ◌<◌, ◌++◌, codes, flat_ma
 ghost use Rattle.std.specs.List.{range_with_len};
 ghost use Rattle.diagram.specs.Shapes.{text_at};
 ghost use Rattle.diagram.specs.Words.{general_words};
-ghost use Rattle.diagram.specs.Svg.{board_head, box_words, campaign_words, general_head, head, head_of, heads, key, look, start, svg_text};
+ghost use Rattle.diagram.specs.Svg.{board_head, box_words, campaign_words, description, general_head, head, head_of, heads, key, key_end, look, start, svg_text};
 
 use crate::bands::put_bands;
 use crate::facts::strokes;
@@ -14,7 +14,7 @@ use crate::shapes::{
     put_title_start, put_words,
 };
 use crate::stroke::Stroke;
-use crate::words::{put_general, role_words};
+use crate::words::{put_copied, put_general, role_words};
 use board::Access;
 use book::Heard;
 use round::Scenario;
@@ -43,7 +43,7 @@ pub fn campaign_svg<H: Heard>(
     let bottom = top_of(generals, strokes.as_slice(), accesses, rounds);
     let mut text = String::from_str(alloc, start())?;
     put_box(&mut text, wide + 16, bottom + 230)?;
-    put_head(&mut text, scenario)?;
+    put_head(&mut text, scenario, accesses)?;
     put_heads(&mut text, scenario, accesses)?;
     put_bands(
         &mut text,
@@ -82,8 +82,8 @@ pub fn put_box(out: &mut String, width: u128, height: u128) -> Result<(), AllocE
 }
 
 /// Adds what stands before the columns: which campaign it is, what the picture shows, and how it looks.
-fn put_head(out: &mut String, scenario: &Scenario) -> Result<(), AllocError>
-    ensures { OnOk result (string_bytes out.new ≡ string_bytes out.old ++ head scenario.now) }
+fn put_head(out: &mut String, scenario: &Scenario, accesses: &[Access]) -> Result<(), AllocError>
+    ensures { OnOk result (string_bytes out.new ≡ string_bytes out.old ++ head scenario.now accesses.now) }
 {
     put_title_start(out)?;
     put_campaign(
@@ -94,7 +94,7 @@ fn put_head(out: &mut String, scenario: &Scenario) -> Result<(), AllocError>
         scenario.order(),
     )?;
     put_title_end(out)?;
-    out.push_str(key())?;
+    put_description(out, accesses)?;
     out.push_str(look())?;
     put_text_start(out, "head", 16, 28)?;
     put_campaign(
@@ -125,7 +125,23 @@ pub fn put_campaign(
     )
 }
 
-/// What is told of the picture to those who do not see it.
+/// Adds what is told of the picture to those who do not see it, and of accesses whose words it has no room for.
+fn put_description(out: &mut String, accesses: &[Access]) -> Result<(), AllocError>
+    ensures { OnOk result (string_bytes out.new ≡ string_bytes out.old ++ description accesses.now) }
+{
+    out.push_str(key())?;
+    put_copied(out, accesses)?;
+    put_key_end(out)
+}
+
+/// Adds what a description ends in.
+pub fn put_key_end(out: &mut String) -> Result<(), AllocError>
+    ensures { OnOk result (string_bytes out.new ≡ string_bytes out.old ++ key_end) }
+{
+    out.push_str("</desc>\n")
+}
+
+/// What every description of such a picture begins with.
 #[tactic(auto, unfolding(crate::specs::Svg::key))]
 fn key() -> &'static str
     ensures { result.now ≡ key }
@@ -135,7 +151,7 @@ fn key() -> &'static str
      the column of the receiver what he was told. \
      Circle and plain line: as an honest relay tells it. Diamond and dashes: something else. Cross and dots: nothing, \
      where \
-     something was to be told. Above the lines stand the accesses to the board, in its order. Square: a traitor.</desc>\n"
+     something was to be told. Above the lines stand the accesses to the board, in its order. Square: a traitor."
 }
 
 /// How it looks: on paper, and on a dark ground where one is wished for.

@@ -1,7 +1,7 @@
 //! What a picture says, in words.
-ghost use Rattle.std.specs.Prelude.{◌≡◌, ◌++◌, string_bytes, OnOk};
+ghost use Rattle.std.specs.Prelude.{◌≡◌, ◌++◌, flat_map, string_bytes, OnOk};
 ghost use Rattle.semantics.specs.Replies.{words_in};
-ghost use Rattle.diagram.specs.Words.{answer_words, answered_words, access_words, asked_words, copy_words, differs_words, kind, labels_words, order_words, outline, from_words, general_words, is_copy, kind_of, outline_of, role_words, row_words, shown_words, stroke_words, swap_words, tells_words, word_words};
+ghost use Rattle.diagram.specs.Words.{answer_words, answered_words, access_words, asked_words, copied_words, copy_words, differs_words, kind, labels_words, order_words, outline, from_words, general_words, is_copy, kind_of, outline_of, role_words, row_words, shown_words, stroke_words, swap_words, tells_words, word_words};
 
 use crate::stroke::Stroke;
 use board::Access;
@@ -232,6 +232,32 @@ fn is_copy(request: &Request) -> bool
     ensures { result ≡ is_copy request.now }
 {
     matches!(request, Request::Copy { .. })
+}
+
+/// Adds what a picture has no room for: of each access that copies words, in a sentence, these words.
+///
+/// # Errors
+///
+/// No memory for the text.
+pub fn put_copied(out: &mut String, accesses: &[Access]) -> Result<(), AllocError>
+    ensures { OnOk result (string_bytes out.new ≡ string_bytes out.old ++ flat_map copied_words accesses.now) }
+{
+    for access in accesses {
+        put_copied_by(out, access)?;
+    }
+    Ok(())
+}
+
+/// Adds the words that an access copies, if it does.
+fn put_copied_by(out: &mut String, access: &Access) -> Result<(), AllocError>
+    ensures { OnOk result (string_bytes out.new ≡ string_bytes out.old ++ copied_words access.now) }
+{
+    if !is_copy(&access.request) {
+        return Ok(());
+    }
+    out.push_str(" In full: ")?;
+    put_access_words(out, access)?;
+    out.push_str(".")
 }
 
 /// What a general is.

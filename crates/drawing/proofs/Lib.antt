@@ -4,5 +4,6 @@ pub mod PlaceLemmas
 pub mod FactLemmas
 pub mod ShownLemmas
 pub mod RowLemmas
+pub mod LegendLemmas
 pub mod SvgLaws
 pub mod FoldLaws

@@ -1,5 +1,5 @@
 -- Pictures are elements of XML.
-use Rattle.std.proofs.Common.{ℕ, ◌+◌, ◌-◌, ◌*◌, ◌≡◌, List, [], ◌∷◌, ◌++◌, length, true, Option, Some, None, refl, sym, ap, subst, ◌∙◌, append_assoc, append-nil}
+use Rattle.std.proofs.Common.{ℕ, ◌+◌, ◌-◌, ◌*◌, ◌≡◌, List, [], ◌∷◌, ◌++◌, length, Bool, true, false, Option, Some, None, refl, sym, ap, subst, ◌∙◌, append_assoc, append-nil}
 use Rattle.std.specs.Prelude.{codes}
 use Rattle.std.specs.Fmt.{decimal}
 use Rattle.std.specs.List.{range_with_len}
@@ -14,14 +14,16 @@ use Rattle.drawing.specs.declared.node.Extent.{Extent}
 use Rattle.drawing.specs.declared.node.Extent.TheVariants.{Last, Open, Folded, Cut}
 use Rattle.drawing.specs.declared.node.Mark.{Mark}
 use Rattle.drawing.specs.declared.node.Mark.TheVariants.{Honest, Traitor, Lie}
+use Rattle.drawing.specs.declared.node.Marks.{Marks}
 use Rattle.drawing.specs.declared.node.Node.{Node}
 use Rattle.drawing.specs.declared.node.Outcome.{Outcome}
 use Rattle.drawing.specs.declared.node.Outcome.TheVariants.{Told, Agreed, Divided, Middle}
 use Rattle.drawing.specs.Laws.{PicturesAreElements}
+use Rattle.drawing.specs.Legend.{legend, marks_of, meaning, meaning_if, meaning_words, meanings, one_if, rule, rule_at}
 use Rattle.drawing.specs.Places.{branch_at}
 use Rattle.drawing.specs.Rows.{branch_way, branch_ways, kind, lines_end, lines_start, outcome_class, outline, row, row_end, row_start, rows_from, shape, stub, way, word_text}
 use Rattle.drawing.specs.Shown.{nodes_of}
-use Rattle.drawing.specs.Svg.{breadth, head, heading, inside, key, legend, look, meanings, picture, size, start, svg_text, tallness, title, view_box}
+use Rattle.drawing.specs.Svg.{breadth, head, heading, inside, key, look, picture, size, start, svg_text, tallness, title, view_box}
 use Rattle.drawing.specs.Words.{counted_words, extent_words, mark_words, outcome_words, said, told_words, words}
 
 -- ---- words
@@ -231,56 +233,80 @@ shape_content class way c w = alone (codes "path") (attribute (codes "class") cl
 words_content : (y words : List ℕ) → IsText y → IsText words → IsContent (words_at y words)
 words_content y words t u = nested (codes "text") (attribute (codes "x") (codes "14") ++ (attribute (codes "y") y ++ [])) words (text_tag (codes "14") y (bare_text (codes "14") refl) t) (text words u)
 
-abbrev meaning_at : List ℕ → List ℕ → List ℕ → List ℕ → List ℕ
-meaning_at class way y words = shape_of class way ++ words_at y words
+abbrev row_of : ℕ → Mark → Outcome → List ℕ → List ℕ
+row_of place mark outcome words = group_of (place_of place) (shape_of (kind mark ++ outcome_class outcome) (codes "M" ++ (decimal 0 ++ outline mark)) ++ words_at (codes "17") words)
 
-meaning_content : (class way y words : List ℕ) → IsText class → IsText way → IsText y → IsText words → IsContent (meaning_at class way y words)
-meaning_content class way y words c w t u = joined (shape_of class way) (words_at y words) (shape_content class way c w) (words_content y words t u)
+meaning_parts : (first shapes saying end feed : List ℕ) → first ++ shapes ++ saying ++ (end ++ feed) ≡ (first ++ ((shapes ++ saying) ++ end)) ++ feed
+meaning_parts first shapes saying end feed = simp append_assoc
 
-abbrev circle_meaning : List ℕ
-circle_meaning = meaning_at (codes "told") (codes "M0 18a6 6 0 0 1 0 12a6 6 0 0 1 0-12z") (codes "29") (codes "no lie is known")
+meaning_whole : (place : ℕ) (mark : Mark) (outcome : Outcome) (words : List ℕ) → meaning place mark outcome words ≡ row_of place mark outcome words ++ codes "\n"
+unfolding row_start shape meaning_words row_end
+meaning_whole place mark outcome words =
+    let shapes : List ℕ = shape 0 mark outcome in
+    let saying : List ℕ = meaning_words words in
+    let drawn : List ℕ = shape_of (kind mark ++ outcome_class outcome) (codes "M" ++ (decimal 0 ++ outline mark)) in
+    meaning_parts (row_start place) shapes saying (codes "</g>") (codes "\n")
+    ∙ (ap (λ xs. (row_start place ++ ((xs ++ saying) ++ codes "</g>")) ++ codes "\n") (shape_whole (kind mark) (outcome_class outcome) (decimal 0) (outline mark))
+    ∙ (ap (λ xs. (row_start place ++ ((drawn ++ xs) ++ codes "</g>")) ++ codes "\n") (word_whole (codes "14") words)
+    ∙ ap (λ xs. xs ++ codes "\n") (group_whole (decimal (36 + 24 * place)) (drawn ++ words_at (codes "17") words))))
 
-abbrev square_meaning : List ℕ
-square_meaning = meaning_at (codes "word") (codes "M0 42h6v12h-12v-12z") (codes "53") (codes "a named commander, his word")
+place_text : (place : ℕ) → IsText (place_of place)
+place_text place =
+    many (codes "translate(16 ") (decimal (36 + 24 * place) ++ codes ")") (bare_text (codes "translate(16 ") refl) (many (decimal (36 + 24 * place)) (codes ")") (decimal_text (36 + 24 * place)) (bare_text (codes ")") refl))
 
-abbrev diamond_meaning : List ℕ
-diamond_meaning = meaning_at (codes "lie") (codes "M0 64l8 8l-8 8l-8-8z") (codes "77") (codes "a lie of a named traitor")
+meaning_content : (place : ℕ) (mark : Mark) (outcome : Outcome) (words : List ℕ) → IsText words → IsContent (meaning place mark outcome words)
+meaning_content place mark outcome words t =
+    let class : List ℕ = kind mark ++ outcome_class outcome in
+    let way : List ℕ = codes "M" ++ (decimal 0 ++ outline mark) in
+    let class_is = many (kind mark) (outcome_class outcome) (kind_text mark) (class_text outcome) in
+    let way_is = many (codes "M") (decimal 0 ++ outline mark) (bare_text (codes "M") refl) (many (decimal 0) (outline mark) (decimal_text 0) (outline_text mark)) in
+    let inside = joined (shape_of class way) (words_at (codes "17") words) (shape_content class way class_is way_is) (words_content (codes "17") words (bare_text (codes "17") refl) t) in
+    subst IsContent (sym (meaning_whole place mark outcome words))
+    (joined (row_of place mark outcome words) (codes "\n")
+    (nested (codes "g") (attribute (codes "transform") (place_of place) ++ []) (shape_of class way ++ words_at (codes "17") words) (group_tag (place_of place) (place_text place)) inside)
+    (text (codes "\n") (bare_text (codes "\n") refl)))
 
-abbrev dashes_meaning : List ℕ
-dashes_meaning = meaning_at (codes "told split") (codes "M0 90a6 6 0 0 1 0 12a6 6 0 0 1 0-12z") (codes "101") (codes "no order has a majority")
+meaning_if_content : (stands : Bool) (place : ℕ) (mark : Mark) (outcome : Outcome) (words : List ℕ) → IsText words → IsContent (meaning_if stands place mark outcome words)
+meaning_if_content true place mark outcome words t = meaning_content place mark outcome words t
+meaning_if_content false place mark outcome words t = text [] no_text
 
-abbrev rule_above : List ℕ
-rule_above = lines_of (codes "M0 6h240")
-
-meanings_are : meanings ≡ rule_above ++ circle_meaning ++ square_meaning ++ diamond_meaning ++ dashes_meaning
-unfolding meanings
-meanings_are = refl
-
-meanings_content : IsContent meanings
-meanings_content =
-    subst IsContent (sym meanings_are)
-    (joined (rule_above ++ circle_meaning ++ square_meaning ++ diamond_meaning) dashes_meaning
-    (joined (rule_above ++ circle_meaning ++ square_meaning) diamond_meaning
-    (joined (rule_above ++ circle_meaning) square_meaning
-    (joined rule_above circle_meaning (shape_content (codes "line") (codes "M0 6h240") (bare_text (codes "line") refl) (bare_text (codes "M0 6h240") refl))
-    (meaning_content (codes "told") (codes "M0 18a6 6 0 0 1 0 12a6 6 0 0 1 0-12z") (codes "29") (codes "no lie is known") (bare_text _ refl) (bare_text _ refl) (bare_text _ refl) (bare_text _ refl)))
-    (meaning_content (codes "word") (codes "M0 42h6v12h-12v-12z") (codes "53") (codes "a named commander, his word") (bare_text _ refl) (bare_text _ refl) (bare_text _ refl) (bare_text _ refl)))
-    (meaning_content (codes "lie") (codes "M0 64l8 8l-8 8l-8-8z") (codes "77") (codes "a lie of a named traitor") (bare_text _ refl) (bare_text _ refl) (bare_text _ refl) (bare_text _ refl)))
-    (meaning_content (codes "told split") (codes "M0 90a6 6 0 0 1 0 12a6 6 0 0 1 0-12z") (codes "101") (codes "no order has a majority") (bare_text _ refl) (bare_text _ refl) (bare_text _ refl) (bare_text _ refl)))
+meanings_content : (marks : Marks) (place : ℕ) → IsContent (meanings marks place)
+meanings_content marks place =
+    let second : ℕ = place + one_if marks.circle in
+    let third : ℕ = second + one_if marks.square in
+    let one : List ℕ = meaning_if marks.circle place Honest Told (codes "no lie is known") in
+    let two : List ℕ = meaning_if marks.square second Traitor Told (codes "a named commander, his word") in
+    let three : List ℕ = meaning_if marks.diamond third (Lie 0 0) Told (codes "a lie of a named traitor") in
+    joined (one ++ two ++ three) (meaning_if marks.dashes (third + one_if marks.diamond) Honest Divided (codes "no order has a majority"))
+    (joined (one ++ two) three
+    (joined one two (meaning_if_content marks.circle place Honest Told (codes "no lie is known") (bare_text _ refl))
+    (meaning_if_content marks.square second Traitor Told (codes "a named commander, his word") (bare_text _ refl)))
+    (meaning_if_content marks.diamond third (Lie 0 0) Told (codes "a lie of a named traitor") (bare_text _ refl)))
+    (meaning_if_content marks.dashes (third + one_if marks.diamond) Honest Divided (codes "no order has a majority") (bare_text _ refl))
 
 legend_whole : (number content : List ℕ) → (codes "<g transform=\"translate(16 " ++ (number ++ codes ")\">")) ++ content ++ (codes "</g>" ++ codes "\n") ≡ group_of (codes "translate(16 " ++ (number ++ codes ")")) content ++ codes "\n"
 legend_whole number content = simp append_assoc
 
-legend_content : (place : ℕ) → IsContent (legend place)
+rule_is : rule ≡ lines_of (codes "M0 12h240")
+unfolding rule
+rule_is = refl
+
+rule_content : IsContent rule
+rule_content = subst IsContent (sym rule_is) (shape_content (codes "line") (codes "M0 12h240") (bare_text (codes "line") refl) (bare_text (codes "M0 12h240") refl))
+
+rule_at_content : (place : ℕ) → IsContent (rule_at place)
 unfolding row_start row_end
-legend_content place =
-    let place_is = many (codes "translate(16 ") (decimal (36 + 24 * place) ++ codes ")") (bare_text (codes "translate(16 ") refl) (many (decimal (36 + 24 * place)) (codes ")") (decimal_text (36 + 24 * place)) (bare_text (codes ")") refl)) in
-    subst IsContent (sym (legend_whole (decimal (36 + 24 * place)) meanings))
-    (joined (group_of (place_of place) meanings) (codes "\n") (nested (codes "g") (attribute (codes "transform") (place_of place) ++ []) meanings (group_tag (place_of place) place_is) meanings_content)
+rule_at_content place =
+    subst IsContent (sym (legend_whole (decimal (36 + 24 * place)) rule))
+    (joined (group_of (place_of place) rule) (codes "\n") (nested (codes "g") (attribute (codes "transform") (place_of place) ++ []) rule (group_tag (place_of place) (place_text place)) rule_content)
     (text (codes "\n") (bare_text (codes "\n") refl)))
 
+legend_content : (nodes : List Node) → IsContent (legend nodes)
+legend_content nodes =
+    joined (rule_at (length nodes)) (meanings (marks_of nodes) (length nodes + 1)) (rule_at_content (length nodes)) (meanings_content (marks_of nodes) (length nodes + 1))
+
 inside_content : (n p : ℕ) (nodes : List Node) → IsContent (inside n p nodes)
-inside_content n p nodes = joined (rows_from n p 0 nodes) (legend (length nodes)) (rows_content n p 0 nodes) (legend_content (length nodes))
+inside_content n p nodes = joined (rows_from n p 0 nodes) (legend nodes) (rows_content n p 0 nodes) (legend_content nodes)
 
 -- ---- the head
 

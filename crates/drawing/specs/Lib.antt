@@ -7,5 +7,6 @@ pub mod Places
 pub mod Lines
 pub mod Graph
 pub mod Rows
+pub mod Legend
 pub mod Svg
 pub mod Laws

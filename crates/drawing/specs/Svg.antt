@@ -5,7 +5,8 @@ use Rattle.book.specs.Decisions.{decision_of}
 use Rattle.book.specs.Table.{MessageTable}
 use Rattle.drawing.specs.declared.node.View.{View}
 use Rattle.drawing.specs.declared.node.Node.{Node}
-use Rattle.drawing.specs.Rows.{row_end, row_start, rows_from, widest}
+use Rattle.drawing.specs.Legend.{count_of, legend, marks_of}
+use Rattle.drawing.specs.Rows.{rows_from, widest}
 use Rattle.drawing.specs.Shown.{nodes_of}
 
 -- what every picture begins with
@@ -47,27 +48,16 @@ head p order = title p order ++ key ++ look ++ heading p order
 abbrev pub picture : ℕ → ℕ → List ℕ → List ℕ → List ℕ
 picture width height head rows = start ++ size width height ++ view_box width height ++ head ++ rows ++ codes "</svg>\n"
 
--- below the rows, what each shape means, beside it
-unfoldable pub meanings : List ℕ
-meanings =
-    codes "<path class=\"line\" d=\"M0 6h240\"/><path class=\"told\" d=\"M0 18a6 6 0 0 1 0 12a6 6 0 0 1 0-12z\"/><text x=\"14\" y=\"29\">no lie is known</text>"
-    ++ codes "<path class=\"word\" d=\"M0 42h6v12h-12v-12z\"/><text x=\"14\" y=\"53\">a named commander, his word</text>"
-    ++ codes "<path class=\"lie\" d=\"M0 64l8 8l-8 8l-8-8z\"/><text x=\"14\" y=\"77\">a lie of a named traitor</text>"
-    ++ codes "<path class=\"told split\" d=\"M0 90a6 6 0 0 1 0 12a6 6 0 0 1 0-12z\"/><text x=\"14\" y=\"101\">no order has a majority</text>"
-
-abbrev pub legend : ℕ → List ℕ
-legend place = row_start place ++ meanings ++ row_end
-
 -- the rows, and what their shapes mean
 abbrev pub inside : ℕ → ℕ → List Node → List ℕ
-inside n p nodes = rows_from n p 0 nodes ++ legend (length nodes)
+inside n p nodes = rows_from n p 0 nodes ++ legend nodes
 
 -- how wide a picture is, at least as its heading and the meanings are, and how high
 abbrev pub breadth : List Node → ℕ
 breadth nodes = max 300 (48 + widest nodes)
 
 abbrev pub tallness : List Node → ℕ
-tallness nodes = 160 + 24 * length nodes
+tallness nodes = 64 + 24 * (length nodes + count_of (marks_of nodes))
 
 -- the picture of these labels
 abbrev pub svg_of : MessageTable → ℕ → List Node → List ℕ

@@ -160,7 +160,7 @@ fn tells<H: Heard>(
 }
 
 /// Whether it is no lie.
-fn is_honest(mark: Mark) -> bool
+pub(crate) fn is_honest(mark: Mark) -> bool
     ensures { result ≡ is_honest mark }
 {
     matches!(mark, Mark::Honest)

@@ -8,6 +8,7 @@ mod facts;
 mod form;
 mod graph;
 mod laws;
+mod legend;
 mod lines;
 mod node;
 mod places;

@@ -14,6 +14,19 @@ pub enum Outcome {
     Middle(u32),
 }
 
+/// Which marks stand in a picture.
+#[derive(Clone, Copy, Debug, PartialEq, Eq, Drop)]
+pub struct Marks {
+    /// A circle: of a label no lie is known.
+    pub circle: bool,
+    /// A square: the word of a commander who is named as a traitor.
+    pub square: bool,
+    /// A diamond: a lie.
+    pub diamond: bool,
+    /// Dashes: in a label's list no order has a majority.
+    pub dashes: bool,
+}
+
 /// How far the word of a label's last general is to be trusted.
 #[derive(Clone, Copy, Debug, PartialEq, Eq, Drop)]
 pub enum Mark {

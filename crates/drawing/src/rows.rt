@@ -56,7 +56,7 @@ fn put_row(
 {
     let label = node.label.generals();
     let left = 28 * label.len().saturating_sub(1);
-    put_start(out, place)?;
+    put_start(out, place as u128)?;
     out.push_str(lines_start())?;
     put_branches(out, generals, general, label)?;
     put_stub(out, left, node.extent)?;
@@ -69,10 +69,11 @@ fn put_row(
 
 /// Adds what a row begins with.
 #[tactic(auto, unfolding(crate::specs::Rows::row_start))]
-pub(crate) fn put_start(out: &mut String, place: usize) -> Result<(), AllocError>
+pub(crate) fn put_start(out: &mut String, place: u128) -> Result<(), AllocError>
+    requires { place < 2 ^ 100 }
     ensures { OnOk result (string_bytes out.new ≡ string_bytes out.old ++ row_start place) }
 {
-    let top = 36 + 24 * place as u128;
+    let top = 36 + 24 * place;
     write!(out, "<g transform=\"translate(16 {top})\">")
 }
 
@@ -155,7 +156,12 @@ fn put_stub(out: &mut String, left: usize, extent: Extent) -> Result<(), AllocEr
 
 /// Adds the shape of a label.
 #[tactic(auto, unfolding(crate::specs::Rows::shape))]
-fn put_shape(out: &mut String, left: usize, mark: Mark, outcome: Outcome) -> Result<(), AllocError>
+pub(crate) fn put_shape(
+    out: &mut String,
+    left: usize,
+    mark: Mark,
+    outcome: Outcome,
+) -> Result<(), AllocError>
     ensures { OnOk result (string_bytes out.new ≡ string_bytes out.old ++ shape left mark outcome) }
 {
     let kind = kind(mark);

@@ -1,9 +1,10 @@
 //! A lieutenant's tree as a picture in SVG: a row for each label, below that of the label that it goes on from.
 ghost use Rattle.std.specs.Prelude.{◌≡◌, ◌≢◌, ◌<◌, ◌^◌, ◌++◌, string_bytes, IfOk, OnOk};
-ghost use Rattle.drawing.specs.Svg.{head, heading, inside, key, legend, look, meanings, size, start, svg_text, title, view_box};
+ghost use Rattle.drawing.specs.Svg.{head, heading, inside, key, look, size, start, svg_text, title, view_box};
 
+use crate::legend::{count, marks, put_legend};
 use crate::node::{Node, View};
-use crate::rows::{put_rows, put_start, row_end, widest};
+use crate::rows::{put_rows, widest};
 use crate::shown::nodes;
 use book::{Heard, decision};
 use std::alloc::{AllocError, Global};
@@ -31,7 +32,7 @@ pub fn tree_svg<H: Heard>(
 {
     let nodes = nodes(alloc, table, traitors, view, general)?;
     let width = LEAST.max(48 + widest(alloc, nodes.as_slice())?);
-    let height = 160 + 24 * nodes.len() as u128;
+    let height = 64 + 24 * (nodes.len() as u128 + count(marks(nodes.as_slice())));
     let mut text = String::from_str(alloc, start())?;
     put_size(&mut text, width, height)?;
     put_view_box(&mut text, width, height)?;
@@ -120,26 +121,5 @@ fn put_inside(out: &mut String, generals: u8, general: u8, nodes: &[Node]) -> Re
     ensures { OnOk result (string_bytes out.new ≡ string_bytes out.old ++ inside generals general nodes.now) }
 {
     put_rows(out, generals, general, nodes)?;
-    put_legend(out, nodes.len())
-}
-
-/// Adds what the shapes mean, below so many rows.
-fn put_legend(out: &mut String, rows: usize) -> Result<(), AllocError>
-    ensures { OnOk result (string_bytes out.new ≡ string_bytes out.old ++ legend rows) }
-{
-    put_start(out, rows)?;
-    out.push_str(meanings())?;
-    out.push_str(row_end())
-}
-
-/// What each shape means, beside it.
-#[tactic(auto, unfolding(crate::specs::Svg::meanings))]
-fn meanings() -> &'static str
-    ensures { result.now ≡ meanings }
-{
-    "<path class=\"line\" d=\"M0 6h240\"/>\
-     <path class=\"told\" d=\"M0 18a6 6 0 0 1 0 12a6 6 0 0 1 0-12z\"/><text x=\"14\" y=\"29\">no lie is known</text>\
-     <path class=\"word\" d=\"M0 42h6v12h-12v-12z\"/><text x=\"14\" y=\"53\">a named commander, his word</text>\
-     <path class=\"lie\" d=\"M0 64l8 8l-8 8l-8-8z\"/><text x=\"14\" y=\"77\">a lie of a named traitor</text>\
-     <path class=\"told split\" d=\"M0 90a6 6 0 0 1 0 12a6 6 0 0 1 0-12z\"/><text x=\"14\" y=\"101\">no order has a majority</text>"
+    put_legend(out, nodes)
 }

@@ -97,14 +97,44 @@ picture_parts : (f p0 k q p1 name g feed svg close : List ℕ)
     ≡ ((f ++ ((p0 ++ k ++ q) ++ ((p1 ++ name ++ q) ++ [])) ++ g) ++ (feed ++ svg) ++ close) ++ feed
 picture_parts f p0 k q p1 name g feed svg close = simp (append_assoc, append-nil)
 
-picture_content : (name svg : List ℕ) → IsContent svg → IsContent (picture name svg)
+narrow_content : (name svg : List ℕ) → IsContent svg → IsContent (picture false name svg)
 unfolding picture_tag
-picture_content name svg c =
+narrow_content name svg c =
     let attributes : List ℕ = attribute (codes "tabindex") (codes "0") ++ (attribute (codes "aria-label") (shown name) ++ []) in
     subst IsContent (sym (picture_parts (codes "<figure") (codes " tabindex=\"") (codes "0") (codes "\"") (codes " aria-label=\"") (shown name) (codes ">") (codes "\n") svg (codes "</figure>")))
     (fed (element (codes "figure") attributes (codes "\n" ++ svg))
     (nested (codes "figure") attributes (codes "\n" ++ svg)
     (two_tag (codes "figure") (codes "tabindex") (codes "0") (codes "aria-label") (shown name) refl refl (bare (codes "0") refl) refl (shown_text name) refl) (led svg c)))
+
+wide_parts : (f pc v q p0 k p1 name g feed svg close : List ℕ)
+    → ((f ++ pc ++ v ++ q ++ p0 ++ k ++ q ++ p1) ++ name ++ (q ++ g ++ feed)) ++ svg ++ (close ++ feed)
+    ≡ ((f ++ ((pc ++ v ++ q) ++ ((p0 ++ k ++ q) ++ ((p1 ++ name ++ q) ++ []))) ++ g) ++ (feed ++ svg) ++ close) ++ feed
+wide_parts f pc v q p0 k p1 name g feed svg close = simp (append_assoc, append-nil)
+
+wide_tag : (value : List ℕ) → IsText value
+    → IsTag (codes "figure") (attribute (codes "class") (codes "wide") ++ (attribute (codes "tabindex") (codes "0") ++ (attribute (codes "aria-label") value ++ [])))
+unfolding two_tag
+wide_tag value v =
+    let rest = two_tag (codes "figure") (codes "tabindex") (codes "0") (codes "aria-label") value refl refl (bare (codes "0") refl) refl v refl in
+    record {
+      named = refl;
+      names = codes "class" ∷ rest.names;
+      attributed_so =
+          attributed (codes "class") (codes "wide") (attribute (codes "tabindex") (codes "0") ++ (attribute (codes "aria-label") value ++ [])) rest.names refl
+          (bare (codes "wide") refl) refl rest.attributed_so;
+    }
+
+wide_content : (name svg : List ℕ) → IsContent svg → IsContent (picture true name svg)
+unfolding picture_tag
+wide_content name svg c =
+    let attributes : List ℕ = attribute (codes "class") (codes "wide") ++ (attribute (codes "tabindex") (codes "0") ++ (attribute (codes "aria-label") (shown name) ++ [])) in
+    subst IsContent
+    (sym (wide_parts (codes "<figure") (codes " class=\"") (codes "wide") (codes "\"") (codes " tabindex=\"") (codes "0") (codes " aria-label=\"") (shown name) (codes ">") (codes "\n") svg (codes "</figure>")))
+    (fed (element (codes "figure") attributes (codes "\n" ++ svg)) (nested (codes "figure") attributes (codes "\n" ++ svg) (wide_tag (shown name) (shown_text name)) (led svg c)))
+
+picture_content : (is_wide : Bool) (name svg : List ℕ) → IsContent svg → IsContent (picture is_wide name svg)
+picture_content true name svg c = wide_content name svg c
+picture_content false name svg c = narrow_content name svg c
 
 text_item_content : (words : List ℕ) → IsContent (text_item words)
 text_item_content words =

@@ -1,5 +1,5 @@
 -- Laws of pages. Each is the contract of a function of this crate.
-use Rattle.std.specs.Prelude.{ℕ, ◌≡◌, true, not, List, ◌++◌, codes}
+use Rattle.std.specs.Prelude.{ℕ, ◌≡◌, Bool, true, not, List, ◌++◌, codes}
 use Rattle.std.specs.List.{list_all}
 use Rattle.markup.specs.Grammar.{IsContent, IsElement, IsText}
 use Rattle.page.specs.Page.{begun_lines, cell, fold, head, heading, item, lines, list, page, paragraph, picture, row, shown, table, text_item}
@@ -29,7 +29,7 @@ pub record PartsAreContent : Type 0 where
   pub row : (cells : List ℕ) → IsContent cells → IsContent (row cells)
   pub head : (text : List ℕ) → IsContent (head text)
   pub cell : (text : List ℕ) → IsContent (cell text)
-  pub picture : (name svg : List ℕ) → IsContent svg → IsContent (picture name svg)
+  pub picture : (is_wide : Bool) (name svg : List ℕ) → IsContent svg → IsContent (picture is_wide name svg)
 
 -- a page with such parts is one element of XML, between the line that says that it is HTML and a line feed
 abbrev pub PagesAreElements : Type 0

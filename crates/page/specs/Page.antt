@@ -1,6 +1,6 @@
 -- A page of HTML (HTML Living Standard, section 13.1) that is one element of XML too, byte by byte. Texts of others are
 -- made visible and escaped.
-use Rattle.std.specs.Prelude.{ℕ, List, ◌++◌, codes}
+use Rattle.std.specs.Prelude.{ℕ, Bool, true, false, List, ◌++◌, codes}
 use Rattle.std.specs.Str.{chars, encode_utf8_all}
 use Rattle.markup.specs.Escaped.{escaped}
 use Rattle.page.specs.Visible.{visible}
@@ -19,17 +19,19 @@ preamble =
 -- how it looks
 unfoldable pub look : List ℕ
 look =
-    codes ":root{color-scheme:light dark}body{margin:0;background:#fff;color:#111;font:16px/1.5 sans-serif}main{max-width:70rem;ma"
-    ++ codes "rgin:auto;padding:1rem}h1{font-size:1.4rem}h2{font-size:1.15rem;margin-top:2rem}pre{margin:.5rem 0;padding-left:.6rem;b"
-    ++ codes "order-left:3px solid #8a8a8a;font:13px/1.45 monospace;white-space:pre-wrap;overflow-wrap:anywhere}ul{list-style:none;ma"
-    ++ codes "rgin:.2rem 0 .2rem .3rem;padding-left:.8rem;border-left:1px solid #8a8a8a}table{border-collapse:collapse;table-layout:f"
-    ++ codes "ixed;width:100%}th:nth-child(-n+2){width:4.5rem}th,td{border:1px solid #8a8a8a;padding:.2rem .3rem;text-align:left;vertic"
-    ++ codes "al-align:top;overflow-wrap:anywhere}summary{padding:.4rem 0;font-weight:bold;cursor:pointer}li summary{padding:.1rem 0;"
-    ++ codes "font-weight:normal}figure{margin:0;overflow-x:auto}summary:focus-visible,figure:focus-visible{outline:3px solid #0b5fa5"
-    ++ codes ";outline-offset:2px}@media(prefers-color-scheme:dark){body{background:#111;color:#eee}summary:focus-visible,figure:focu"
-    ++ codes "s-visible{outline-color:#6cb8f5}}@media print{body{background:#fff;color:#000}figure{overflow:visible;break-inside:avoi"
-    ++ codes "d}h2,summary{break-after:avoid}summary{list-style:none}svg{max-width:100%;height:auto}details::details-content{content-visibility:visible;block"
-    ++ codes "-size:auto}}"
+    codes ":root{color-scheme:light dark}body{margin:0;background:#fff;color:#111;font:16px/1.5 sans-serif}main{max-w"
+    ++ codes "idth:70rem;margin:auto;padding:1rem}h1{font-size:1.4rem}h2{font-size:1.15rem;margin-top:2rem}pre{margin:.5"
+    ++ codes "rem 0;padding-left:.6rem;border-left:3px solid #8a8a8a;font:13px/1.45 monospace;white-space:pre-wrap;overf"
+    ++ codes "low-wrap:anywhere}ul{list-style:none;margin:.2rem 0 .2rem .3rem;padding-left:.8rem;border-left:1px solid #"
+    ++ codes "8a8a8a}table{border-collapse:collapse;table-layout:fixed;width:100%}th:nth-child(-n+2){width:4.5rem}th,td{"
+    ++ codes "border:1px solid #8a8a8a;padding:.2rem .3rem;text-align:left;vertical-align:top;overflow-wrap:anywhere}sum"
+    ++ codes "mary{padding:.4rem 0;font-weight:bold;cursor:pointer}li summary{padding:.1rem 0;font-weight:normal}figure{"
+    ++ codes "margin:0;overflow-x:auto}summary:focus-visible,figure:focus-visible{outline:3px solid #0b5fa5;outline-offs"
+    ++ codes "et:2px}@media(prefers-color-scheme:dark){body{background:#111;color:#eee}summary:focus-visible,figure:focu"
+    ++ codes "s-visible{outline-color:#6cb8f5}}@page wide{size:A3 landscape;margin:5mm}@media print{body{background:#fff"
+    ++ codes ";color:#000}main{max-width:none;padding:0}figure{overflow:visible;break-inside:avoid}.wide{page:wide}.wide"
+    ++ codes "::after{content:'';display:block;break-after:page}h2,summary{break-after:avoid}summary{list-style:none}svg"
+    ++ codes "{max-width:100%;height:auto}details::details-content{content-visibility:visible;block-size:auto}}"
 
 abbrev pub look_end : List ℕ
 look_end = codes "</style>\n<title>"
@@ -76,18 +78,19 @@ fold_end = codes "</details>\n"
 abbrev pub fold : List ℕ → List ℕ → List ℕ
 fold summary parts = fold_start summary ++ parts ++ fold_end
 
--- a picture as it stands, under this name; the keys reach it
-unfoldable pub picture_tag : List ℕ
-picture_tag = codes "<figure tabindex=\"0\" aria-label=\""
+-- a picture as it stands, under this name; the keys reach it, and on paper a wide one has a sheet of its own
+unfoldable pub picture_tag : Bool → List ℕ
+picture_tag true = codes "<figure class=\"wide\" tabindex=\"0\" aria-label=\""
+picture_tag false = codes "<figure tabindex=\"0\" aria-label=\""
 
-abbrev pub picture_start : List ℕ → List ℕ
-picture_start name = picture_tag ++ shown name ++ codes "\">\n"
+abbrev pub picture_start : Bool → List ℕ → List ℕ
+picture_start is_wide name = picture_tag is_wide ++ shown name ++ codes "\">\n"
 
 abbrev pub picture_end : List ℕ
 picture_end = codes "</figure>\n"
 
-abbrev pub picture : List ℕ → List ℕ → List ℕ
-picture name svg = picture_start name ++ svg ++ picture_end
+abbrev pub picture : Bool → List ℕ → List ℕ → List ℕ
+picture is_wide name svg = picture_start is_wide name ++ svg ++ picture_end
 
 -- items of a list: a text, or parts
 abbrev pub list_start : List ℕ

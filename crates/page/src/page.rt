@@ -55,9 +55,12 @@ fn look() -> &'static str
      summary{padding:.4rem 0;font-weight:bold;cursor:pointer}li summary{padding:.1rem 0;font-weight:normal}\
      figure{margin:0;overflow-x:auto}\
      summary:focus-visible,figure:focus-visible{outline:3px solid #0b5fa5;outline-offset:2px}\
-     @media(prefers-color-scheme:dark){body{background:#111;color:#eee}summary:focus-visible,figure:focus-visible{outline-color:#6cb8f5}}\
-     @media print{body{background:#fff;color:#000}figure{overflow:visible;break-inside:avoid}h2,summary{break-after:avoid}summary{list-style:none}\
-     svg{max-width:100%;height:auto}\
+     @media(prefers-color-scheme:dark){body{background:#111;color:#eee}\
+     summary:focus-visible,figure:focus-visible{outline-color:#6cb8f5}}@page wide{size:A3 landscape;margin:5mm}\
+     @media print{body{background:#fff;color:#000}main{max-width:none;padding:0}\
+     figure{overflow:visible;break-inside:avoid}.wide{page:wide}\
+     .wide::after{content:'';display:block;break-after:page}\
+     h2,summary{break-after:avoid}summary{list-style:none}svg{max-width:100%;height:auto}\
      details::details-content{content-visibility:visible;block-size:auto}}"
 }
 

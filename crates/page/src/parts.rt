@@ -62,30 +62,35 @@ pub fn put_fold_end(out: &mut String) -> Result<(), AllocError>
     out.push_str("</details>\n")
 }
 
-/// Adds a picture in SVG, as it stands, under this name; a wide one is moved by the keys too.
-pub fn put_picture(out: &mut String, name: &str, svg: &str) -> Result<(), AllocError>
-    ensures { OnOk result (string_bytes out.new ≡ string_bytes out.old ++ picture name.now svg.now) }
+/// Adds a picture in SVG, as it stands, under this name; one that is too wide for its window is moved by the keys too,
+/// and a wide one has a sheet of its own on paper.
+pub fn put_picture(out: &mut String, is_wide: bool, name: &str, svg: &str) -> Result<(), AllocError>
+    ensures { OnOk result (string_bytes out.new ≡ string_bytes out.old ++ picture is_wide name.now svg.now) }
 {
-    put_picture_start(out, name)?;
+    put_picture_start(out, is_wide, name)?;
     out.push_str(svg)?;
     put_picture_end(out)
 }
 
 /// Adds what begins a picture.
-fn put_picture_start(out: &mut String, name: &str) -> Result<(), AllocError>
-    ensures { OnOk result (string_bytes out.new ≡ string_bytes out.old ++ picture_start name.now) }
+fn put_picture_start(out: &mut String, is_wide: bool, name: &str) -> Result<(), AllocError>
+    ensures { OnOk result (string_bytes out.new ≡ string_bytes out.old ++ picture_start is_wide name.now) }
 {
-    out.push_str(picture_tag())?;
+    out.push_str(picture_tag(is_wide))?;
     put_shown(out, name)?;
     out.push_str("\">\n")
 }
 
 /// What stands before the name of a picture.
 #[tactic(auto, unfolding(crate::specs::Page::picture_tag))]
-fn picture_tag() -> &'static str
-    ensures { result.now ≡ picture_tag }
+fn picture_tag(is_wide: bool) -> &'static str
+    ensures { result.now ≡ picture_tag is_wide }
 {
-    "<figure tabindex=\"0\" aria-label=\""
+    if is_wide {
+        "<figure class=\"wide\" tabindex=\"0\" aria-label=\""
+    } else {
+        "<figure tabindex=\"0\" aria-label=\""
+    }
 }
 
 /// Adds what ends it.

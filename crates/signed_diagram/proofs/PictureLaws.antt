@@ -1,10 +1,10 @@
 -- Pictures are elements of XML.
-use Rattle.std.proofs.Common.{ℕ, ◌+◌, ◌*◌, Bool, true, false, List, [], ◌∷◌, ◌++◌, Option, Some, None, refl}
+use Rattle.std.proofs.Common.{ℕ, ◌+◌, ◌*◌, Bool, true, false, List, [], ◌∷◌, ◌++◌, Option, Some, None, refl, sym, ap, subst, append_assoc}
 use Rattle.std.proofs.lemmas.Bool.{cond_both}
-use Rattle.std.specs.Prelude.{codes, ◌==◌, min}
+use Rattle.std.specs.Prelude.{codes, ◌==◌, nat_lt, min}
 use Rattle.std.specs.Fmt.{decimal}
 use Rattle.std.specs.List.{flat_map, range_with_len}
-use Rattle.markup.specs.Grammar.{IsText, no_text, IsContent, text, nested, joined}
+use Rattle.markup.specs.Grammar.{IsText, no_text, IsContent, text, joined}
 use Rattle.markup.specs.Tags.{element}
 use Rattle.markup.proofs.TextLemmas.{bare_text, decimal_text, text-flat_map}
 use Rattle.board.specs.Board.{Access}
@@ -17,17 +17,17 @@ use Rattle.diagram.specs.Bands.{accesses_from, lives, round_words}
 use Rattle.diagram.specs.Foot.{alike_words, decided_all, obeyed_words}
 use Rattle.diagram.specs.Layout.{column, fan_top, height, rows_top, top_of, width}
 use Rattle.diagram.specs.Shapes.{line, mark, text_at, title}
-use Rattle.diagram.specs.Svg.{campaign_words, heads, look}
-use Rattle.diagram.specs.Words.{kind, outline}
-use Rattle.diagram.proofs.SvgLaws.{accesses_content, alike_text, all, attributes, bare_tag, campaign_text, decisions_content, fed, feed, group_content, heads_content, kind_text, legend_of_content, line_content, lives_content, look_content, many, mark_content, name, numbered, obeyed_text, outline_text, picture_is, round_text, small, stroke_content, svg_tag, text_content, title_content}
+use Rattle.diagram.specs.Svg.{campaign_words, heads, key_end, look}
+use Rattle.diagram.specs.Words.{copied_words, in_full, kind, outline}
+use Rattle.diagram.proofs.SvgLaws.{accesses_content, alike_text, all, attributes, campaign_text, copied_text, decisions_content, described_content, feed, full_text, group_content, heads_content, kind_text, legend_of_content, line_content, lives_content, look_content, many, mark_content, name, numbered, obeyed_text, outline_text, picture_is, round_text, small, stroke_content, svg_tag, text_content, title_content}
 use Rattle.signed.specs.Chains.{Chain}
 use Rattle.signed_diagram.specs.Bands.{band, bands, drawn, inside, row, stroke_line}
 use Rattle.signed_diagram.specs.Foot.{bound_words, foot, verdict_lines}
 use Rattle.signed_diagram.specs.Laws.{SignedDiagramsAreElements}
 use Rattle.signed_diagram.specs.Legend.{differs_meaning, legend, missing_meaning, sent_meaning, wide_meaning}
 use Rattle.signed_diagram.specs.Strokes.{Drawn, bare, strokes_of}
-use Rattle.signed_diagram.specs.Svg.{head, headline, key, signed_svg, signed_words}
-use Rattle.signed_diagram.specs.Words.{chain_words, chains_words, count_words, differs_words, first_words, further_words, lead_words, row_words, sends_words, short_words, stroke_words, withholds_words}
+use Rattle.signed_diagram.specs.Svg.{description, head, headline, key, signed_svg, signed_words}
+use Rattle.signed_diagram.specs.Words.{chain_words, chains_words, count_words, differs_words, first_words, further_words, lead_words, row_words, sends_words, several_words, short_words, stroke_words, withholds_words}
 
 -- ---- words
 
@@ -181,15 +181,25 @@ key_words =
     ++ codes "so. Diamond and dashes: he would not. Cross and dots: he would, and nothing was sent. Above the "
     ++ codes "lines stand the accesses to the board, in its order. Square: a traitor."
 
-key_content : IsContent key
-unfolding key
-key_content = fed (element (codes "desc") [] key_words) (nested (codes "desc") [] key_words (bare_tag (codes "desc") refl) (text key_words (bare_text key_words refl)))
+several_text : (strokes : List Drawn) → IsText (flat_map several_words strokes)
+several_text strokes =
+    text-flat_map several_words strokes
+    (λ x. cond_both (nat_lt 1 x.stroke.labels) (in_full (stroke_words x)) [] IsText (λ _. full_text (stroke_words x) (stroke_text x)) (λ _. no_text))
 
-head_content : (s : Scenario) → IsContent (head s)
-head_content s =
+description_content : (strokes : List Drawn) (accesses : List Access) → IsContent (description strokes accesses)
+unfolding key
+description_content strokes accesses =
+    let several : List ℕ = flat_map several_words strokes in
+    let copied : List ℕ = flat_map copied_words accesses in
+    subst IsContent (ap (λ xs. xs ++ key_end) (sym (append_assoc key several copied)))
+    (described_content key_words (several ++ copied) (bare_text key_words refl) (many several copied (several_text strokes) (copied_text accesses)))
+
+head_content : (s : Scenario) (strokes : List Drawn) (accesses : List Access) → IsContent (head s strokes accesses)
+head_content s strokes accesses =
     let w : List ℕ = signed_words s in
     let n : List ℕ = campaign_words s.generals s.bound s.commander s.order in
-    joined (title w ++ key ++ look) (headline s) (joined (title w ++ key) look (joined (title w) key (title_content w (signed_text s)) key_content) look_content)
+    let d : List ℕ = description strokes accesses in
+    joined (title w ++ d ++ look) (headline s) (joined (title w ++ d) look (joined (title w) d (title_content w (signed_text s)) (description_content strokes accesses)) look_content)
     (joined (text_at (codes "head") 16 28 n ++ text_at (codes "small") 16 58 (codes "signed")) (text_at (codes "small") 16 72 (codes "messages"))
     (joined (text_at (codes "head") 16 28 n) (text_at (codes "small") 16 58 (codes "signed"))
     (text_content (codes "head") 16 28 n (bare_text (codes "head") refl) (campaign_text s.generals s.bound s.commander s.order))
@@ -208,14 +218,14 @@ proved_signed_diagrams_are_elements c =
     let wide : ℕ = width s.generals c.accesses in
     let w : ℕ = wide + 16 in
     let h : ℕ = bottom + 230 in
-    let a : List ℕ = head s in
+    let a : List ℕ = head s strokes c.accesses in
     let b : List ℕ = heads s c.accesses in
     let d : List ℕ = bands s.generals strokes plain c.accesses wide (s.bound + 1) in
     let e : List ℕ = foot c wide bottom in
     let parts : List ℕ = a ++ b ++ d ++ e in
     let is : IsContent parts =
     joined (a ++ b ++ d) e
-    (joined (a ++ b) d (joined a b (head_content s) (heads_content s c.accesses)) (all (band s.generals strokes plain c.accesses wide) (range_with_len 0 (s.bound + 1)) (band_content s.generals strokes plain c.accesses wide)))
+    (joined (a ++ b) d (joined a b (head_content s strokes c.accesses) (heads_content s c.accesses)) (all (band s.generals strokes plain c.accesses wide) (range_with_len 0 (s.bound + 1)) (band_content s.generals strokes plain c.accesses wide)))
     (foot_content c wide bottom) in (
       element (codes "svg") (attributes (decimal w) (decimal h)) (codes "\n" ++ parts),
       record {

@@ -1,19 +1,22 @@
 -- A campaign of signed messages as a picture in SVG.
-use Rattle.std.specs.Prelude.{ℕ, ◌+◌, List, ◌++◌, codes}
+use Rattle.std.specs.Prelude.{ℕ, ◌+◌, List, ◌++◌, flat_map, codes}
+use Rattle.board.specs.Board.{Access}
 use Rattle.round.specs.Scenario.{Scenario}
 use Rattle.world.specs.Chronicle.{Chronicle}
 use Rattle.diagram.specs.Layout.{top_of, width}
 use Rattle.diagram.specs.Shapes.{text_at, title}
-use Rattle.diagram.specs.Svg.{campaign_words, heads, look, picture}
+use Rattle.diagram.specs.Svg.{campaign_words, heads, key_end, look, picture}
+use Rattle.diagram.specs.Words.{copied_words}
 use Rattle.signed_diagram.specs.Bands.{bands}
 use Rattle.signed_diagram.specs.Foot.{foot}
 use Rattle.signed_diagram.specs.Strokes.{Drawn, bare, strokes_of}
+use Rattle.signed_diagram.specs.Words.{several_words}
 
 -- the campaign's numbers
 abbrev pub signed_words : Scenario → List ℕ
 signed_words s = campaign_words s.generals s.bound s.commander s.order ++ codes "; signed messages"
 
--- what is told of the picture to those who do not see it
+-- what is told of the picture to those who do not see it, and of strokes and accesses that it has no room for
 unfoldable pub key : List ℕ
 key =
     codes "<desc>A column for each general, and a band for each round, from above. In a band a line leads from "
@@ -21,7 +24,10 @@ key =
     ++ codes "stands in the column of the receiver what he was sent: the order, and who signed it, the commander "
     ++ codes "first and the sender last. Circle and plain line: a loyal general in place of the sender would send "
     ++ codes "so. Diamond and dashes: he would not. Cross and dots: he would, and nothing was sent. Above the "
-    ++ codes "lines stand the accesses to the board, in its order. Square: a traitor.</desc>\n"
+    ++ codes "lines stand the accesses to the board, in its order. Square: a traitor."
+
+abbrev pub description : List Drawn → List Access → List ℕ
+description strokes accesses = key ++ flat_map several_words strokes ++ flat_map copied_words accesses ++ key_end
 
 -- what stands before the columns
 abbrev pub headline : Scenario → List ℕ
@@ -29,8 +35,8 @@ headline s =
     text_at (codes "head") 16 28 (campaign_words s.generals s.bound s.commander s.order)
     ++ text_at (codes "small") 16 58 (codes "signed") ++ text_at (codes "small") 16 72 (codes "messages")
 
-abbrev pub head : Scenario → List ℕ
-head s = title (signed_words s) ++ key ++ look ++ headline s
+abbrev pub head : Scenario → List Drawn → List Access → List ℕ
+head s strokes accesses = title (signed_words s) ++ description strokes accesses ++ look ++ headline s
 
 -- the picture with these strokes
 abbrev pub svg_with : List Drawn → Chronicle → List ℕ
@@ -39,7 +45,7 @@ svg_with strokes c =
     let bottom = top_of s.generals (bare strokes) c.accesses (s.bound + 1) in
     let wide = width s.generals c.accesses in
     picture (wide + 16) (bottom + 230)
-    (head s
+    (head s strokes c.accesses
     ++ heads s c.accesses
     ++ bands s.generals strokes (bare strokes) c.accesses wide (s.bound + 1)
     ++ foot c wide bottom)

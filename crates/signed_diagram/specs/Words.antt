@@ -1,7 +1,8 @@
 -- What a picture of a signed campaign says, in words.
-use Rattle.std.specs.Prelude.{ℕ, ◌==◌, Bool, true, false, if◌then◌else◌, List, [], ◌∷◌, ◌++◌, flat_map, codes, Option, None, Some}
+use Rattle.std.specs.Prelude.{ℕ, ◌==◌, nat_lt, Bool, true, false, if◌then◌else◌, List, [], ◌∷◌, ◌++◌, flat_map, codes, Option, None, Some}
 use Rattle.std.specs.Fmt.{decimal}
 use Rattle.book.specs.Explained.{dotted}
+use Rattle.diagram.specs.Words.{in_full}
 use Rattle.signed.specs.Chains.{Chain}
 use Rattle.signed_diagram.specs.Strokes.{Drawn}
 
@@ -37,6 +38,10 @@ stroke_words x =
     lead_words x.stroke.teller x.stroke.receiver x.stroke.told
     ++ chains_words x.chains
     ++ differs_words x.stroke.differs x.stroke.told
+
+-- a stroke of several chains, of which the receiver's column has the first alone
+abbrev pub several_words : Drawn → List ℕ
+several_words x = if nat_lt 1 x.stroke.labels then in_full (stroke_words x) else []
 
 -- what is written of it in the receiver's column: its first chain, and of how many it is
 abbrev pub short_words : Chain → List ℕ

@@ -1,14 +1,18 @@
 //! A campaign of signed messages as a picture in SVG.
 ghost use Rattle.std.specs.Prelude.{◌≡◌, ◌++◌, string_bytes, IfOk, OnOk};
 ghost use Rattle.diagram.specs.Svg.{campaign_words};
-ghost use Rattle.signed_diagram.specs.Svg.{head, headline, key, signed_svg, signed_words};
+ghost use Rattle.signed_diagram.specs.Svg.{description, head, headline, key, signed_svg, signed_words};
 
 use crate::bands::put_bands;
 use crate::foot::put_foot;
+use crate::stroke::ChainStroke;
 use crate::strokes::{bare, strokes};
+use crate::words::put_several;
+use board::Access;
 use diagram::layout::{top_of, width};
 use diagram::shapes::{put_text_end, put_text_start, put_title_end, put_title_start, put_words};
-use diagram::svg::{look, put_box, put_campaign, put_heads, start};
+use diagram::svg::{look, put_box, put_campaign, put_heads, put_key_end, start};
+use diagram::words::put_copied;
 use round::Scenario;
 use signed::SignedChronicle;
 use std::alloc::{AllocError, Global};
@@ -34,7 +38,7 @@ pub fn signed_campaign_svg(alloc: Global, chronicle: &SignedChronicle) -> Result
     let bottom = top_of(generals, plain.as_slice(), accesses, rounds);
     let mut text = String::from_str(alloc, start())?;
     put_box(&mut text, wide + 16, bottom + 230)?;
-    put_head(&mut text, scenario)?;
+    put_head(&mut text, scenario, strokes.as_slice(), accesses)?;
     put_heads(&mut text, scenario, accesses)?;
     put_bands(
         &mut text,
@@ -51,13 +55,18 @@ pub fn signed_campaign_svg(alloc: Global, chronicle: &SignedChronicle) -> Result
 }
 
 /// Adds what stands before the columns: which campaign it is, what the picture shows, and how it looks.
-fn put_head(out: &mut String, scenario: &Scenario) -> Result<(), AllocError>
-    ensures { OnOk result (string_bytes out.new ≡ string_bytes out.old ++ head scenario.now) }
+fn put_head(
+    out: &mut String,
+    scenario: &Scenario,
+    strokes: &[ChainStroke],
+    accesses: &[Access],
+) -> Result<(), AllocError>
+    ensures { OnOk result (string_bytes out.new ≡ string_bytes out.old ++ head scenario.now strokes.now accesses.now) }
 {
     put_title_start(out)?;
     put_signed_words(out, scenario)?;
     put_title_end(out)?;
-    out.push_str(key())?;
+    put_description(out, strokes, accesses)?;
     out.push_str(look())?;
     put_headline(out, scenario)
 }
@@ -99,7 +108,21 @@ pub fn put_signed_words(out: &mut String, scenario: &Scenario) -> Result<(), All
     out.push_str("; signed messages")
 }
 
-/// What is told of the picture to those who do not see it.
+/// Adds what is told of the picture to those who do not see it, and of strokes and accesses that it has no room for.
+fn put_description(
+    out: &mut String,
+    strokes: &[ChainStroke],
+    accesses: &[Access],
+) -> Result<(), AllocError>
+    ensures { OnOk result (string_bytes out.new ≡ string_bytes out.old ++ description strokes.now accesses.now) }
+{
+    out.push_str(key())?;
+    put_several(out, strokes)?;
+    put_copied(out, accesses)?;
+    put_key_end(out)
+}
+
+/// What every description of such a picture begins with.
 #[tactic(auto, unfolding(crate::specs::Svg::key))]
 fn key() -> &'static str
     ensures { result.now ≡ key }
@@ -109,5 +132,5 @@ fn key() -> &'static str
      the receiver what he was sent: the order, and who signed it, the commander first and the sender last. Circle \
      and plain line: a loyal general in place of the sender would send so. Diamond and dashes: he would not. Cross \
      and dots: he would, and nothing was sent. Above the lines stand the accesses to the board, in its order. \
-     Square: a traitor.</desc>\n"
+     Square: a traitor."
 }

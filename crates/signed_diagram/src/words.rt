@@ -2,7 +2,7 @@
 ghost use Rattle.std.specs.Prelude.{◌≡◌, ◌++◌, codes, flat_map, string_bytes, OnOk};
 ghost use Rattle.std.specs.Fmt.{decimal};
 ghost use Rattle.book.specs.Explained.{dotted};
-ghost use Rattle.signed_diagram.specs.Words.{chain_words, chains_words, count_words, differs_words, first_words, further_words, lead_words, row_words, sends_words, short_words, stroke_words, withholds_words};
+ghost use Rattle.signed_diagram.specs.Words.{chain_words, chains_words, count_words, differs_words, first_words, further_words, lead_words, row_words, sends_words, several_words, short_words, stroke_words, withholds_words};
 
 use crate::signed_order::SignedOrder;
 use crate::stroke::ChainStroke;
@@ -122,6 +122,33 @@ pub(crate) fn put_stroke_words(out: &mut String, stroke: &ChainStroke) -> Result
     put_lead(out, plain.teller, plain.receiver, plain.told)?;
     put_chains(out, stroke.chains())?;
     out.push_str(differs_words(plain.differs, plain.told))
+}
+
+/// Adds what a picture has no room for: of each stroke of several chains, in a sentence, all of them.
+///
+/// # Errors
+///
+/// No memory for the text.
+pub(crate) fn put_several(out: &mut String, strokes: &[ChainStroke]) -> Result<(), AllocError>
+    ensures { OnOk result (string_bytes out.new ≡ string_bytes out.old ++ flat_map several_words strokes.now) }
+{
+    for stroke in strokes {
+        put_several_of(out, stroke)?;
+    }
+    Ok(())
+}
+
+/// Adds the chains of a stroke, if they are several.
+fn put_several_of(out: &mut String, stroke: &ChainStroke) -> Result<(), AllocError>
+    ensures { OnOk result (string_bytes out.new ≡ string_bytes out.old ++ several_words stroke.now) }
+{
+    let plain = *stroke.stroke();
+    if plain.labels <= 1 {
+        return Ok(());
+    }
+    out.push_str(" In full: ")?;
+    put_stroke_words(out, stroke)?;
+    out.push_str(".")
 }
 
 /// Adds a chain in few words, which a column has room for.

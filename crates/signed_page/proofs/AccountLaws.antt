@@ -11,13 +11,13 @@ use Rattle.signed_diagram.proofs.PictureLaws.{proved_signed_diagrams_are_element
 use Rattle.trace.specs.SignedText.{signed_text}
 use Rattle.world.specs.Chronicle.{Chronicle}
 use Rattle.world.specs.declared.schedule.Repeat.{Repeat}
-use Rattle.campaign_page.specs.Account.{accesses_part, chronicle_shown, picture_told, programs_part, scenario_part, schedule_part, verdict_told}
+use Rattle.campaign_page.specs.Account.{accesses_part, chronicle_shown, is_wide, programs_part, scenario_part, schedule_part, verdict_told}
 use Rattle.campaign_page.proofs.AccountLaws.{accesses_content, all, below, chronicle_content, programs_content, scenario_content, schedule_content, svg_content, verdict_content}
-use Rattle.signed_page.specs.Account.{bound_told, lieutenant_part, lieutenant_heading, lieutenant_told, lieutenants_heading, lieutenants_part, parts, signed_title}
+use Rattle.signed_page.specs.Account.{bound_told, lieutenant_part, lieutenant_heading, lieutenant_told, lieutenants_heading, lieutenants_part, parts, picture_part, signed_title}
 use Rattle.signed_page.specs.Laws.{SignedPagesAreElements}
 
-picture_content : (c : Chronicle) → IsContent (picture_told (signed_svg c))
-picture_content c = let drawn = proved_signed_diagrams_are_elements c in svg_content (signed_svg c) drawn.0 drawn.1 drawn.2
+picture_content : (c : Chronicle) → IsContent (picture_part c)
+picture_content c = let drawn = proved_signed_diagrams_are_elements c in svg_content (is_wide c.scenario c.accesses) (signed_svg c) drawn.0 drawn.1 drawn.2
 
 lieutenant_content : (c : Chronicle) (g : ℕ) → IsContent (lieutenant_part c g)
 lieutenant_content c g =
@@ -35,7 +35,7 @@ parts_content words schedule c =
     (joined _ (chronicle_shown (signed_text c))
     (joined _ (accesses_part c.accesses)
     (joined _ (lieutenants_part c)
-    (joined _ (picture_told (signed_svg c))
+    (joined _ (picture_part c)
     (joined _ (programs_part c.scenario)
     (joined (scenario_part words) (schedule_part schedule) (scenario_content words) (schedule_content schedule))
     (programs_content c.scenario))

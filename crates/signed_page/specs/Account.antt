@@ -11,7 +11,11 @@ use Rattle.signed_diagram.specs.Svg.{signed_svg}
 use Rattle.trace.specs.SignedText.{signed_text}
 use Rattle.world.specs.Chronicle.{Chronicle}
 use Rattle.world.specs.declared.schedule.Repeat.{Repeat}
-use Rattle.campaign_page.specs.Account.{accesses_part, chronicle_shown, picture_told, programs_part, promise_words, scenario_part, schedule_part, title, verdict_told}
+use Rattle.campaign_page.specs.Account.{accesses_part, chronicle_shown, is_wide, picture_told, programs_part, promise_words, scenario_part, schedule_part, title, verdict_told}
+
+-- the picture
+abbrev pub picture_part : Chronicle → List ℕ
+picture_part c = picture_told (is_wide c.scenario c.accesses) (signed_svg c)
 
 -- which orders a lieutenant accepts, by which chains, and what he decides of them
 unfoldable pub lieutenants_heading : List ℕ
@@ -47,7 +51,7 @@ bound_told false = bound_words false
 -- all sections, of a chronicle whose scenario this text tells, and which was played by this schedule, if by one
 unfoldable pub parts : List ℕ → Option (List (List Repeat)) → Chronicle → List ℕ
 parts text schedule c =
-    scenario_part text ++ schedule_part schedule ++ programs_part c.scenario ++ picture_told (signed_svg c)
+    scenario_part text ++ schedule_part schedule ++ programs_part c.scenario ++ picture_part c
     ++ lieutenants_part c ++ accesses_part c.accesses
     ++ chronicle_shown (signed_text c) ++ verdict_told c.verdict (bound_told c.verdict.bound)
 

@@ -1,14 +1,14 @@
 //! A campaign of signed messages as a page.
 ghost use Rattle.std.specs.Prelude.{◌≡◌, ◌++◌, codes, option_map, string_bytes, IfOk, OnOk};
-ghost use Rattle.campaign_page.specs.Account.{accesses_part, chronicle_shown, picture_told, programs_part, verdict_told};
-ghost use Rattle.signed_diagram.specs.Svg.{signed_svg};
-ghost use Rattle.signed_page.specs.Account.{bound_told, parts, signed_page_text, signed_title};
+ghost use Rattle.campaign_page.specs.Account.{accesses_part, chronicle_shown, programs_part, verdict_told};
+ghost use Rattle.signed_page.specs.Account.{bound_told, parts, picture_part, signed_page_text, signed_title};
 ghost use Rattle.trace.specs.SignedText.{signed_text};
 
 use crate::lieutenants::put_lieutenants;
 use crate::verdict::put_verdict;
 use campaign_page::{
-    put_chronicle_text, put_listed, put_programs, put_scenario, put_schedule, put_svg, title,
+    is_wide, put_chronicle_text, put_listed, put_programs, put_scenario, put_schedule, put_svg,
+    title,
 };
 use page::{finish, start};
 use round::Scenario;
@@ -107,10 +107,11 @@ fn put_diagram(
     out: &mut String,
     chronicle: &SignedChronicle,
 ) -> Result<(), AllocError>
-    ensures { OnOk result (string_bytes out.new ≡ string_bytes out.old ++ picture_told (signed_svg chronicle.now)) }
+    ensures { OnOk result (string_bytes out.new ≡ string_bytes out.old ++ picture_part chronicle.now) }
 {
     let svg = signed_campaign_svg(alloc, chronicle)?;
-    put_svg(out, svg.as_str())
+    let wide = is_wide(alloc, chronicle.scenario(), chronicle.accesses())?;
+    put_svg(out, wide, svg.as_str())
 }
 
 /// Adds the chronicle.

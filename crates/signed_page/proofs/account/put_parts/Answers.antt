@@ -1,10 +1,9 @@
 use Rattle.std.proofs.Common.{◌++◌}
 use Rattle.std.specs.Prelude.{option_map}
 use Rattle.std.specs.String.{string_bytes}
-use Rattle.campaign_page.specs.Account.{accesses_part, chronicle_shown, picture_told, programs_part, scenario_part, schedule_part, verdict_told}
+use Rattle.campaign_page.specs.Account.{accesses_part, chronicle_shown, programs_part, scenario_part, schedule_part, verdict_told}
 use Rattle.campaign_page.proofs.ChainLemmas.{chained}
-use Rattle.signed_diagram.specs.Svg.{signed_svg}
-use Rattle.signed_page.specs.Account.{bound_told, lieutenants_part, parts}
+use Rattle.signed_page.specs.Account.{bound_told, lieutenants_part, parts, picture_part}
 use Rattle.signed_page.proofs.account.put_parts.Goals as goal
 use Rattle.trace.specs.SignedText.{signed_text}
 
@@ -16,7 +15,7 @@ returns c =
     let one = scenario_part c.args.scenario_text.now in
     let time = schedule_part (option_map (λ s. s.now) c.args.schedule) in
     let two = programs_part told.scenario in
-    let three = picture_told (signed_svg told) in
+    let three = picture_part told in
     let four = lieutenants_part told in
     let five = accesses_part told.accesses in
     let six = chronicle_shown (signed_text told) in

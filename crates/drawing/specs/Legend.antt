@@ -1,0 +1,82 @@
+-- What the marks of a picture mean: below its rows a row for each mark that stands in it, and for no other.
+use Rattle.std.specs.Prelude.{ℕ, ◌+◌, Bool, true, false, if◌then◌else◌, List, [], ◌++◌, length, codes}
+use Rattle.std.specs.List.{list_any}
+use Rattle.drawing.specs.declared.node.Mark.{Mark}
+use Rattle.drawing.specs.declared.node.Mark.TheVariants.{Honest, Traitor, Lie}
+use Rattle.drawing.specs.declared.node.Marks.{Marks}
+use Rattle.drawing.specs.declared.node.Node.{Node}
+use Rattle.drawing.specs.declared.node.Outcome.{Outcome}
+use Rattle.drawing.specs.declared.node.Outcome.TheVariants.{Told, Divided}
+use Rattle.drawing.specs.Facts.{is_honest}
+use Rattle.drawing.specs.Rows.{row_end, row_start, shape}
+
+abbrev pub is_word : Mark → Bool
+is_word Traitor = true
+is_word _ = false
+
+abbrev pub is_lie : Mark → Bool
+is_lie (Lie general took) = true
+is_lie _ = false
+
+abbrev pub is_divided : Outcome → Bool
+is_divided Divided = true
+is_divided _ = false
+
+-- which labels have a circle, a square, a diamond, and dashes
+abbrev pub has_circle : Node → Bool
+has_circle node = is_honest node.mark
+
+abbrev pub has_square : Node → Bool
+has_square node = is_word node.mark
+
+abbrev pub has_diamond : Node → Bool
+has_diamond node = is_lie node.mark
+
+abbrev pub has_dashes : Node → Bool
+has_dashes node = is_divided node.outcome
+
+-- the marks that stand in the picture of these labels
+abbrev pub marks_of : List Node → Marks
+marks_of nodes = record {
+  circle = list_any has_circle nodes;
+  square = list_any has_square nodes;
+  diamond = list_any has_diamond nodes;
+  dashes = list_any has_dashes nodes;
+}
+
+abbrev pub one_if : Bool → ℕ
+one_if stands = if stands then 1 else 0
+
+abbrev pub count_of : Marks → ℕ
+count_of marks = one_if marks.circle + one_if marks.square + one_if marks.diamond + one_if marks.dashes
+
+-- a row with a mark, and what it means
+unfoldable pub meaning_words : List ℕ → List ℕ
+meaning_words words = codes "<text x=\"14\" y=\"17\">" ++ (words ++ codes "</text>")
+
+abbrev pub meaning : ℕ → Mark → Outcome → List ℕ → List ℕ
+meaning place mark outcome words = row_start place ++ shape 0 mark outcome ++ meaning_words words ++ row_end
+
+abbrev pub meaning_if : Bool → ℕ → Mark → Outcome → List ℕ → List ℕ
+meaning_if stands place mark outcome words = if stands then meaning place mark outcome words else []
+
+-- those of these marks below each other, the first with this place
+abbrev pub meanings : Marks → ℕ → List ℕ
+meanings marks place =
+    meaning_if marks.circle place Honest Told (codes "no lie is known")
+    ++ meaning_if marks.square (place + one_if marks.circle) Traitor Told (codes "a named commander, his word")
+    ++ meaning_if marks.diamond (place + one_if marks.circle + one_if marks.square) (Lie 0 0) Told
+    (codes "a lie of a named traitor")
+    ++ meaning_if marks.dashes (place + one_if marks.circle + one_if marks.square + one_if marks.diamond) Honest Divided
+    (codes "no order has a majority")
+
+-- a line below the rows
+unfoldable pub rule : List ℕ
+rule = codes "<path class=\"line\" d=\"M0 12h240\"/>"
+
+abbrev pub rule_at : ℕ → List ℕ
+rule_at place = row_start place ++ rule ++ row_end
+
+-- below these labels' rows
+abbrev pub legend : List Node → List ℕ
+legend nodes = rule_at (length nodes) ++ meanings (marks_of nodes) (length nodes + 1)

@@ -1,0 +1,210 @@
+//! What the marks of a picture mean, below its rows.
+ghost use Rattle.std.specs.Prelude.{◌≡◌, ◌≤◌, ◌<◌, ◌^◌, ◌++◌, string_bytes, OnOk};
+ghost use Rattle.std.specs.List.{list_any};
+ghost use Rattle.drawing.specs.Legend.{count_of, has_circle, has_dashes, has_diamond, has_square, legend, marks_of, meaning, meaning_if, meaning_words, meanings, one_if, rule, rule_at};
+
+use crate::facts::is_honest;
+use crate::node::{Mark, Marks, Node, Outcome};
+use crate::rows::{put_shape, put_start, row_end};
+use std::alloc::AllocError;
+
+/// Which marks stand in the picture of these labels.
+pub(crate) fn marks(nodes: &[Node]) -> Marks
+    ensures { result ≡ marks_of nodes.now }
+{
+    Marks {
+        circle: any_circle(nodes),
+        square: any_square(nodes),
+        diamond: any_diamond(nodes),
+        dashes: any_dashes(nodes),
+    }
+}
+
+/// Whether one of these labels has a circle.
+fn any_circle(nodes: &[Node]) -> bool
+    ensures { result ≡ list_any has_circle nodes.now }
+{
+    nodes.iter().any(|node| has_circle(node))
+}
+
+/// Whether one of them has a square.
+fn any_square(nodes: &[Node]) -> bool
+    ensures { result ≡ list_any has_square nodes.now }
+{
+    nodes.iter().any(|node| has_square(node))
+}
+
+/// Whether one of them has a diamond.
+fn any_diamond(nodes: &[Node]) -> bool
+    ensures { result ≡ list_any has_diamond nodes.now }
+{
+    nodes.iter().any(|node| has_diamond(node))
+}
+
+/// Whether one of them has dashes.
+fn any_dashes(nodes: &[Node]) -> bool
+    ensures { result ≡ list_any has_dashes nodes.now }
+{
+    nodes.iter().any(|node| has_dashes(node))
+}
+
+/// Whether no lie is known of a label.
+fn has_circle(node: &Node) -> bool
+    ensures { result ≡ has_circle node.now }
+{
+    is_honest(node.mark)
+}
+
+/// Whether a label's word is that of a commander who is named as a traitor.
+fn has_square(node: &Node) -> bool
+    ensures { result ≡ has_square node.now }
+{
+    matches!(node.mark, Mark::Traitor)
+}
+
+/// Whether it is a lie.
+fn has_diamond(node: &Node) -> bool
+    ensures { result ≡ has_diamond node.now }
+{
+    matches!(node.mark, Mark::Lie(_, _))
+}
+
+/// Whether in a label's list no order has a majority.
+fn has_dashes(node: &Node) -> bool
+    ensures { result ≡ has_dashes node.now }
+{
+    matches!(node.outcome, Outcome::Divided)
+}
+
+/// How many marks these are.
+pub(crate) fn count(marks: Marks) -> u128
+    ensures value { result ≡ count_of marks }
+    ensures few { result ≤ 4 }
+{
+    one_if(marks.circle) + one_if(marks.square) + one_if(marks.diamond) + one_if(marks.dashes)
+}
+
+/// One, where this is so.
+fn one_if(stands: bool) -> u128
+    ensures value { result ≡ one_if stands }
+    ensures few { result ≤ 1 }
+{
+    if stands { 1 } else { 0 }
+}
+
+/// Adds a line, and below it what the marks mean that stand in the picture of these labels.
+///
+/// # Errors
+///
+/// No memory for the text.
+pub(crate) fn put_legend(out: &mut String, nodes: &[Node]) -> Result<(), AllocError>
+    ensures { OnOk result (string_bytes out.new ≡ string_bytes out.old ++ legend nodes.now) }
+{
+    put_rule(out, nodes.len() as u128)?;
+    put_meanings(out, marks(nodes), nodes.len() as u128 + 1)
+}
+
+/// Adds a line with this place.
+fn put_rule(out: &mut String, place: u128) -> Result<(), AllocError>
+    requires { place < 2 ^ 100 }
+    ensures { OnOk result (string_bytes out.new ≡ string_bytes out.old ++ rule_at place) }
+{
+    put_start(out, place)?;
+    out.push_str(rule())?;
+    out.push_str(row_end())
+}
+
+/// A line below the rows.
+#[tactic(auto, unfolding(crate::specs::Legend::rule))]
+fn rule() -> &'static str
+    ensures { result.now ≡ rule }
+{
+    "<path class=\"line\" d=\"M0 12h240\"/>"
+}
+
+/// Adds what these marks mean, a row for each, the first with this place.
+fn put_meanings(out: &mut String, marks: Marks, place: u128) -> Result<(), AllocError>
+    requires { place < 2 ^ 99 }
+    ensures { OnOk result (string_bytes out.new ≡ string_bytes out.old ++ meanings marks place) }
+{
+    let second = place + one_if(marks.circle);
+    let third = second + one_if(marks.square);
+    let last = third + one_if(marks.diamond);
+    put_meaning_if(
+        out,
+        marks.circle,
+        place,
+        Mark::Honest,
+        Outcome::Told,
+        "no lie is known",
+    )?;
+    put_meaning_if(
+        out,
+        marks.square,
+        second,
+        Mark::Traitor,
+        Outcome::Told,
+        "a named commander, his word",
+    )?;
+    put_meaning_if(
+        out,
+        marks.diamond,
+        third,
+        Mark::Lie(0, 0),
+        Outcome::Told,
+        "a lie of a named traitor",
+    )?;
+    put_meaning_if(
+        out,
+        marks.dashes,
+        last,
+        Mark::Honest,
+        Outcome::Divided,
+        "no order has a majority",
+    )?;
+    Ok(())
+}
+
+/// Adds what a mark means, where it stands in the picture.
+fn put_meaning_if(
+    out: &mut String,
+    stands: bool,
+    place: u128,
+    mark: Mark,
+    outcome: Outcome,
+    words: &str,
+) -> Result<(), AllocError>
+    requires { place < 2 ^ 100 }
+    ensures { OnOk result (string_bytes out.new ≡ string_bytes out.old ++ meaning_if stands place mark outcome words.now) }
+{
+    if stands {
+        put_meaning(out, place, mark, outcome, words)
+    } else {
+        Ok(())
+    }
+}
+
+/// Adds a mark in a row with this place, and what it means.
+fn put_meaning(
+    out: &mut String,
+    place: u128,
+    mark: Mark,
+    outcome: Outcome,
+    words: &str,
+) -> Result<(), AllocError>
+    requires { place < 2 ^ 100 }
+    ensures { OnOk result (string_bytes out.new ≡ string_bytes out.old ++ meaning place mark outcome words.now) }
+{
+    put_start(out, place)?;
+    put_shape(out, 0, mark, outcome)?;
+    put_meaning_words(out, words)?;
+    out.push_str(row_end())
+}
+
+/// Adds what it means, beside it.
+#[tactic(auto, unfolding(crate::specs::Legend::meaning_words))]
+fn put_meaning_words(out: &mut String, words: &str) -> Result<(), AllocError>
+    ensures { OnOk result (string_bytes out.new ≡ string_bytes out.old ++ meaning_words words.now) }
+{
+    write!(out, "<text x=\"14\" y=\"17\">{words}</text>")
+}

@@ -1,0 +1,9 @@
+use Rattle.std.proofs.Common.{◌≡◌, ◌++◌, take}
+use Rattle.std.specs.List.{flat_map}
+use Rattle.std.specs.String.{string_bytes}
+use Rattle.signed_diagram.specs.Words.{several_words}
+use Rattle.signed_diagram.proofs.words.put_several.Given as goal
+
+-- those so far
+abbrev pub invariant-loop-stroke : goal.invariant-loop-stroke
+invariant-loop-stroke l = string_bytes l.out ≡ string_bytes l.fn.out ++ flat_map several_words (take l.stroke-index l.strokes)
