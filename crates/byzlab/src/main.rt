@@ -10,13 +10,13 @@ mod target;
 mod telling;
 mod watched;
 
-ghost use Rattle.std.specs.Prelude.{◌≡◌, ◌≤◌, Ok, IfOk, IfErr, IfSome, Some, false, max, option_map};
+ghost use Rattle.std.specs.Prelude.{◌≡◌, ◌≤◌, Any, Ok, IfOk, IfErr, IfSome, Some, false, max, option_map};
 ghost use Rattle.std.specs.IoError.{error_kind};
 ghost use Rattle.command_line.specs.Told.{file_of, second_of, seed_of};
 ghost use Rattle.neighbours.specs.Seen.{reads_scenario};
 ghost use Rattle.neighbours.specs.Story.{with_story};
 ghost use Rattle.byzlab.specs.Files.{IsInputIf, IsSecondIf, IsSeededIf, IsTextOf};
-ghost use Rattle.byzlab.specs.Telling.{IsStatus, IsUnasked, failure_of};
+ghost use Rattle.byzlab.specs.Telling.{AsksNothing, IsStatus, IsUnasked, failure_of};
 
 use chance::seeded;
 use command_line::{Request, Task, TaskError, each};
@@ -75,7 +75,8 @@ fn in_turn<T: Threads + Wait + Sync>(
     threads: &T,
     requests: &[Vec<&str>],
 ) -> io::Result<u8>
-    ensures { IfOk result (λ status. status ≤ 3) }
+    ensures status { IfOk result (λ status. status ≤ 3) }
+    ensures unasked { IfOk result (λ status. status ≡ 2 → Any (λ words. AsksNothing words.items) requests.now) }
 {
     let progress = Progress::of(rt, requests.len());
     let mut worst = 0;
