@@ -1,2 +1,3 @@
 pub mod BesideLemmas
 pub mod KeptLemmas
+pub mod UnaskedLemmas

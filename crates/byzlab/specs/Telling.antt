@@ -3,8 +3,10 @@ use Rattle.std.specs.Prelude.{ℕ, ◌≡◌, ◌≢◌, ◌⊎◌, ◌++◌, Li
 use Rattle.clap.specs.Words.{kind_of}
 use Rattle.clap.specs.declared.error.kind.ErrorKind.{ErrorKind}
 use Rattle.clap.specs.declared.error.kind.ErrorKind.TheVariants.{DisplayHelp, DisplayVersion}
+use Rattle.std.specs.Borrow.{Bor}
 use Rattle.std.specs.Fmt.{◌++?◌}
 use Rattle.lab.specs.Reasons.{reason_text}
+use Rattle.command_line.specs.Asked.{asked, words_of}
 use Rattle.command_line.specs.declared.errors.TaskError.{TaskError}
 use Rattle.command_line.specs.declared.errors.TaskError.TheVariants as task
 use Rattle.std.specs.declared.io.ErrorKind.{ErrorKind as IoKind}
@@ -26,6 +28,10 @@ IsUnasked (task.Words refusal) status =
     (IsMistake (kind_of refusal) × (status ≡ 2)) ⊎ (¬ IsMistake (kind_of refusal) × (status ≡ 0))
 IsUnasked (task.Misuse misuse) status = status ≡ 2
 IsUnasked task.Memory status = ⊥
+
+-- these words of a request ask for nothing
+abbrev pub AsksNothing : List (Bor (List ℕ)) → Type 0
+AsksNothing words = asked (words_of words) ≡ None
 
 -- how a request ends: done, refused or a fault of a file, want of memory
 abbrev pub IsStatus : ℕ → Type 0

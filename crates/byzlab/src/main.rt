@@ -10,13 +10,14 @@ mod target;
 mod telling;
 mod watched;
 
-ghost use Rattle.std.specs.Prelude.{◌≡◌, ◌≤◌, Ok, IfOk, IfErr, IfSome, Some, false, max, option_map};
+ghost use Rattle.std.specs.Prelude.{◌≡◌, ◌≢◌, ◌≤◌, Any, Ok, IfOk, IfErr, IfSome, IsOk, None, Some, false, max, option_map, true};
+ghost use Rattle.std.specs.Io.KnownBytes.{Appends};
 ghost use Rattle.std.specs.IoError.{error_kind};
-ghost use Rattle.command_line.specs.Told.{file_of, second_of, seed_of};
+ghost use Rattle.command_line.specs.Told.{file_of, schedule_target_of, second_of, seed_of};
 ghost use Rattle.neighbours.specs.Seen.{reads_scenario};
 ghost use Rattle.neighbours.specs.Story.{with_story};
 ghost use Rattle.byzlab.specs.Files.{IsInputIf, IsSecondIf, IsSeededIf, IsTextOf};
-ghost use Rattle.byzlab.specs.Telling.{IsStatus, IsUnasked, failure_of};
+ghost use Rattle.byzlab.specs.Telling.{AsksNothing, IsStatus, IsUnasked, failure_of};
 
 use chance::seeded;
 use command_line::{Request, Task, TaskError, each};
@@ -24,18 +25,19 @@ use desk::{serve, turned_down};
 use folder::FolderOf;
 use input::{Input, Opened};
 use keeping::{Unkept, keep, write_whole};
-use lab::{Failure, FileName, Refusal, is_explained, with_schedules};
+use lab::{Failure, FileName, Refusal, with_schedules};
 use neighbours::{Untaken, reads_scenario, with_files, with_story};
 use own_lines::refused;
 use progress::Progress;
 use std::env;
 use std::fmt::Display;
-use std::io::{self, Cursor, ErrorKind, Read, Write};
+use std::io::{self, Cursor, ErrorKind, Read};
 use std::process::ExitCode;
 use std::sync::Wait;
 use std::thread::Threads;
+use streams::Output;
 use target::target_of;
-use telling::{Explained, why_unwritten};
+use telling::{Explained, Unwritten, unread, why_unwritten};
 use watched::Watched;
 
 fn main(rt: HostRuntime) -> ExitCode {
@@ -75,7 +77,8 @@ fn in_turn<T: Threads + Wait + Sync>(
     threads: &T,
     requests: &[Vec<&str>],
 ) -> io::Result<u8>
-    ensures { IfOk result (λ status. status ≤ 3) }
+    ensures status { IfOk result (λ status. status ≤ 3) }
+    ensures unasked { IfOk result (λ status. status ≡ 2 → Any (λ words. AsksNothing words.items) requests.now) }
 {
     let progress = Progress::of(rt, requests.len());
     let mut worst = 0;
@@ -130,7 +133,15 @@ fn worse(first: u8, second: u8) -> u8
 fn ended<T: Threads + Wait + Sync>(rt: &HostRuntime, threads: &T, request: &Request) -> Ending
     ensures status { IsStatus result.status }
 {
-    match answered(rt, threads, request) {
+    settled(rt, answered(rt, threads, request))
+}
+
+/// How a request came out; where there was no memory to open a file, this is said first.
+fn settled(rt: &HostRuntime, outcome: io::Result<Ending>) -> Ending
+    ensures done { IfOk outcome (λ ending. result ≡ ending) }
+    ensures lacking { IfErr outcome (λ error. result.status ≡ (failure_of (error_kind error)).1) }
+{
+    match outcome {
         Ok(ending) => ending,
         Err(error) => Ending::with(lacking(rt, error.kind())),
     }
@@ -187,7 +198,8 @@ fn explored(
     match with_schedules(rt.alloc(), scenario, most) {
         Ok((text, schedules)) => {
             let kept = keep(rt, folder, scenario, schedules.as_slice());
-            Ok(Some(kept_and_printed(rt, request, kept, text.as_str())?))
+            let ending = kept_and_printed(rt, request, kept, text.as_str(), &mut rt.stdout())?;
+            Ok(Some(ending))
         }
         Err(Refusal::Memory) => Err(io::Error::from(ErrorKind::OutOfMemory)),
         Err(_) => Ok(None),
@@ -195,21 +207,25 @@ fn explored(
 }
 
 /// Prints this text where its files are kept, and else says that they are not.
-fn kept_and_printed(
+fn kept_and_printed<O: Output>(
     rt: &HostRuntime,
     request: &Request,
     kept: Result<(), Unkept>,
     text: &str,
+    out: &mut O,
 ) -> io::Result<Ending>
     ensures status { IfOk result (λ ending. IsStatus ending.status) }
+    ensures kept { IfOk result (λ ending. ending.status ≡ 0 → IsOk kept) }
+    ensures printed { IfOk result
+        (λ ending. ending.status ≡ 0 → Appends (O.contents out.old) (O.contents out.new) text.now) }
+    ensures unwritten { IfOk result (λ ending. ending.is_unwritten ≡ true → O.fails out.old) }
     ensures memory { IfErr result (λ error. error_kind error ≡ ErrorKind.OutOfMemory) }
 {
     if let Err(unkept) = kept {
         tell_unkept(rt, request, unkept)?;
         return Ok(Ending::with(1));
     }
-    let mut out = rt.stdout();
-    if out.write_all(text.as_bytes()).is_err() || out.flush().is_err() {
+    if out.put(text.as_bytes()).is_err() {
         turn_down(rt, request, Failure::Write)?;
         return Ok(Ending {
             status: 1,
@@ -226,7 +242,7 @@ fn tell_unkept(rt: &HostRuntime, request: &Request, unkept: Unkept) -> io::Resul
     match unkept {
         Unkept::Unwritten(name, kind) => {
             let name = FileName(name.as_str());
-            tell_untaken(rt, request, format_args!("fault write {name}"), Some(kind))
+            tell_untaken(rt, request, Unwritten { name }, Some(kind))
         }
         Unkept::Memory => Err(io::Error::from(ErrorKind::OutOfMemory)),
     }
@@ -235,6 +251,8 @@ fn tell_unkept(rt: &HostRuntime, request: &Request, unkept: Unkept) -> io::Resul
 /// Writes the schedule of the seed behind a campaign that was played by it, where it is to be written.
 fn schedule_written(rt: &HostRuntime, request: &Request, ending: Ending) -> io::Result<Ending>
     ensures status { IsStatus ending.status → IfOk result (λ ending. IsStatus ending.status) }
+    ensures unasked { schedule_target_of request.now.task ≡ None → result ≡ Ok ending }
+    ensures undone { ending.status ≢ 0 → result ≡ Ok ending }
     ensures memory { IfErr result (λ error. error_kind error ≡ ErrorKind.OutOfMemory) }
 {
     let (Some(seed), Some(name)) = (request.task.seed(), request.task.schedule_target()) else {
@@ -416,9 +434,8 @@ fn read<R: Read + Drop>(
     let mut bytes = Vec::new(rt.alloc());
     match file.read_to_end(&mut bytes) {
         Ok(_) => Ok(Some(bytes)),
-        Err(error) if error.kind() == ErrorKind::OutOfMemory => Err(error),
         Err(error) => {
-            tell_unread(rt, request, name, error.kind())?;
+            turn_down(rt, request, unread(&request.task, name, error)?)?;
             Ok(None)
         }
     }
@@ -434,19 +451,11 @@ fn opened(rt: &HostRuntime, request: &Request, name: Option<&str>) -> io::Result
     };
     match input::open(rt, name) {
         Ok(input) => Ok(Some(input)),
-        Err(closed) if closed.kind() == ErrorKind::OutOfMemory => Err(closed),
         Err(closed) => {
-            tell_unread(rt, request, name, closed.kind())?;
+            turn_down(rt, request, unread(&request.task, name, closed)?)?;
             Ok(None)
         }
     }
-}
-
-/// Tells that the file of this name is not read and, where the task explains what it refuses, why.
-fn tell_unread(rt: &HostRuntime, request: &Request, name: &str, kind: ErrorKind) -> io::Result<()>
-    ensures memory { IfErr result (λ error. error_kind error ≡ ErrorKind.OutOfMemory) }
-{
-    tell_untaken(rt, request, Failure::Read(name), Some(kind))
 }
 
 /// Tells that a file is not taken and, of one that is not read, why, where the task explains what it refuses.
@@ -458,12 +467,7 @@ fn tell_untaken<D: Display + Drop>(
 ) -> io::Result<()>
     ensures memory { IfErr result (λ error. error_kind error ≡ ErrorKind.OutOfMemory) }
 {
-    let kind = if is_explained(&request.task) {
-        kind
-    } else {
-        None
-    };
-    turn_down(rt, request, Explained { lines, kind })
+    turn_down(rt, request, Explained::by(&request.task, lines, kind))
 }
 
 /// The line and the exit status where the words could not be had, help not be written, or memory to open a file not be

@@ -1,13 +1,15 @@
 //! What is said behind the line of a file that is not read, and of an output that failed.
 
-ghost use Rattle.std.specs.Prelude.{option_map};
+ghost use Rattle.std.specs.Prelude.{◌≡◌, ◌↔◌, IfErr, IfOk, IsErr, None, Some, if◌then◌else◌, option_map};
+ghost use Rattle.std.specs.IoError.{error_kind};
 ghost use Rattle.lab.specs.Whys.{is_explained};
+ghost use Rattle.lab.specs.declared.failure.Failure.TheVariants.{Read as unreadable};
 ghost use Rattle.byzlab.specs.Telling.{IsWhy};
 
 use command_line::Task;
-use lab::{is_explained, reason};
+use lab::{Failure, is_explained, reason};
 use std::fmt::{self, Display};
-use std::io::ErrorKind;
+use std::io::{self, ErrorKind};
 
 /// Lines, and behind them the sentence for an error of this kind, if one is to be told.
 #[derive(Drop)]
@@ -28,6 +30,59 @@ impl<D: Display + Drop> Display for Explained<D> {
             None => Ok(()),
         }
     }
+}
+
+impl<D: Display + Drop> Explained<D> {
+    ghost use Rattle.std.specs.Prelude.{◌≡◌, None, if◌then◌else◌};
+    ghost use Rattle.lab.specs.Whys.{is_explained};
+
+    /// The lines and, where the task explains what it refuses, the sentence for an error of this kind, if there is one.
+    pub fn by(task: &Task, lines: D, kind: Option<ErrorKind>) -> Explained<D>
+        ensures lines { result.lines ≡ lines }
+        ensures kind { result.kind ≡ (if is_explained task.now then kind else None) }
+    {
+        let kind = if is_explained(task) { kind } else { None };
+        Explained { lines, kind }
+    }
+}
+
+/// That a file of this name was not written.
+#[derive(Drop)]
+pub struct Unwritten<D: Display + Drop> {
+    pub name: D,
+}
+
+impl<D: Display + Drop> Display for Unwritten<D> {
+    ghost use Rattle.std.specs.Prelude.{Some, codes};
+    ghost use Rattle.std.specs.Fmt.{◌++?◌};
+
+    ghost output = { λ unwritten. Some (codes "fault write ") ++? D.output unwritten.name };
+
+    fn fmt<W: fmt::Write>(&self, f: &mut fmt::Formatter<W>) -> fmt::Result {
+        write!(f, "fault write {}", self.name)
+    }
+}
+
+/// What is told of a file of this name whose opening or reading failed so.
+///
+/// # Errors
+///
+/// This very one, where it is want of memory.
+pub fn unread<'a>(
+    task: &Task,
+    name: &'a str,
+    error: io::Error,
+) -> io::Result<Explained<Failure<'a>>>
+    ensures line { IfOk result (λ told. told.lines ≡ unreadable name.entry) }
+    ensures why { IfOk result (λ told. told.kind ≡ (if is_explained task.now then Some (error_kind error) else None)) }
+    ensures memory { IsErr result ↔ (error_kind error ≡ ErrorKind.OutOfMemory) }
+    ensures same { IfErr result (λ own. own ≡ error) }
+{
+    let kind = error.kind();
+    if kind == ErrorKind::OutOfMemory {
+        return Err(error);
+    }
+    Ok(Explained::by(task, Failure::Read(name), Some(kind)))
 }
 
 /// Why the output of a task failed that ended with this status, where that is to be told.
