@@ -1,4 +1,5 @@
 pub mod StrokeLemmas
 pub mod OwedLemmas
+pub mod PictureLemmas
 pub mod PictureLaws
 pub mod LoyalLaws
