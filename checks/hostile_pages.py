@@ -73,7 +73,7 @@ SCENARIOS = {
 
 # ---- faults
 
-PAGE = """<!DOCTYPE html><html><head><title> </title><style>summary{outline:none}@page large{size:A2}</style></head><body>
+PAGE = """<!DOCTYPE html><html><head><title> </title><style>summary{outline:none}@page large{size:420mm 594mm}</style></head><body>
 <h2>a heading</h2><h4></h4><p style="color:#999">faint</p>
 <div style="position:absolute;top:20px;left:10px;width:1400px">across</div>
 <div style="overflow:hidden;width:40px;height:10px">too much for so small a box</div>
@@ -81,7 +81,7 @@ PAGE = """<!DOCTYPE html><html><head><title> </title><style>summary{outline:none
 <figure style="overflow-x:auto;width:50px"><svg width="60" height="50"><text x="40" y="20">outside</text></svg></figure>
 <img src="https://example.org/a.png"><img src="none.png"><script>console.log("hello"); nope()</script>
 <a href="#nope" id="a" onclick="1"></a><b id="a">b</b>
-<p style="font-size:4px">tiny</p><p style="break-before:page;page:large"></p>
+<p style="font-size:4px">tiny</p><p style="break-before:page;page:large">large</p>
 <details><summary tabindex="-1">one</summary><p>1</p></details><details><summary>two</summary>2</details></body></html>
 """
 SEEN_IN_PAGE = """no language
@@ -103,7 +103,7 @@ in a window of 400, by div
 contrast 2.85
 "not on paper" is not shown
 "1" is not shown
-letters of 4.0 are too small on paper
+are too small on paper, as on sheet 1
 is larger than A3
 is not marked where the keys
 1 folds are not reached
