@@ -8,7 +8,7 @@ use Rattle.combine.specs.Chosen.{combined_by}
 use Rattle.combine.specs.declared.chosen.Rule.{Rule}
 use Rattle.combine.specs.declared.chosen.Rule.TheVariants.{Majority, Median}
 use Rattle.combine.specs.declared.outcome.Outcome.TheVariants.{Agreed, Divided}
-use Rattle.combine.specs.Outcome.{OutcomesCombine, agreed_or, order_of}
+use Rattle.combine.specs.Outcome.{OutcomesCombine, agreed_or, outcome_order}
 
 -- the first that passes passes
 pub find_passes : (t : ℕ → Bool) (xs : List ℕ) (v : ℕ) → find t xs ≡ Some v → t v ≡ true
@@ -65,7 +65,7 @@ divided_told xs v other e less =
     ap Divided same ∙ sym (ap (agreed_or other) none)
 
 -- its order
-agreed_order : (other : ℕ) (o : Option ℕ) → order_of (agreed_or other o) ≡ unwrap_or o other
+agreed_order : (other : ℕ) (o : Option ℕ) → outcome_order (agreed_or other o) ≡ unwrap_or o other
 agreed_order other None = refl
 agreed_order other (Some v) = refl
 

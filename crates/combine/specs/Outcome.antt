@@ -19,10 +19,10 @@ outcome_of Majority orders = agreed_or 0 (find (is_most orders) orders)
 outcome_of Median orders = Middle (median orders)
 
 -- the order
-abbrev pub order_of : Outcome → ℕ
-order_of (Agreed order) = order
-order_of (Divided order) = order
-order_of (Middle order) = order
+abbrev pub outcome_order : Outcome → ℕ
+outcome_order (Agreed order) = order
+outcome_order (Divided order) = order
+outcome_order (Middle order) = order
 
 -- what is told before it
 abbrev pub outcome_head : Outcome → List ℕ
@@ -31,8 +31,8 @@ outcome_head (Divided order) = codes "no majority, so "
 outcome_head (Middle order) = codes "median "
 
 abbrev pub outcome_words : Outcome → List ℕ
-outcome_words outcome = outcome_head outcome ++ decimal (order_of outcome)
+outcome_words outcome = outcome_head outcome ++ decimal (outcome_order outcome)
 
 -- the order is that of the rule
 abbrev pub OutcomesCombine : Type 0
-OutcomesCombine = (rule : Rule) (orders : List ℕ) → order_of (outcome_of rule orders) ≡ combined_by rule orders
+OutcomesCombine = (rule : Rule) (orders : List ℕ) → outcome_order (outcome_of rule orders) ≡ combined_by rule orders

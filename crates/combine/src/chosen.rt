@@ -1,7 +1,7 @@
 ghost use Rattle.std.specs.Prelude.{◌≡◌};
 ghost use Rattle.combine.specs.Chosen.{combined_by, chosen_is_rule};
 ghost use Rattle.combine.specs.Names.{is_default, rule_name, rule_named, rule_names};
-ghost use Rattle.combine.specs.Outcome.{order_of, outcome_of};
+ghost use Rattle.combine.specs.Outcome.{outcome_order, outcome_of};
 
 use crate::majority::Majority;
 use crate::median::Median;
@@ -81,7 +81,7 @@ impl Rule {
     /// What a list comes to by the rule.
     pub fn outcome(self, orders: &[u32]) -> Outcome
         ensures value { result ≡ outcome_of self orders.now }
-        ensures order { order_of result ≡ combined_by self orders.now }
+        ensures order { outcome_order result ≡ combined_by self orders.now }
     {
         let order = self.combine(orders);
         match self {

@@ -1,6 +1,6 @@
 //! What a list of orders comes to.
 ghost use Rattle.std.specs.Prelude.{◌≡◌, find, unwrap_or, ℕ};
-ghost use Rattle.combine.specs.Outcome.{agreed_or, order_of, outcome_head};
+ghost use Rattle.combine.specs.Outcome.{agreed_or, outcome_order, outcome_head};
 ghost use Rattle.combine.specs.Rule.{is_most};
 
 use crate::majority::is_in_most;
@@ -19,7 +19,7 @@ pub enum Outcome {
 impl Outcome {
     /// The order, 0 for RETREAT.
     pub fn order(self) -> u32
-        ensures { result ≡ order_of self }
+        ensures { result ≡ outcome_order self }
     {
         match self {
             Outcome::Agreed(order) | Outcome::Divided(order) | Outcome::Middle(order) => order,

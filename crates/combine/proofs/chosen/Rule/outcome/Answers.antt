@@ -1,5 +1,5 @@
 use Rattle.std.proofs.Common.{◌≡◌, ◌∙◌, ap}
-use Rattle.combine.specs.Outcome.{order_of}
+use Rattle.combine.specs.Outcome.{outcome_order}
 use Rattle.combine.specs.Rule.{majority}
 use Rattle.combine.proofs.Found.{outcomes_law}
 use Rattle.combine.proofs.chosen.Rule.outcome.Goals as goal
@@ -12,4 +12,4 @@ returns-in-Majority-clause-value c =
 
 pub returns-in-Majority-clause-order : goal.returns-in-Majority-clause-order
 returns-in-Majority-clause-order c =
-    ap order_of (returns-in-Majority-clause-value c) ∙ outcomes_law c.args.self c.args.orders.now
+    ap outcome_order (returns-in-Majority-clause-value c) ∙ outcomes_law c.args.self c.args.orders.now
