@@ -15,8 +15,9 @@ use Rattle.drawing.specs.declared.node.Extent.TheVariants.{Last, Open, Folded, C
 use Rattle.drawing.specs.declared.node.Mark.{Mark}
 use Rattle.drawing.specs.declared.node.Mark.TheVariants.{Honest, Traitor, Lie}
 use Rattle.drawing.specs.declared.node.Node.{Node}
-use Rattle.drawing.specs.declared.node.Outcome.{Outcome}
-use Rattle.drawing.specs.declared.node.Outcome.TheVariants.{Told, Agreed, Divided, Middle}
+use Rattle.combine.specs.declared.outcome.Outcome.{Outcome}
+use Rattle.combine.specs.declared.outcome.Outcome.TheVariants.{Agreed, Divided, Middle}
+use Rattle.combine.specs.Outcome.{outcome_head, outcome_order}
 use Rattle.drawing.specs.Laws.{PicturesAreElements}
 use Rattle.drawing.specs.Places.{branch_at}
 use Rattle.drawing.specs.Rows.{branch_way, branch_ways, kind, lines_end, lines_start, outcome_class, outline, row, row_end, row_start, rows_from, shape, stub, way, word_text}
@@ -43,11 +44,14 @@ stop = codes "; "
 stop_text : IsText stop
 stop_text = bare_text stop refl
 
-outcome_text : (o : Outcome) → IsText (outcome_words stop o)
-outcome_text Told = no_text
-outcome_text (Agreed order) = many _ _ (bare_text (stop ++ codes "majority ") refl) (decimal_text order)
-outcome_text Divided = bare_text (stop ++ codes "no majority, so 0") refl
-outcome_text (Middle order) = many _ _ (bare_text (stop ++ codes "median ") refl) (decimal_text order)
+head_text : (o : Outcome) → IsText (outcome_head o)
+head_text (Agreed order) = bare_text (codes "majority ") refl
+head_text (Divided order) = bare_text (codes "no majority, so ") refl
+head_text (Middle order) = bare_text (codes "median ") refl
+
+outcome_text : (o : Option Outcome) → IsText (outcome_words stop o)
+outcome_text None = no_text
+outcome_text (Some o) = many (stop ++ outcome_head o) (decimal (outcome_order o)) (many stop (outcome_head o) stop_text (head_text o)) (decimal_text (outcome_order o))
 
 mark_text : (m : Mark) → IsText (mark_words stop m)
 mark_text Honest = no_text
@@ -66,12 +70,10 @@ extent_text (Cut count) = many (stop ++ decimal count) (codes " below not shown"
 told_text : (o : Option ℕ) → IsText (told_words o)
 told_text o = many (codes "told ") (order_words o) (bare_text (codes "told ") refl) (order_text o)
 
-counted_text : (o : Outcome) (told : Option ℕ) → IsText (counted_words o told)
-counted_text Told None = bare_text (codes ", so 0") refl
-counted_text Told (Some order) = no_text
-counted_text (Agreed order) told = no_text
-counted_text Divided told = no_text
-counted_text (Middle order) told = no_text
+counted_text : (o : Option Outcome) (told : Option ℕ) → IsText (counted_words o told)
+counted_text None None = bare_text (codes ", so 0") refl
+counted_text None (Some order) = no_text
+counted_text (Some o) told = no_text
 
 words_text : (node : Node) → IsText (words stop node)
 words_text node =
@@ -112,11 +114,11 @@ kind_text Honest = bare_text (codes "told") refl
 kind_text Traitor = bare_text (codes "word") refl
 kind_text (Lie general took) = bare_text (codes "lie") refl
 
-class_text : (o : Outcome) → IsText (outcome_class o)
-class_text Told = no_text
-class_text (Agreed order) = no_text
-class_text Divided = bare_text (codes " split") refl
-class_text (Middle order) = no_text
+class_text : (o : Option Outcome) → IsText (outcome_class o)
+class_text None = no_text
+class_text (Some (Agreed order)) = no_text
+class_text (Some (Divided order)) = bare_text (codes " split") refl
+class_text (Some (Middle order)) = no_text
 
 outline_text : (m : Mark) → IsText (outline m)
 outline_text Honest = bare_text (codes " 6a6 6 0 0 1 0 12a6 6 0 0 1 0-12z") refl

@@ -1,18 +1,18 @@
 -- Laws of what is said and drawn. Each is the contract of a function of this crate.
-use Rattle.std.specs.Prelude.{ℕ, ◌≡◌, List, ◌++◌, codes}
-use Rattle.combine.specs.declared.chosen.Rule.{Rule}
+use Rattle.std.specs.Prelude.{ℕ, suc, ◌≡◌, List, ◌++◌, codes}
+use Rattle.combine.specs.Outcome.{outcome_of, outcome_words as list_words}
 use Rattle.markup.specs.Grammar.{IsElement}
-use Rattle.book.specs.Explained.{outcome}
+use Rattle.book.specs.Explained.{list_of}
 use Rattle.book.specs.Table.{MessageTable}
 use Rattle.drawing.specs.declared.node.View.{View}
-use Rattle.drawing.specs.Facts.{outcome_of}
+use Rattle.drawing.specs.Facts.{outcome_at}
 use Rattle.drawing.specs.Svg.{svg_text}
 use Rattle.drawing.specs.Words.{outcome_words}
 
--- what is said of a label's list is what the explanation says of it
+-- what is said of a label from which others go on is what the explanation says of its list
 abbrev pub OutcomesAreExplained : Type 0
-OutcomesAreExplained = (rule : Rule) (orders : List ℕ) (stop : List ℕ) →
-    outcome_words stop (outcome_of rule orders) ≡ stop ++ outcome rule orders
+OutcomesAreExplained = (t : MessageTable) (k : ℕ) (w : List ℕ) (p : ℕ) (stop : List ℕ) →
+    outcome_words stop (outcome_at t (suc k) w p) ≡ stop ++ list_words (outcome_of t.rule (list_of t k w p))
 
 -- each picture is one element of XML, and a line feed
 abbrev pub PicturesAreElements : Type 0
