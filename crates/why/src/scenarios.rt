@@ -1,5 +1,6 @@
 //! What is said of a fault of a scenario.
-ghost use Rattle.std.specs.Prelude.{◌≡◌, false, true, IfOk, codes, option_map, string_bytes};
+ghost use Rattle.std.specs.Prelude.{◌≡◌, ◌≢◌, false, true, IfOk, codes, option_map, string_bytes};
+ghost use Rattle.scenario.specs.declared.place.Name.TheVariants as names;
 ghost use Rattle.why.specs.Keys.{found_view, shown_at};
 ghost use Rattle.why.specs.Nearest.{near};
 ghost use Rattle.why.specs.Report.{help_words, mark_view, near_words};
@@ -8,6 +9,7 @@ ghost use Rattle.why.specs.Scenarios.{entry_key_told, entry_keys, entry_sentence
 use crate::keys::{Found, entry_line, find_line, header, shown_at};
 use crate::nearest::near;
 use crate::report::{Help, Mark, report};
+use combine::Rule;
 use scenario::{Fault, Name, Place};
 use std::alloc::{AllocError, Global};
 
@@ -53,13 +55,22 @@ fn missing_sentence(alloc: Global, name: Name) -> Result<String, AllocError>
     }
 }
 
-/// Of which kind the value is to be.
-fn kind_sentence(name: Name) -> &'static str
-    ensures { result.now ≡ kind_sentence name }
+/// Of which kind a value is to be.
+fn kind_sentence(alloc: Global, name: Name) -> Result<String, AllocError>
+    ensures { IfOk result (λ text. string_bytes text ≡ kind_sentence name) }
+{
+    match name {
+        Name::Rule => format!(in alloc; "a rule is a text in quotation marks: {}", Rule::names()),
+        name => String::from_str(alloc, plain_kind(name)),
+    }
+}
+
+/// The same, but for a rule.
+fn plain_kind(name: Name) -> &'static str
+    ensures { name ≢ names.Rule → result.now ≡ kind_sentence name }
 {
     match name {
         Name::Board => "a board is a list of whole numbers",
-        Name::Rule => "a rule is a text, \"majority\" or \"median\"",
         Name::Messages => "messages are a text, \"oral\" or \"signed\"",
         Name::Traitor => "the traitors are a list of tables, each begun by `[[traitor]]`",
         Name::Asm => "a program is a text in quotation marks, as `asm = \"mov r0, 0\\nexit\"`",
@@ -69,8 +80,18 @@ fn kind_sentence(name: Name) -> &'static str
 }
 
 /// In which range it is to be.
-fn range_sentence(name: Name) -> &'static str
-    ensures { result.now ≡ range_sentence name }
+fn range_sentence(alloc: Global, name: Name) -> Result<String, AllocError>
+    ensures { IfOk result (λ text. string_bytes text ≡ range_sentence name) }
+{
+    match name {
+        Name::Rule => format!(in alloc; "a rule is {}", Rule::names()),
+        name => String::from_str(alloc, plain_range(name)),
+    }
+}
+
+/// The same, but for a rule.
+fn plain_range(name: Name) -> &'static str
+    ensures { name ≢ names.Rule → result.now ≡ range_sentence name }
 {
     match name {
         Name::Generals => "there are 2 to 13 generals",
@@ -79,7 +100,6 @@ fn range_sentence(name: Name) -> &'static str
         Name::Order => "an order is 0 to 4294967295",
         Name::Board => "a board has at most 64 words",
         Name::Patience => "a patience is 1 to 4096 steps",
-        Name::Rule => "a rule is \"majority\" or \"median\"",
         Name::Messages =>
             "messages are \"oral\" or \"signed\", and of all but `play` without `--table` and `audit` \"oral\"",
         _ => "this value is out of its range",
@@ -92,8 +112,8 @@ fn name_sentence(alloc: Global, fault: Fault, name: Name) -> Result<String, Allo
 {
     let sentence = match fault {
         Fault::Key => return missing_sentence(alloc, name),
-        Fault::Kind => kind_sentence(name),
-        Fault::Range => range_sentence(name),
+        Fault::Kind => return kind_sentence(alloc, name),
+        Fault::Range => return range_sentence(alloc, name),
         Fault::General => "no general has this number: they are 0 to generals - 1",
         Fault::Twice => "a table before is of this general",
     };
