@@ -4,7 +4,7 @@
 mod context;
 mod laws;
 mod mask;
-mod orders;
+mod outbox;
 mod orders_by_number;
 mod receivers;
 mod relays;
@@ -14,6 +14,6 @@ mod signing;
 
 pub use label::Shape;
 pub use laws::last_orders_are_given;
-pub use orders::Outbox;
+pub use outbox::Outbox;
 pub use row::Row;
 pub use semantics::Entry;

@@ -1,7 +1,7 @@
 use Rattle.std.proofs.Common.{◌≡◌}
 use Rattle.semantics.specs.Outbox.{taken_value}
 use Rattle.outbox.proofs.Throughout.{all_first}
-use Rattle.outbox.proofs.orders.Outbox.honest_to_all.Given as goal
+use Rattle.outbox.proofs.outbox.Outbox.honest_to_all.Given as goal
 
 abbrev pub invariant-loop-rank : goal.invariant-loop-rank
 invariant-loop-rank l = record {

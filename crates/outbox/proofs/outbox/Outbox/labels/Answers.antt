@@ -3,7 +3,7 @@ use Rattle.semantics.specs.Relay.{relayed}
 use Rattle.outbox.specs.Contents.{Contents, HasPlaces, relay_of}
 use Rattle.outbox.proofs.Outcomes.{rows_few}
 use Rattle.outbox.proofs.LastOrders.{has_places}
-use Rattle.outbox.proofs.orders.Outbox.labels.Goals as goal
+use Rattle.outbox.proofs.outbox.Outbox.labels.Goals as goal
 
 pub overflow_cast-result : goal.overflow_cast-result
 overflow_cast-result c =

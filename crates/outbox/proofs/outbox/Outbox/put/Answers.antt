@@ -6,7 +6,7 @@ use Rattle.outbox.specs.Contents.{entries_of, relay_of}
 use Rattle.outbox.proofs.Whole.{put_names}
 use Rattle.outbox.proofs.Single.{absent_written, only_place, place_written, place_there, place_absent, single_stands}
 use Rattle.outbox.proofs.Looks.{found_after}
-use Rattle.outbox.proofs.orders.Outbox.put.Goals as goal
+use Rattle.outbox.proofs.outbox.Outbox.put.Goals as goal
 
 pub returns-then-rank-len-clause-rows : goal.returns-then-rank-len-clause-rows
 returns-then-rank-len-clause-rows c =

@@ -2,7 +2,7 @@
 use Rattle.std.proofs.Common.{◌<◌, ◌≤◌, length, arith}
 use Rattle.outbox.specs.Contents.{entries_of, relay_of}
 use Rattle.outbox.proofs.Looks.{order_past, order_found}
-use Rattle.outbox.proofs.orders.Outbox.get.Goals as goal
+use Rattle.outbox.proofs.outbox.Outbox.get.Goals as goal
 
 pub returns-then-rank-len : goal.returns-then-rank-len
 returns-then-rank-len c =

@@ -2,7 +2,7 @@
 use Rattle.std.proofs.Common.{◌<◌, ◌≤◌, length, arith, refl}
 use Rattle.outbox.specs.Contents.{entries_of, relay_of}
 use Rattle.outbox.proofs.Looks.{order_past, order_found}
-use Rattle.outbox.proofs.orders.Outbox.orders.Goals as goal
+use Rattle.outbox.proofs.outbox.Outbox.orders.Goals as goal
 
 pub returns-then-rank-len-clause-orders : goal.returns-then-rank-len-clause-orders
 returns-then-rank-len-clause-orders c receiver =

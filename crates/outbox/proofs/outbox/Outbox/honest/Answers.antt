@@ -5,8 +5,8 @@ use Rattle.outbox.specs.Rows.{put_in_row}
 use Rattle.outbox.specs.Contents.{entries_of, relay_of}
 use Rattle.outbox.proofs.Whole.{found_first, found_few}
 use Rattle.outbox.proofs.Outcomes.{same_relay, rows_few, sweep_step, count_step, sweep_stands, sweep_written, sweep_counted}
-use Rattle.outbox.proofs.orders.Outbox.honest.Goals as goal
-use Rattle.outbox.proofs.orders.Outbox.honest.Goals.{then-put, else-put}
+use Rattle.outbox.proofs.outbox.Outbox.honest.Goals as goal
+use Rattle.outbox.proofs.outbox.Outbox.honest.Goals.{then-put, else-put}
 
 pub invariant_of-self : goal.invariant_of-self
 invariant_of-self c = sweep_stands (relay_of c.self.inside.shape c.self.inside.signing) (relay_of c.loop-rank.self-inside.shape c.loop-rank.self-inside.signing) c.args.receiver (taken_value c.args.context.now) c.loop-rank.rank c.self.inside.rows.items c.loop-rank.self-inside.rows.items c.self.invariant (same_relay c.loop-rank.invariant.shape c.loop-rank.invariant.signing) c.loop-rank.invariant.rows

@@ -5,7 +5,7 @@ use Rattle.outbox.specs.Rows.{all_put}
 use Rattle.outbox.specs.Contents.{entries_of, relay_of}
 use Rattle.outbox.proofs.Outcomes.{same_relay, rows_few}
 use Rattle.outbox.proofs.Throughout.{all_step, all_stand, all_done}
-use Rattle.outbox.proofs.orders.Outbox.honest_to_all.Goals as goal
+use Rattle.outbox.proofs.outbox.Outbox.honest_to_all.Goals as goal
 
 pub invariant_of-self : goal.invariant_of-self
 invariant_of-self c = all_stand (relay_of c.self.inside.shape c.self.inside.signing) (relay_of c.loop-rank.self-inside.shape c.loop-rank.self-inside.signing) (taken_value c.args.context.now) c.loop-rank.rank c.self.inside.rows.items c.loop-rank.self-inside.rows.items c.self.invariant (same_relay c.loop-rank.invariant.shape c.loop-rank.invariant.signing) c.loop-rank.invariant.rows

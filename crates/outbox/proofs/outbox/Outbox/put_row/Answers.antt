@@ -4,7 +4,7 @@ use Rattle.semantics.specs.Outbox.{along_row}
 use Rattle.outbox.specs.Rows.{receivers_in}
 use Rattle.outbox.specs.Contents.{entries_of, relay_of}
 use Rattle.outbox.proofs.Single.{absent_written, absent_count, only_row, along_written, along_count, filled_names, single_stands}
-use Rattle.outbox.proofs.orders.Outbox.put_row.Goals as goal
+use Rattle.outbox.proofs.outbox.Outbox.put_row.Goals as goal
 
 pub returns-then-rank-len-clause-rows : goal.returns-then-rank-len-clause-rows
 returns-then-rank-len-clause-rows c =
