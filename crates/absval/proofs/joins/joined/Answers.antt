@@ -1,6 +1,6 @@
 use Rattle.std.proofs.Common.{rules}
 use Rattle.absval.proofs.Near.{join_near}
-use Rattle.absval.proofs.values.joined.Goals as goal
+use Rattle.absval.proofs.joins.joined.Goals as goal
 
 pub invariant_of-result : goal.invariant_of-result
 invariant_of-result c =
