@@ -3,7 +3,7 @@
 
 mod errors;
 mod generals;
-mod lab;
+mod command;
 mod met;
 mod reading;
 mod several;
