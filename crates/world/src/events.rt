@@ -4,7 +4,7 @@ ghost use Rattle.world.specs.declared.event.Event.TheVariants.{Tick, Post, Close
 ghost use Rattle.world.specs.World.{opening, happen, refusal, run};
 ghost use Rattle.world.specs.Held.{AheadTo, IsAnswer};
 
-use crate::beginnings::{blanks, brief};
+use crate::opening::{blanks, brief};
 use crate::event::{Event, EventError};
 use crate::letters::{drafts, is_full, letters, since};
 use crate::parts;

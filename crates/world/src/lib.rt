@@ -1,7 +1,7 @@
 //! The world of a campaign. What is said of it stands in specs/.
 #![tactic(auto)]
 
-mod beginnings;
+mod opening;
 mod chronicle;
 pub mod draft;
 mod event;

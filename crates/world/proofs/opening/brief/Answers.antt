@@ -1,7 +1,7 @@
 -- One by one.
 use Rattle.std.proofs.Common.{◌≡◌, ◌<◌, ◌≤◌, length, arith}
 use Rattle.world.proofs.Briefed.{blank_at, brief_more, brief_all}
-use Rattle.world.proofs.beginnings.brief.Goals as goal
+use Rattle.world.proofs.opening.brief.Goals as goal
 
 pub brief_one-requires-clause-blank : goal.brief_one-requires-clause-blank
 brief_one-requires-clause-blank c =

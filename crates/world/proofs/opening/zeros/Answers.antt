@@ -2,7 +2,7 @@
 use Rattle.std.proofs.Common.{◌-◌, ◌++◌, ◌∙◌, take}
 use Rattle.std.specs.Prelude.{replicate}
 use Rattle.world.specs.Closing.{zeros}
-use Rattle.world.proofs.beginnings.zeros.Goals as goal
+use Rattle.world.proofs.opening.zeros.Goals as goal
 
 pub returns-clause-same : goal.returns-clause-same
 unfolding zeros

@@ -3,7 +3,7 @@ use Rattle.std.proofs.Common.{[], ◌∷◌, refl, arith}
 use Rattle.round.specs.Scenario.{program_of}
 use Rattle.world.specs.Closing.{blank}
 use Rattle.world.proofs.Holding.{more_each}
-use Rattle.world.proofs.beginnings.blanks.Goals as goal
+use Rattle.world.proofs.opening.blanks.Goals as goal
 
 pub loop-general-preserved : goal.loop-general-preserved
 loop-general-preserved c =

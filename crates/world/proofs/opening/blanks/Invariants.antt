@@ -3,7 +3,7 @@ use Rattle.std.specs.Vec.{vec_len, vec_capacity}
 use Rattle.round.specs.Scenario.{program_of}
 use Rattle.world.specs.World.{each}
 use Rattle.world.specs.Closing.{blank}
-use Rattle.world.proofs.beginnings.blanks.Given as goal
+use Rattle.world.proofs.opening.blanks.Given as goal
 
 abbrev pub invariant-loop-general : goal.invariant-loop-general
 invariant-loop-general l = record {
