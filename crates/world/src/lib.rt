@@ -5,7 +5,6 @@ mod opening;
 mod chronicle;
 pub mod draft;
 mod event;
-mod events;
 pub mod judging;
 mod laws;
 pub mod letters;
