@@ -12,8 +12,7 @@ mod looking;
 mod outcome;
 mod part;
 pub mod parts;
-mod player;
-mod playing;
+mod campaign;
 mod plays;
 mod schedule;
 mod verdict;
@@ -28,8 +27,7 @@ pub use laws::{
     worlds_agree,
 };
 pub use part::Part;
-pub use player::{play, replay};
-pub use playing::{named_round, play_listed, play_named, play_names, wind_up};
+pub use campaign::{named_round, play, play_listed, play_named, play_names, replay, wind_up};
 pub use plays::Plays;
 pub use schedule::{Entries, Repeat, Schedule};
 pub use verdict::Verdict;
