@@ -4,8 +4,8 @@
 mod context;
 mod laws;
 mod mask;
-mod outbox;
 mod orders_by_number;
+mod outbox;
 mod receivers;
 mod relays;
 mod row;

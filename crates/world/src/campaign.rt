@@ -1,4 +1,4 @@
-//! Campaigns from a scenario to their chronicle: those of one general by one, and the same in a world of any kind.
+//! Campaigns from a scenario to their chronicle, and from their opening to their end in a world of whichever kind.
 ghost use Rattle.std.specs.Prelude.{◌≡◌, IfOk, ◌<◌, [], suc, OnOk, replicate, slice_get, slice_index_or};
 ghost use Rattle.round.specs.Letters.{messages};
 ghost use Rattle.world.specs.Agreement.{IsFinished};
@@ -14,12 +14,12 @@ ghost use Rattle.world.specs.Kind.{each, happen, run as run_of};
 ghost use Rattle.world.specs.KindLists.{event_of, post_of, ticks_of, wound_up, listed_rounds, replayed_rounds, ticks_named, names_events};
 
 use crate::chronicle::Chronicle;
-use crate::schedule::{Schedule, Repeat};
+use crate::parts;
+use crate::plays::Plays;
+use crate::schedule::{Repeat, Schedule};
 use crate::world::World;
 use round::Scenario;
 use std::alloc::{AllocError, Global};
-use crate::parts;
-use crate::plays::Plays;
 
 /// The chronicle of the scenario's campaign by a schedule: in each round its entries one by one, then the letters of
 /// all loyal generals and what is left of the traitors' instructions, ascending by number.

@@ -1,7 +1,7 @@
 //! The world of a campaign. What is said of it stands in specs/.
 #![tactic(auto)]
 
-mod opening;
+mod campaign;
 mod chronicle;
 pub mod draft;
 mod event;
@@ -9,15 +9,16 @@ pub mod judging;
 mod laws;
 pub mod letters;
 mod looking;
+mod opening;
 mod outcome;
 mod part;
 pub mod parts;
-mod campaign;
 mod plays;
 mod schedule;
 mod verdict;
 mod world;
 
+pub use campaign::{named_round, play, play_listed, play_named, play_names, replay, wind_up};
 pub use chronicle::Chronicle;
 pub use event::{Event, EventError};
 pub use laws::{
@@ -27,7 +28,6 @@ pub use laws::{
     worlds_agree,
 };
 pub use part::Part;
-pub use campaign::{named_round, play, play_listed, play_named, play_names, replay, wind_up};
 pub use plays::Plays;
 pub use schedule::{Entries, Repeat, Schedule};
 pub use verdict::Verdict;

@@ -4,15 +4,15 @@ ghost use Rattle.world.specs.declared.event.Event.TheVariants.{Tick, Post, Close
 ghost use Rattle.world.specs.World.{opening, happen, refusal, run};
 ghost use Rattle.world.specs.Held.{AheadTo, IsAnswer};
 
-use crate::part::Part;
-use board::Board;
-use round::{Round, Scenario, Told};
-use std::alloc::{Global, AllocError};
-use std::marker::Model;
-use crate::opening::{blanks, brief};
 use crate::event::{Event, EventError};
 use crate::letters::{drafts, is_full, letters, since};
+use crate::opening::{blanks, brief};
+use crate::part::Part;
 use crate::parts;
+use board::Board;
+use round::{Round, Scenario, Told};
+use std::alloc::{AllocError, Global};
+use std::marker::Model;
 
 /// A scenario's campaign as events have left it.
 #[derive(Drop)]
