@@ -1,7 +1,6 @@
 //! The orders that a general puts for a round, a place for each label relayed and each receiver.
 #![tactic(auto)]
 
-mod context;
 mod laws;
 mod mask;
 mod orders_by_number;

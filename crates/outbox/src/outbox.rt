@@ -6,11 +6,11 @@ ghost use Rattle.semantics.specs.Outbox.{places, taken_value as value_in, empty_
 ghost use Rattle.outbox.specs.Contents.{HasPlaces, order_at};
 ghost use Rattle.outbox.specs.Rows.{order_of_row};
 
-use crate::context::taken_value;
 use crate::relays::rows_of;
 use crate::row::Row;
 use crate::rows::{copied, same_orders};
 use crate::signing::{Signing, copied_signing, same_signing};
+use contexts::taken_value;
 use label::Shape;
 use semantics::Entry;
 use std::alloc::{AllocError, Global};

@@ -5,8 +5,8 @@ use Rattle.semantics.proofs.PlacesLaws.{relays_few}
 use Rattle.label.specs.Relay.{relay}
 use Rattle.semantics.specs.Relay.{oral}
 use Rattle.round.specs.Contexts.{context_bytes}
-use Rattle.round.proofs.Contexts.{bytes_context}
-use Rattle.round.proofs.Spelling.{header_numbers}
+use Rattle.contexts.proofs.Bytes.{bytes_context}
+use Rattle.contexts.proofs.Spelling.{header_numbers}
 use Rattle.trial.specs.Setting.{context_in}
 use Rattle.trial.proofs.setting.Setting.context.Goals as goal
 

@@ -2,7 +2,7 @@ use Rattle.std.proofs.Common.{◌≡◌, ◌<◌, ◌≤◌, ◌+◌, ◌*◌, �
 use Rattle.std.specs.Vec.{vec_len, vec_capacity}
 use Rattle.word.specs.Bytes.{little_bytes}
 use Rattle.label.specs.Oral.{order_of}
-use Rattle.round.proofs.context.fill.Given as goal
+use Rattle.contexts.proofs.writing.fill.Given as goal
 
 abbrev pub invariant-loop-value : goal.invariant-loop-value
 invariant-loop-value l = record {

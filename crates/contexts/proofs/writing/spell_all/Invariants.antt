@@ -1,7 +1,7 @@
 use Rattle.std.proofs.Common.{◌≡◌, ◌≤◌, ◌+◌, ◌*◌, ◌++◌, flat_map, take}
 use Rattle.std.specs.Vec.{vec_len, vec_capacity}
 use Rattle.word.specs.Bytes.{little_bytes}
-use Rattle.round.proofs.context.spell_all.Given as goal
+use Rattle.contexts.proofs.writing.spell_all.Given as goal
 
 abbrev pub invariant-loop-number : goal.invariant-loop-number
 invariant-loop-number l = record {

@@ -2,17 +2,17 @@
 ghost use Rattle.std.specs.Prelude.{◌≡◌, ◌<◌, ◌≤◌, ◌+◌, ◌*◌, ◌^◌, ◌++◌, All, length, map, flat_map, vec_len, vec_capacity, IfOk};
 ghost use Rattle.word.specs.Bytes.{little_bytes};
 ghost use Rattle.label.specs.Oral.{order_of};
-ghost use Rattle.round.specs.Contexts.{context_bytes, context_numbers};
+ghost use Rattle.contexts.specs.Layout.{context_bytes, context_numbers};
 
+use crate::layout::BYTES;
 use byteorder::{ByteOrder, LittleEndian};
 use label::Shape;
-use mem::Context;
 use std::alloc::{AllocError, Global};
 
 /// Writes the context of a relay in a campaign with this bound, in place of what the vector held, which has room for
 /// it: the values taken for its labels, in the order of their ranks, nothing as RETREAT. It takes no memory. Labels are
 /// 990 at most (13 generals in round 5: 11 * 10 * 9), and behind the eight numbers there is room for 1,016 values.
-pub(crate) fn write_context(bytes: &mut Vec<u8>, shape: Shape, bound: u8, values: &[Option<u32>])
+pub fn write_context(bytes: &mut Vec<u8>, shape: Shape, bound: u8, values: &[Option<u32>])
     requires room { 4096 ≤ vec_capacity bytes.old }
     requires rounds { shape.round ≤ shape.generals }
     requires few { length values.now ≤ 1000 }
@@ -32,7 +32,7 @@ pub(crate) fn write_context(bytes: &mut Vec<u8>, shape: Shape, bound: u8, values
     ];
     spell(bytes, &header);
     fill(bytes, values);
-    let Ok(()) = bytes.resize(Context::BYTES, 0) else {
+    let Ok(()) = bytes.resize(BYTES, 0) else {
         unreachable!()
     };
 }
@@ -100,10 +100,10 @@ pub fn context_telling(
     requires few { length numbers.now ≤ 1000 }
     ensures { IfOk result (λ bytes. bytes.items ≡ context_bytes (header.now ++ numbers.now)) }
 {
-    let mut bytes = Vec::with_capacity(alloc, Context::BYTES)?;
+    let mut bytes = Vec::with_capacity(alloc, BYTES)?;
     spell(&mut bytes, header);
     spell_all(&mut bytes, numbers);
-    let Ok(()) = bytes.resize(Context::BYTES, 0) else {
+    let Ok(()) = bytes.resize(BYTES, 0) else {
         unreachable!()
     };
     Ok(bytes)

@@ -2,8 +2,8 @@ use Rattle.std.proofs.Common.{◌≡◌, ◌≤◌, ◌-◌, [], ◌∷◌, leng
 use Rattle.std.specs.Vec.{vec_len}
 use Rattle.std.proofs.lemmas.List.{length-map}
 use Rattle.label.specs.Oral.{order_of}
-use Rattle.round.proofs.Spelling.{header_numbers, context_done}
-use Rattle.round.proofs.context.write_context.Goals as goal
+use Rattle.contexts.proofs.Spelling.{header_numbers, context_done}
+use Rattle.contexts.proofs.writing.write_context.Goals as goal
 
 pub returns-clause-bytes : goal.returns-clause-bytes
 returns-clause-bytes c =
