@@ -1,6 +1,5 @@
 //! What is said of a fault of a scenario.
-ghost use Rattle.std.specs.Prelude.{◌≡◌, ◌≢◌, false, true, IfOk, codes, option_map, string_bytes};
-ghost use Rattle.scenario.specs.declared.place.Name.TheVariants as names;
+ghost use Rattle.std.specs.Prelude.{◌≡◌, false, true, IfOk, codes, option_map, string_bytes};
 ghost use Rattle.why.specs.Keys.{found_view, shown_at};
 ghost use Rattle.why.specs.Nearest.{near};
 ghost use Rattle.why.specs.Report.{help_words, mark_view, near_words};
@@ -59,41 +58,30 @@ fn missing_sentence(alloc: Global, name: Name) -> Result<String, AllocError>
 fn kind_sentence(alloc: Global, name: Name) -> Result<String, AllocError>
     ensures { IfOk result (λ text. string_bytes text ≡ kind_sentence name) }
 {
-    match name {
-        Name::Rule => format!(in alloc; "a rule is a text in quotation marks: {}", Rule::names()),
-        name => String::from_str(alloc, plain_kind(name)),
-    }
-}
-
-/// The same, but for a rule.
-fn plain_kind(name: Name) -> &'static str
-    ensures { name ≢ names.Rule → result.now ≡ kind_sentence name }
-{
-    match name {
+    let sentence = match name {
+        Name::Rule => {
+            let names = Rule::names();
+            return format!(in alloc; "a rule is a text in quotation marks: {names}");
+        }
         Name::Board => "a board is a list of whole numbers",
         Name::Messages => "messages are a text, \"oral\" or \"signed\"",
         Name::Traitor => "the traitors are a list of tables, each begun by `[[traitor]]`",
         Name::Asm => "a program is a text in quotation marks, as `asm = \"mov r0, 0\\nexit\"`",
         Name::Code => "bytecode is a text in quotation marks, of digits in hex",
         _ => "a whole number is wanted here",
-    }
+    };
+    String::from_str(alloc, sentence)
 }
 
 /// In which range it is to be.
 fn range_sentence(alloc: Global, name: Name) -> Result<String, AllocError>
     ensures { IfOk result (λ text. string_bytes text ≡ range_sentence name) }
 {
-    match name {
-        Name::Rule => format!(in alloc; "a rule is {}", Rule::names()),
-        name => String::from_str(alloc, plain_range(name)),
-    }
-}
-
-/// The same, but for a rule.
-fn plain_range(name: Name) -> &'static str
-    ensures { name ≢ names.Rule → result.now ≡ range_sentence name }
-{
-    match name {
+    let sentence = match name {
+        Name::Rule => {
+            let names = Rule::names();
+            return format!(in alloc; "a rule is {names}");
+        }
         Name::Generals => "there are 2 to 13 generals",
         Name::Bound => "a bound is 0 to 4, and at most generals - 2",
         Name::Commander => "a general is numbered from 0 on",
@@ -103,7 +91,8 @@ fn plain_range(name: Name) -> &'static str
         Name::Messages =>
             "messages are \"oral\" or \"signed\", and of all but `play` without `--table` and `audit` \"oral\"",
         _ => "this value is out of its range",
-    }
+    };
+    String::from_str(alloc, sentence)
 }
 
 /// What is wrong with a key or its value.
