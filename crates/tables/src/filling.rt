@@ -54,7 +54,8 @@ pub fn generals_in(generals: &str, bound: &str, commander: &str) -> Result<u8, T
 /// The numbers of a campaign, as they stand on the first line of a table.
 #[tactic(auto, unfolding(crate::specs::Numbers::numbers_in))]
 fn numbers(generals: &str, bound: &str, commander: &str) -> Result<(u8, u8, u8), TableError>
-    ensures told { IfOk result (λ n. numbers_in generals.now bound.now commander.now ≡ Some (n.0, n.1, n.2, default_rule)) }
+    ensures told { IfOk result
+        (λ n. numbers_in generals.now bound.now commander.now ≡ Some (n.0, n.1, n.2, default_rule)) }
     ensures within { IfOk result (λ n. AreNumbersWithin n.0 n.1 n.2) }
     ensures refused { IfErr result (λ e. (e ≢ Memory)
         × (opened (numbers_in generals.now bound.now commander.now) ≡ Err e)) }

@@ -47,7 +47,8 @@ fn are_receivers(word: &[u8]) -> bool
 }
 
 /// Whether a word is what a word of a shape stands for: `N` for a number, `P` for a number or a dash, `A` for yes or
-/// no, `B` for these or a dash, `S` for numbers joined by dots, `R` for these or a dash, `C` for a rule's word, any other for itself.
+/// no, `B` for these or a dash, `S` for numbers joined by dots, `R` for these or a dash, `C` for a rule's word, any
+/// other for itself.
 #[tactic(auto, unfolding(crate::specs::Shapes::stands_for))]
 fn stands_for(kind: &[u8], word: &[u8]) -> bool
     ensures { result ≡ stands_for kind.now word.now }

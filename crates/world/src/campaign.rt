@@ -262,7 +262,8 @@ pub fn wind_up<W: Plays>(world: &mut W) -> Result<(), AllocError>
 /// A round by a line of a schedule.
 fn listed_round<W: Plays>(world: &mut W, line: &[Repeat]) -> Result<(), AllocError>
     ensures { OnOk result (W.seen world.new
-        ≡ run_of W.kind (run_of W.kind (W.seen world.old) (line_events (W.seen world.old).scenario (entries_of line.now)))
+        ≡ run_of W.kind
+        (run_of W.kind (W.seen world.old) (line_events (W.seen world.old).scenario (entries_of line.now)))
         (wound_up (W.seen world.old).scenario)) }
 {
     play_line(world, line)?;
