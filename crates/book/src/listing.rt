@@ -1,8 +1,6 @@
 //! The lists that a lieutenant combines, label by label.
 ghost use Rattle.std.specs.Prelude.{◌≡◌, ◌≤◌, ◌+◌, ◌++◌, ◌∷◌, [], ℕ, List, true, length, IfOk, OnOk, None, string_bytes};
 ghost use Rattle.std.specs.Fmt.{decimal};
-ghost use Rattle.combine.specs.Chosen.{combined_by};
-ghost use Rattle.combine.specs.Outcome.{outcome_order, outcome_head};
 ghost use Rattle.book.specs.Grammar.{is_place};
 ghost use Rattle.book.specs.Explained.{dotted, held, list_lines, list_words, part_words};
 
