@@ -1,5 +1,5 @@
 -- The text of a chronicle, line by line (own).
-use Rattle.std.specs.Prelude.{ℕ, suc, ◌==◌, Bool, true, false, List, [], ◌∷◌, ◌++◌, map, flat_map, filter, decimal, codes, Option, None, Some}
+use Rattle.std.specs.Prelude.{ℕ, suc, ◌==◌, Bool, true, false, List, [], ◌∷◌, ◌++◌, map, flat_map, filter, decimal, codes, Option, None, Some, if◌then◌else◌}
 use Rattle.insn.specs.declared.insn.Insn.{Insn}
 use Rattle.combine.specs.declared.chosen.Rule.{Rule}
 use Rattle.combine.specs.Names.{is_default, rule_name}
