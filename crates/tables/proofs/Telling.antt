@@ -5,6 +5,7 @@ use Rattle.std.specs.Fmt.{decimal}
 use Rattle.combine.specs.declared.chosen.Rule.{Rule}
 use Rattle.combine.specs.Names.{is_default, rule_name}
 use Rattle.combine.proofs.NameLaws.{names_law}
+use Rattle.text.specs.Number.{decimal_of}
 use Rattle.text.specs.Options.{◌>>=◌}
 use Rattle.text.specs.Stop.{space, feed, is_stop}
 use Rattle.text.specs.Parts.{pieces}
@@ -87,10 +88,17 @@ rule_read rule = told_by (is_default rule) refl
 parts_read : (n m c : ℕ) (parts : List (List ℕ)) (rule : Rule) → rule_parts parts ≡ Some rule → head_parts (codes "generals" ∷ decimal n ∷ codes "bound" ∷ decimal m ∷ codes "commander" ∷ decimal c ∷ parts) ≡ Some (decimal n, decimal m, decimal c, rule)
 parts_read n m c parts rule e = ap (λ (o : Option Rule). o >>= λ told. Some (decimal n, decimal m, decimal c, told)) e
 
+-- the numbers of a first line's parts, as `head_of` takes them
+abbrev numbers_of : List ℕ × List ℕ × List ℕ × Rule → Option (ℕ × ℕ × ℕ × Rule)
+numbers_of parts = decimal_of parts.0 >>= λ n. decimal_of parts.1 >>= λ m. decimal_of parts.2 >>= λ c. Some (n, m, c, parts.3)
+
 -- what a first line that is written says
 pub head_read : (n m c : ℕ) (rule : Rule) → n < 2 ^ 64 → m < 2 ^ 64 → c < 2 ^ 64 → head_of (head n m c rule) ≡ Some (n, m, c, rule)
 unfolding head_of
-head_read n m c rule ln lm lc = rw (pieces_head n m c rule ln lm lc, parts_read n m c (rule_parts_of rule) rule (rule_read rule), decimal_of-decimal n ln, decimal_of-decimal m lm, decimal_of-decimal c lc) refl
+head_read n m c rule ln lm lc =
+    ap (λ (ps : List (List ℕ)). head_parts ps >>= numbers_of) (pieces_head n m c rule ln lm lc)
+    ∙ (ap (λ (o : Option (List ℕ × List ℕ × List ℕ × Rule)). o >>= numbers_of) (parts_read n m c (rule_parts_of rule) rule (rule_read rule))
+    ∙ rw (decimal_of-decimal n ln, decimal_of-decimal m lm, decimal_of-decimal c lc) refl)
 
 rule_lacks : (rule : Rule) → Lacks feed (rule_words rule)
 rule_lacks rule = lacks_by (is_default rule)
