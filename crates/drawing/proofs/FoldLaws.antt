@@ -27,7 +27,6 @@ use Rattle.drawing.specs.declared.node.Node.{Node}
 use Rattle.drawing.specs.declared.node.View.{View}
 use Rattle.drawing.specs.Facts.{below, extent_at, is_alike, is_honest, is_same, mark_at, node_at, outcome_at, tells}
 use Rattle.drawing.specs.Laws.{OutcomesAreExplained}
-use Rattle.drawing.specs.Words.{outcome_words}
 use Rattle.std.specs.Fmt.{decimal}
 use Rattle.drawing.specs.Folds.{FoldsAreAlike, IsLike, all_below, order_at}
 use Rattle.drawing.specs.Shown.{deeper, is_open, nodes_below, nodes_by, with_those}
@@ -77,9 +76,10 @@ listed t k w p =
 
 -- is told as it is explained
 pub explained : OutcomesAreExplained
-explained t k w p stop =
-    let outcome = outcome_of t.rule (list_of t k w p) in
-    ap (outcome_words stop) (listed t k w p) ∙ append_assoc stop (outcome_head outcome) (decimal (outcome_order outcome))
+explained = record {
+  lists = listed;
+  words = λ stop outcome. append_assoc stop (outcome_head outcome) (decimal (outcome_order outcome));
+}
 
 -- and is decided so
 at_decided : (t : MessageTable) (k : ℕ) (w : List ℕ) (p : ℕ) → order_at (outcome_at t k w p) (told t.messages w p) ≡ decided t k w p

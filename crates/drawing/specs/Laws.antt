@@ -1,5 +1,6 @@
 -- Laws of what is said and drawn. Each is the contract of a function of this crate.
-use Rattle.std.specs.Prelude.{ℕ, suc, ◌≡◌, List, ◌++◌, codes}
+use Rattle.std.specs.Prelude.{ℕ, suc, ◌≡◌, List, ◌++◌, codes, Some}
+use Rattle.combine.specs.declared.outcome.Outcome.{Outcome}
 use Rattle.combine.specs.Outcome.{outcome_of, outcome_words as list_words}
 use Rattle.markup.specs.Grammar.{IsElement}
 use Rattle.book.specs.Explained.{list_of}
@@ -10,9 +11,10 @@ use Rattle.drawing.specs.Svg.{svg_text}
 use Rattle.drawing.specs.Words.{outcome_words}
 
 -- what is said of a label from which others go on is what the explanation says of its list
-abbrev pub OutcomesAreExplained : Type 0
-OutcomesAreExplained = (t : MessageTable) (k : ℕ) (w : List ℕ) (p : ℕ) (stop : List ℕ) →
-    outcome_words stop (outcome_at t (suc k) w p) ≡ stop ++ list_words (outcome_of t.rule (list_of t k w p))
+pub record OutcomesAreExplained : Type 0 where
+  pub lists : (t : MessageTable) (k : ℕ) (w : List ℕ) (p : ℕ) →
+      outcome_at t (suc k) w p ≡ Some (outcome_of t.rule (list_of t k w p))
+  pub words : (stop : List ℕ) (outcome : Outcome) → outcome_words stop (Some outcome) ≡ stop ++ list_words outcome
 
 -- each picture is one element of XML, and a line feed
 abbrev pub PicturesAreElements : Type 0
