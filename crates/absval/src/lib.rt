@@ -2,15 +2,15 @@
 //! range.
 #![tactic(auto)]
 
+mod joins;
 mod number_set;
 mod operations;
 mod pointer;
 mod value;
-mod values;
 mod windows;
 
+pub use joins::{immediate, join, loaded};
 pub use number_set::NumberSet;
 pub use operations::{arithmetic, negate, sign_extend, swap};
 pub use value::{AbsVal, Offset, Offsets};
-pub use values::{immediate, join, loaded};
 pub use windows::{Window, window_of};

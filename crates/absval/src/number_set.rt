@@ -8,7 +8,7 @@ ghost use Rattle.absval.specs.Table.{in_a_row};
 
 use crate::pointer;
 use bits::{Bits, operate as bitwise};
-use range::{Range, edges, operate as ranges, unary, used};
+use range::{Range, edges, operate as ranges, unary, width as widths};
 use std::marker::Model;
 use word::{ByteOrder, Condition, Narrow, Operation, SwapSize, Width};
 
@@ -136,7 +136,7 @@ impl NumberSet {
         ensures holds { (x : ℕ) → Has self x → Has result (taken width x) }
     {
         settle(
-            used::used(width, self.range),
+            widths::used(width, self.range),
             bitwise::used(width, self.bits),
         )
     }

@@ -15,3 +15,4 @@ pub mod ConditionLemmas
 pub mod Places
 pub mod FormLemmas
 pub mod Naming
+pub mod RuleNames

@@ -7,7 +7,8 @@ use Rattle.combine.specs.Chosen.{combined_by}
 use Rattle.label.specs.Labels.{on, others}
 use Rattle.label.specs.Oral.{order_of, taken, om}
 use Rattle.book.specs.Table.{MessageTable, told}
-use Rattle.book.specs.Explained.{list_words, decided, element, held, part, outcome, list_line, list_lines}
+use Rattle.combine.specs.Outcome.{outcome_of, outcome_words}
+use Rattle.book.specs.Explained.{list_words, decided, element, held, part, list_line, list_lines}
 use Rattle.book.specs.Decisions.{decision_of}
 use Rattle.book.specs.Grammar.{is_place}
 use Rattle.book.specs.Laws.{IsMessage}
@@ -60,7 +61,7 @@ pub lines_all : (t : MessageTable) (r k : ℕ) (w : List ℕ) (p j : ℕ) (old n
     → lines ≡ old ++ flat_map (λ i. list_lines t k (w ++ i ∷ []) p) (others j (p ∷ w))
     → parts ≡ flat_map (part t k w p) (others j (p ∷ w))
     → orders ≡ map (element t k w p) (others j w)
-    → out ≡ outcome t.rule orders
+    → out ≡ outcome_words (outcome_of t.rule orders)
     → o ≡ told t.messages w p
     → new ≡ lines ++ list_words w o parts out
     → new ≡ old ++ list_lines t r w p

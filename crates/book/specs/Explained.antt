@@ -1,12 +1,10 @@
 -- How the lieutenants of a table come to their decisions, as it is told: the list that each combines at each label
 -- (TOPLAS 1982, algorithm OM(m)), what the list comes to, and whether the conditions IC1 and IC2 hold.
-use Rattle.std.specs.Prelude.{ℕ, zero, suc, ◌==◌, ◌&&◌, not, nat_lt, Bool, if◌then◌else◌, cond, List, [], ◌∷◌, ◌++◌, map, find, codes, Option, None, Some}
+use Rattle.std.specs.Prelude.{ℕ, zero, suc, ◌==◌, ◌&&◌, not, nat_lt, Bool, if◌then◌else◌, cond, List, [], ◌∷◌, ◌++◌, map, codes, Option, None, Some}
 use Rattle.std.specs.Fmt.{decimal}
 use Rattle.std.specs.List.{flat_map}
-use Rattle.combine.specs.declared.chosen.Rule.{Rule}
-use Rattle.combine.specs.declared.chosen.Rule.TheVariants.{Majority, Median}
 use Rattle.combine.specs.Chosen.{combined_by}
-use Rattle.combine.specs.Rule.{is_most, median}
+use Rattle.combine.specs.Outcome.{outcome_of, outcome_words}
 use Rattle.label.specs.Labels.{on, others}
 use Rattle.label.specs.Lieutenants.{lieutenants}
 use Rattle.label.specs.Oral.{taken, om}
@@ -53,16 +51,6 @@ part_words w order = codes ", " ++ dotted w ++ codes " " ++ order_words order
 abbrev pub part : MessageTable → ℕ → List ℕ → ℕ → ℕ → List ℕ
 part t k w p j = part_words (w ++ j ∷ []) (held t k (w ++ j ∷ []) p)
 
--- the order in more than half of the places, or that there is none
-abbrev pub majority_words : Option ℕ → List ℕ
-majority_words None = codes "no majority, so 0"
-majority_words (Some order) = codes "majority " ++ decimal order
-
--- what a list comes to
-abbrev pub outcome : Rule → List ℕ → List ℕ
-outcome Majority orders = majority_words (find (is_most orders) orders)
-outcome Median orders = codes "median " ++ decimal (median orders)
-
 -- the line of a label: what was told of it, the others' parts, and what the list comes to
 abbrev pub list_words : List ℕ → Option ℕ → List ℕ → List ℕ → List ℕ
 list_words w order parts outcome =
@@ -71,7 +59,7 @@ list_words w order parts outcome =
 -- that of p
 abbrev pub list_line : MessageTable → ℕ → List ℕ → ℕ → List ℕ
 list_line t k w p = list_words w (told t.messages w p) (flat_map (part t k w p) (others t.generals (p ∷ w)))
-    (outcome t.rule (list_of t k w p))
+    (outcome_words (outcome_of t.rule (list_of t k w p)))
 
 -- the lines of a label and of those that go on from it, with k relays left: each below those that it is combined from
 unfoldable pub list_lines : MessageTable → ℕ → List ℕ → ℕ → List ℕ

@@ -2,7 +2,7 @@
 use Rattle.std.specs.Prelude.{ℕ, suc, ◌+◌, ◌^◌, ◌&&◌, not, nat_lt, nat_le, Bool, if◌then◌else◌, List, [], ◌∷◌, ◌++◌, length, bytes_eq, codes, Option, Some, None, Result, Ok, Err}
 use Rattle.std.specs.List.{list_all, list_any}
 use Rattle.combine.specs.declared.chosen.Rule.{Rule}
-use Rattle.combine.specs.declared.chosen.Rule.TheVariants.{Majority, Median}
+use Rattle.combine.specs.Names.{default_rule, rule_named}
 use Rattle.text.specs.Options.{◌>>=◌}
 use Rattle.text.specs.Stop.{space, dot}
 use Rattle.text.specs.Parts.{pieces, lines_of}
@@ -16,14 +16,9 @@ use Rattle.book.specs.declared.fault.TableError.{TableError}
 use Rattle.book.specs.declared.fault.TableError.TheVariants.{At}
 use Rattle.book.specs.Table.{MessageTable, is_about}
 
--- the rule of a name
-abbrev pub rule_named : List ℕ → Option Rule
-rule_named name = if bytes_eq name (codes "majority") then Some Majority
-    else (if bytes_eq name (codes "median") then Some Median else None)
-
--- the rule that a first line ends in, the majority where it names none
+-- the rule that a first line ends in, or what is so where it names none
 abbrev pub rule_parts : List (List ℕ) → Option Rule
-rule_parts [] = Some Majority
+rule_parts [] = Some default_rule
 rule_parts (word ∷ name ∷ []) = if bytes_eq word (codes "rule") then rule_named name else None
 rule_parts _ = None
 

@@ -1,14 +1,11 @@
 //! The lists that a lieutenant combines, label by label.
 ghost use Rattle.std.specs.Prelude.{◌≡◌, ◌≤◌, ◌+◌, ◌++◌, ◌∷◌, [], ℕ, List, true, length, IfOk, OnOk, None, string_bytes};
 ghost use Rattle.std.specs.Fmt.{decimal};
-ghost use Rattle.combine.specs.Chosen.{combined_by};
-ghost use Rattle.combine.specs.Rule.{is_most};
 ghost use Rattle.book.specs.Grammar.{is_place};
-ghost use Rattle.book.specs.Explained.{dotted, held, list_lines, list_words, outcome, part_words};
+ghost use Rattle.book.specs.Explained.{dotted, held, list_lines, list_words, part_words};
 
 use crate::heard::Heard;
 use arrayvec::ArrayVec;
-use combine::{Combine, Rule};
 use label::Label;
 use std::alloc::{AllocError, Global};
 
@@ -51,31 +48,6 @@ fn behind(alloc: Global, label: &Label, front: &str, last: u8) -> Result<String,
     let mut text = String::with_capacity(alloc, ROOM_AHEAD)?;
     write!(text, "{front}{last}.")?;
     Ok(text)
-}
-
-/// Whether the order stands in more than half of the places.
-fn is_most(orders: &[u32], order: u32) -> bool
-    ensures { result ≡ is_most orders.now order }
-{
-    let count = orders.iter().filter(|x| **x == order).count();
-    count > orders.len() - count
-}
-
-/// What a list comes to, but for the order that it does.
-fn outcome_words(rule: Rule, orders: &[u32], order: u32) -> &'static str
-    requires { order ≡ combined_by rule orders.now }
-    ensures { result.now ++ decimal order ≡ outcome rule orders.now }
-{
-    match rule {
-        Rule::Median => "median ",
-        Rule::Majority => {
-            if is_most(orders, order) {
-                "majority "
-            } else {
-                "no majority, so "
-            }
-        }
-    }
 }
 
 /// Adds what a general adds to a list: the label with him, which is written so before his number, and what is held of
@@ -178,9 +150,9 @@ pub(crate) fn push_lists<H: Heard>(
             orders.push(held.unwrap_or(0));
         }
     }
-    let rule = table.rule();
-    let order = rule.combine(orders.as_slice());
-    let words = outcome_words(rule, orders.as_slice(), order);
+    let outcome = table.rule().outcome(orders.as_slice());
+    let order = outcome.order();
+    let words = outcome.head();
     push_list(lines, front, last, told, parts.as_str(), words, order)?;
     Ok(Some(order))
 }

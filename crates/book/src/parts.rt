@@ -2,7 +2,7 @@
 ghost use Rattle.std.specs.Prelude.{◌≡◌, ◌≤◌, ◌<◌, ◌^◌, IfSome, option_map, is_some};
 ghost use Rattle.text.specs.Stop.{space, dot};
 ghost use Rattle.text.specs.Parts.{pieces, left};
-ghost use Rattle.book.specs.Grammar.{head_parts, head_of, rule_named, rule_parts, tell_parts, numbers_of, order_in};
+ghost use Rattle.book.specs.Grammar.{head_parts, head_of, rule_parts, tell_parts, numbers_of, order_in};
 ghost use Rattle.book.specs.Reading.{shape_of};
 
 use combine::Rule;
@@ -55,13 +55,13 @@ fn cut_head(line: &[u8]) -> Option<(&[u8], &[u8], &[u8], Rule)>
     }
 }
 
-/// The rule of ` rule NAME`, the majority where nothing is left of the line.
+/// The rule of ` rule NAME`, that of a table that names none where nothing is left of the line.
 #[tactic(auto, using(crate::proofs::PartLemmas::rule_too_long))]
 fn rule(rest: Option<&[u8]>) -> Option<Rule>
     ensures { result ≡ rule_parts (left space rest.entry) }
 {
     let Some(rest) = rest else {
-        return Some(Rule::Majority);
+        return Some(Rule::DEFAULT);
     };
     let (word, Some(rest)) = piece(SPACE, rest) else {
         return None;
@@ -70,20 +70,7 @@ fn rule(rest: Option<&[u8]>) -> Option<Rule>
         return None;
     };
     if word == b"rule".as_slice() {
-        rule_named(name)
-    } else {
-        None
-    }
-}
-
-/// The rule of a name.
-fn rule_named(name: &[u8]) -> Option<Rule>
-    ensures { result ≡ rule_named name.now }
-{
-    if name == b"majority".as_slice() {
-        Some(Rule::Majority)
-    } else if name == b"median".as_slice() {
-        Some(Rule::Median)
+        Rule::named(name)
     } else {
         None
     }

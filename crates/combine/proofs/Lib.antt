@@ -1,3 +1,5 @@
 pub mod SortedMiddle
 pub mod Voting
 pub mod Joining
+pub mod Found
+pub mod NameLaws

@@ -1,4 +1,6 @@
 //! Laws of the rules: each function does nothing, and its contract is the law.
+ghost use Rattle.combine.specs.Names.{NamesAreWords};
+ghost use Rattle.combine.specs.Outcome.{OutcomesCombine};
 ghost use Rattle.combine.specs.Rule.{MedianIsMiddle, NoMajorityIsRetreat};
 
 /// Where no order stands in more than half of the places, the majority is RETREAT, which is 0: a tie
@@ -11,4 +13,14 @@ pub fn no_majority_is_retreat()
 /// down, of the sorted list.
 pub fn median_is_middle()
     ensures { MedianIsMiddle }
+{}
+
+/// The word of a rule is small letters, and names that rule; one is the rule where none is named.
+pub fn names_are_words()
+    ensures { NamesAreWords }
+{}
+
+/// What a list comes to by a rule has the order that the rule combines it to.
+pub fn outcomes_combine()
+    ensures { OutcomesCombine }
 {}

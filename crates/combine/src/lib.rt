@@ -5,11 +5,13 @@ mod chosen;
 mod laws;
 mod majority;
 mod median;
+mod outcome;
 mod rule;
 mod told;
 
 pub use chosen::Rule;
-pub use laws::{median_is_middle, no_majority_is_retreat};
+pub use laws::{median_is_middle, names_are_words, no_majority_is_retreat, outcomes_combine};
 pub use majority::Majority;
 pub use median::Median;
+pub use outcome::Outcome;
 pub use rule::Combine;

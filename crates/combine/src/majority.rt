@@ -60,7 +60,7 @@ fn candidate(orders: &[u32]) -> u32
 }
 
 /// Whether the order stands in more than half of the places.
-fn is_in_most(orders: &[u32], order: u32) -> bool
+pub(crate) fn is_in_most(orders: &[u32], order: u32) -> bool
     ensures { result ≡ is_most orders.now order }
 {
     let count = count(orders, order);

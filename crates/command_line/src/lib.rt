@@ -1,9 +1,9 @@
 //! The command line: which subcommand the words name, and its files.
 #![tactic(auto)]
 
+mod command;
 mod errors;
 mod generals;
-mod lab;
 mod met;
 mod reading;
 mod several;

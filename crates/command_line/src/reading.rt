@@ -4,8 +4,8 @@ ghost use Rattle.command_line.specs.Asked.{asked, spelt, words_of};
 ghost use Rattle.command_line.specs.Lab.{lab_app};
 ghost use Rattle.command_line.specs.Told.{Asks, IfMisuse, IfRefused, IfWords, IsMisused};
 
+use crate::command::lab_command;
 use crate::errors::TaskError;
-use crate::lab::lab_command;
 use crate::met::Met;
 use crate::tasks::Request;
 use clap::error::ErrorKind;

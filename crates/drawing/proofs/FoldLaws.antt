@@ -1,6 +1,6 @@
 -- What a fold leaves out.
-use Rattle.std.proofs.Common.{ℕ, zero, suc, ◌+◌, ◌-◌, ◌*◌, ◌<◌, ◌≤◌, ◌≡◌, Bool, true, false, not, cond, ◌&&◌, List, [], ◌∷◌, ◌++◌, map, length, length-append, inl, inr, refl, sym, ap, ◌∙◌, arith}
-use Rattle.std.specs.Prelude.{◌==◌, None, Option, Some, count_by, find, if◌then◌else◌, sum_by, unwrap_or}
+use Rattle.std.proofs.Common.{ℕ, zero, suc, ◌+◌, ◌-◌, ◌*◌, ◌<◌, ◌≤◌, ◌≡◌, Bool, true, false, not, cond, ◌&&◌, List, [], ◌∷◌, ◌++◌, map, length, length-append, append_assoc, inl, inr, refl, sym, ap, ◌∙◌, arith}
+use Rattle.std.specs.Prelude.{◌==◌, None, Option, Some, count_by, if◌then◌else◌, sum_by}
 use Rattle.std.specs.List.{AllByRecursion, list_all}
 use Rattle.std.proofs.lemmas.Bool.{and_from, and_parts, cases_Bool, cond-false, cond-true, eqb-true, ne_eqb, or_cases, or_parts, eq-eqb, or_left, or_right, true≢false}
 use Rattle.std.proofs.lemmas.List.{length-map}
@@ -9,9 +9,9 @@ use Rattle.std.proofs.lemmas.List.Elements.{All-from_recursion}
 use Rattle.std.proofs.lemmas.List.Sums.{sum_by-cons}
 use Rattle.std.proofs.Math.Nat.{suc-mul}
 use Rattle.combine.specs.declared.chosen.Rule.{Rule}
-use Rattle.combine.specs.declared.chosen.Rule.TheVariants.{Majority, Median}
 use Rattle.combine.specs.Chosen.{chosen_is_rule, combined_by}
-use Rattle.combine.specs.Rule.{is_most, majority}
+use Rattle.combine.specs.Outcome.{outcome_head, outcome_of, outcome_order}
+use Rattle.combine.proofs.Found.{outcomes_law}
 use Rattle.label.specs.Labels.{is_distinct, on, others}
 use Rattle.label.specs.Oral.{AllBelow, om, order_of, taken}
 use Rattle.label.proofs.Counting.{distinct-push, majority_counts, on-push, others-length, others-on}
@@ -24,9 +24,10 @@ use Rattle.drawing.specs.declared.node.Extent.TheVariants.{Cut, Folded, Last, Op
 use Rattle.drawing.specs.declared.node.Mark.{Mark}
 use Rattle.drawing.specs.declared.node.Mark.TheVariants.{Honest, Lie, Traitor}
 use Rattle.drawing.specs.declared.node.Node.{Node}
-use Rattle.drawing.specs.declared.node.Outcome.TheVariants.{Told}
 use Rattle.drawing.specs.declared.node.View.{View}
-use Rattle.drawing.specs.Facts.{agreed, below, extent_at, is_alike, is_honest, is_same, mark_at, node_at, outcome_at, outcome_of, tells}
+use Rattle.drawing.specs.Facts.{below, extent_at, is_alike, is_honest, is_same, mark_at, node_at, outcome_at, tells}
+use Rattle.drawing.specs.Laws.{OutcomesAreExplained}
+use Rattle.std.specs.Fmt.{decimal}
 use Rattle.drawing.specs.Folds.{FoldsAreAlike, IsLike, all_below, order_at}
 use Rattle.drawing.specs.Shown.{deeper, is_open, nodes_below, nodes_by, with_those}
 use Rattle.drawing.proofs.PlaceLemmas.{place_parts}
@@ -65,24 +66,26 @@ next t traitors k w p j alike there =
 
 -- ---- what a label comes to
 
-by_rule : (rule : Rule) (orders : List ℕ) (o : Option ℕ) → order_at (outcome_of rule orders) o ≡ combined_by rule orders
-unfolding majority
-by_rule Majority orders o = found_or (find (is_most orders) orders) o
-  where
-    found_or : (found : Option ℕ) (o : Option ℕ) → order_at (agreed found) o ≡ unwrap_or found 0
-    found_or None o = refl
-    found_or (Some order) o = refl
-by_rule Median orders o = refl
+-- the list of a label from which others go on
+listed : (t : MessageTable) (k : ℕ) (w : List ℕ) (p : ℕ) → outcome_at t (suc k) w p ≡ Some (outcome_of t.rule (list_of t k w p))
+listed t k w p =
+    let some : (suc k == 0) ≡ false = ne_eqb (suc k) 0 (λ e. absurd (omega arith)) in
+    let one : suc k - 1 ≡ k = omega arith in
+    ap (λ b. if b then None else Some (outcome_of t.rule (list_of t (suc k - 1) w p))) some
+    ∙ ap (λ (i : ℕ). Some (outcome_of t.rule (list_of t i w p))) one
 
--- as it is decided
+-- is told as it is explained
+pub explained : OutcomesAreExplained
+explained = record {
+  lists = listed;
+  words = λ stop outcome. append_assoc stop (outcome_head outcome) (decimal (outcome_order outcome));
+}
+
+-- and is decided so
 at_decided : (t : MessageTable) (k : ℕ) (w : List ℕ) (p : ℕ) → order_at (outcome_at t k w p) (told t.messages w p) ≡ decided t k w p
 unfolding om
 at_decided t zero w p = refl
-at_decided t (suc k) w p =
-    let some : (suc k == 0) ≡ false = ne_eqb (suc k) 0 (λ e. absurd (omega arith)) in
-    let one : suc k - 1 ≡ k = omega arith in
-    ap (λ b. order_at (if b then Told else outcome_of t.rule (list_of t (suc k - 1) w p)) (told t.messages w p)) some
-    ∙ (ap (λ (i : ℕ). order_at (outcome_of t.rule (list_of t i w p)) (told t.messages w p)) one ∙ by_rule t.rule (list_of t k w p) (told t.messages w p))
+at_decided t (suc k) w p = ap (λ o. order_at o (told t.messages w p)) (listed t k w p) ∙ outcomes_law t.rule (list_of t k w p)
 
 none_so : (xs : List ℕ) → count_by (λ (x : ℕ). false) xs ≡ 0
 none_so [] = refl

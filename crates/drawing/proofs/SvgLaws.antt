@@ -16,8 +16,9 @@ use Rattle.drawing.specs.declared.node.Mark.{Mark}
 use Rattle.drawing.specs.declared.node.Mark.TheVariants.{Honest, Traitor, Lie}
 use Rattle.drawing.specs.declared.node.Marks.{Marks}
 use Rattle.drawing.specs.declared.node.Node.{Node}
-use Rattle.drawing.specs.declared.node.Outcome.{Outcome}
-use Rattle.drawing.specs.declared.node.Outcome.TheVariants.{Told, Agreed, Divided, Middle}
+use Rattle.combine.specs.declared.outcome.Outcome.{Outcome}
+use Rattle.combine.specs.declared.outcome.Outcome.TheVariants.{Agreed, Divided, Middle}
+use Rattle.combine.specs.Outcome.{outcome_head, outcome_order}
 use Rattle.drawing.specs.Laws.{PicturesAreElements}
 use Rattle.drawing.specs.Legend.{legend, marks_of, meaning, meaning_if, meaning_words, meanings, one_if, rule, rule_at}
 use Rattle.drawing.specs.Places.{branch_at}
@@ -45,11 +46,14 @@ stop = codes "; "
 stop_text : IsText stop
 stop_text = bare_text stop refl
 
-outcome_text : (o : Outcome) → IsText (outcome_words stop o)
-outcome_text Told = no_text
-outcome_text (Agreed order) = many _ _ (bare_text (stop ++ codes "majority ") refl) (decimal_text order)
-outcome_text Divided = bare_text (stop ++ codes "no majority, so 0") refl
-outcome_text (Middle order) = many _ _ (bare_text (stop ++ codes "median ") refl) (decimal_text order)
+head_text : (o : Outcome) → IsText (outcome_head o)
+head_text (Agreed order) = bare_text (codes "majority ") refl
+head_text (Divided order) = bare_text (codes "no majority, so ") refl
+head_text (Middle order) = bare_text (codes "median ") refl
+
+outcome_text : (o : Option Outcome) → IsText (outcome_words stop o)
+outcome_text None = no_text
+outcome_text (Some o) = many (stop ++ outcome_head o) (decimal (outcome_order o)) (many stop (outcome_head o) stop_text (head_text o)) (decimal_text (outcome_order o))
 
 mark_text : (m : Mark) → IsText (mark_words stop m)
 mark_text Honest = no_text
@@ -68,12 +72,10 @@ extent_text (Cut count) = many (stop ++ decimal count) (codes " below not shown"
 told_text : (o : Option ℕ) → IsText (told_words o)
 told_text o = many (codes "told ") (order_words o) (bare_text (codes "told ") refl) (order_text o)
 
-counted_text : (o : Outcome) (told : Option ℕ) → IsText (counted_words o told)
-counted_text Told None = bare_text (codes ", so 0") refl
-counted_text Told (Some order) = no_text
-counted_text (Agreed order) told = no_text
-counted_text Divided told = no_text
-counted_text (Middle order) told = no_text
+counted_text : (o : Option Outcome) (told : Option ℕ) → IsText (counted_words o told)
+counted_text None None = bare_text (codes ", so 0") refl
+counted_text None (Some order) = no_text
+counted_text (Some o) told = no_text
 
 words_text : (node : Node) → IsText (words stop node)
 words_text node =
@@ -114,11 +116,11 @@ kind_text Honest = bare_text (codes "told") refl
 kind_text Traitor = bare_text (codes "word") refl
 kind_text (Lie general took) = bare_text (codes "lie") refl
 
-class_text : (o : Outcome) → IsText (outcome_class o)
-class_text Told = no_text
-class_text (Agreed order) = no_text
-class_text Divided = bare_text (codes " split") refl
-class_text (Middle order) = no_text
+class_text : (o : Option Outcome) → IsText (outcome_class o)
+class_text None = no_text
+class_text (Some (Agreed order)) = no_text
+class_text (Some (Divided order)) = bare_text (codes " split") refl
+class_text (Some (Middle order)) = no_text
 
 outline_text : (m : Mark) → IsText (outline m)
 outline_text Honest = bare_text (codes " 6a6 6 0 0 1 0 12a6 6 0 0 1 0-12z") refl
@@ -233,13 +235,13 @@ shape_content class way c w = alone (codes "path") (attribute (codes "class") cl
 words_content : (y words : List ℕ) → IsText y → IsText words → IsContent (words_at y words)
 words_content y words t u = nested (codes "text") (attribute (codes "x") (codes "14") ++ (attribute (codes "y") y ++ [])) words (text_tag (codes "14") y (bare_text (codes "14") refl) t) (text words u)
 
-abbrev row_of : ℕ → Mark → Outcome → List ℕ → List ℕ
+abbrev row_of : ℕ → Mark → Option Outcome → List ℕ → List ℕ
 row_of place mark outcome words = group_of (place_of place) (shape_of (kind mark ++ outcome_class outcome) (codes "M" ++ (decimal 0 ++ outline mark)) ++ words_at (codes "17") words)
 
 meaning_parts : (first shapes saying end feed : List ℕ) → first ++ shapes ++ saying ++ (end ++ feed) ≡ (first ++ ((shapes ++ saying) ++ end)) ++ feed
 meaning_parts first shapes saying end feed = simp append_assoc
 
-meaning_whole : (place : ℕ) (mark : Mark) (outcome : Outcome) (words : List ℕ) → meaning place mark outcome words ≡ row_of place mark outcome words ++ codes "\n"
+meaning_whole : (place : ℕ) (mark : Mark) (outcome : Option Outcome) (words : List ℕ) → meaning place mark outcome words ≡ row_of place mark outcome words ++ codes "\n"
 unfolding row_start shape meaning_words row_end
 meaning_whole place mark outcome words =
     let shapes : List ℕ = shape 0 mark outcome in
@@ -254,7 +256,7 @@ place_text : (place : ℕ) → IsText (place_of place)
 place_text place =
     many (codes "translate(16 ") (decimal (36 + 24 * place) ++ codes ")") (bare_text (codes "translate(16 ") refl) (many (decimal (36 + 24 * place)) (codes ")") (decimal_text (36 + 24 * place)) (bare_text (codes ")") refl))
 
-meaning_content : (place : ℕ) (mark : Mark) (outcome : Outcome) (words : List ℕ) → IsText words → IsContent (meaning place mark outcome words)
+meaning_content : (place : ℕ) (mark : Mark) (outcome : Option Outcome) (words : List ℕ) → IsText words → IsContent (meaning place mark outcome words)
 meaning_content place mark outcome words t =
     let class : List ℕ = kind mark ++ outcome_class outcome in
     let way : List ℕ = codes "M" ++ (decimal 0 ++ outline mark) in
@@ -266,7 +268,7 @@ meaning_content place mark outcome words t =
     (nested (codes "g") (attribute (codes "transform") (place_of place) ++ []) (shape_of class way ++ words_at (codes "17") words) (group_tag (place_of place) (place_text place)) inside)
     (text (codes "\n") (bare_text (codes "\n") refl)))
 
-meaning_if_content : (stands : Bool) (place : ℕ) (mark : Mark) (outcome : Outcome) (words : List ℕ) → IsText words → IsContent (meaning_if stands place mark outcome words)
+meaning_if_content : (stands : Bool) (place : ℕ) (mark : Mark) (outcome : Option Outcome) (words : List ℕ) → IsText words → IsContent (meaning_if stands place mark outcome words)
 meaning_if_content true place mark outcome words t = meaning_content place mark outcome words t
 meaning_if_content false place mark outcome words t = text [] no_text
 
@@ -274,15 +276,15 @@ meanings_content : (marks : Marks) (place : ℕ) → IsContent (meanings marks p
 meanings_content marks place =
     let second : ℕ = place + one_if marks.circle in
     let third : ℕ = second + one_if marks.square in
-    let one : List ℕ = meaning_if marks.circle place Honest Told (codes "no lie is known") in
-    let two : List ℕ = meaning_if marks.square second Traitor Told (codes "a named commander, his word") in
-    let three : List ℕ = meaning_if marks.diamond third (Lie 0 0) Told (codes "a lie of a named traitor") in
-    joined (one ++ two ++ three) (meaning_if marks.dashes (third + one_if marks.diamond) Honest Divided (codes "no order has a majority"))
+    let one : List ℕ = meaning_if marks.circle place Honest None (codes "no lie is known") in
+    let two : List ℕ = meaning_if marks.square second Traitor None (codes "a named commander, his word") in
+    let three : List ℕ = meaning_if marks.diamond third (Lie 0 0) None (codes "a lie of a named traitor") in
+    joined (one ++ two ++ three) (meaning_if marks.dashes (third + one_if marks.diamond) Honest (Some (Divided 0)) (codes "no order has a majority"))
     (joined (one ++ two) three
-    (joined one two (meaning_if_content marks.circle place Honest Told (codes "no lie is known") (bare_text _ refl))
-    (meaning_if_content marks.square second Traitor Told (codes "a named commander, his word") (bare_text _ refl)))
-    (meaning_if_content marks.diamond third (Lie 0 0) Told (codes "a lie of a named traitor") (bare_text _ refl)))
-    (meaning_if_content marks.dashes (third + one_if marks.diamond) Honest Divided (codes "no order has a majority") (bare_text _ refl))
+    (joined one two (meaning_if_content marks.circle place Honest None (codes "no lie is known") (bare_text _ refl))
+    (meaning_if_content marks.square second Traitor None (codes "a named commander, his word") (bare_text _ refl)))
+    (meaning_if_content marks.diamond third (Lie 0 0) None (codes "a lie of a named traitor") (bare_text _ refl)))
+    (meaning_if_content marks.dashes (third + one_if marks.diamond) Honest (Some (Divided 0)) (codes "no order has a majority") (bare_text _ refl))
 
 legend_whole : (number content : List ℕ) → (codes "<g transform=\"translate(16 " ++ (number ++ codes ")\">")) ++ content ++ (codes "</g>" ++ codes "\n") ≡ group_of (codes "translate(16 " ++ (number ++ codes ")")) content ++ codes "\n"
 legend_whole number content = simp append_assoc

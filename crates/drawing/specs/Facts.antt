@@ -1,16 +1,13 @@
 -- What a message table says of a label w to lieutenant p, with k relays left.
-use Rattle.std.specs.Prelude.{ℕ, zero, suc, ◌+◌, ◌-◌, ◌*◌, ◌==◌, Bool, true, false, not, ◌&&◌, if◌then◌else◌, List, [], ◌∷◌, ◌++◌, length, find, is_none, Option, None, Some}
+use Rattle.std.specs.Prelude.{ℕ, zero, suc, ◌+◌, ◌-◌, ◌*◌, ◌==◌, Bool, true, false, not, ◌&&◌, if◌then◌else◌, List, [], ◌∷◌, ◌++◌, length, is_none, Option, None, Some}
 use Rattle.std.specs.List.{list_all}
-use Rattle.combine.specs.declared.chosen.Rule.{Rule}
-use Rattle.combine.specs.declared.chosen.Rule.TheVariants.{Majority, Median}
-use Rattle.combine.specs.Rule.{is_most, median}
+use Rattle.combine.specs.declared.outcome.Outcome.{Outcome}
+use Rattle.combine.specs.Outcome.{outcome_of}
 use Rattle.label.specs.Labels.{on, others}
 use Rattle.label.specs.Oral.{taken}
 use Rattle.book.specs.Conditions.{is_told}
 use Rattle.book.specs.Explained.{list_of}
 use Rattle.book.specs.Table.{MessageTable, told}
-use Rattle.drawing.specs.declared.node.Outcome.{Outcome}
-use Rattle.drawing.specs.declared.node.Outcome.TheVariants.{Told, Agreed, Divided, Middle}
 use Rattle.drawing.specs.declared.node.Mark.{Mark}
 use Rattle.drawing.specs.declared.node.Mark.TheVariants.{Honest, Lie}
 use Rattle.drawing.specs.declared.node.Extent.{Extent}
@@ -18,19 +15,9 @@ use Rattle.drawing.specs.declared.node.Extent.TheVariants.{Last, Open, Folded, C
 use Rattle.drawing.specs.declared.node.View.{View}
 use Rattle.drawing.specs.declared.node.Node.{Node}
 
--- the order in more than half of the places, or that there is none
-abbrev pub agreed : Option ℕ → Outcome
-agreed None = Divided
-agreed (Some order) = Agreed order
-
--- what a list comes to
-abbrev pub outcome_of : Rule → List ℕ → Outcome
-outcome_of Majority orders = agreed (find (is_most orders) orders)
-outcome_of Median orders = Middle (median orders)
-
 -- what the list of a label comes to, if there is one
-abbrev pub outcome_at : MessageTable → ℕ → List ℕ → ℕ → Outcome
-outcome_at t k w p = if k == 0 then Told else outcome_of t.rule (list_of t (k - 1) w p)
+abbrev pub outcome_at : MessageTable → ℕ → List ℕ → ℕ → Option Outcome
+outcome_at t k w p = if k == 0 then None else Some (outcome_of t.rule (list_of t (k - 1) w p))
 
 -- whether j lies, who tells p of w: he is named, and does not tell what he took
 abbrev pub mark_at : MessageTable → List ℕ → List ℕ → ℕ → ℕ → Mark

@@ -1,23 +1,21 @@
 -- What a fold leaves out of a lieutenant's tree.
-use Rattle.std.specs.Prelude.{ℕ, ◌≡◌, true, false, All, List, length, Option, None}
+use Rattle.std.specs.Prelude.{ℕ, ◌≡◌, true, false, All, List, length, Option, None, Some}
 use Rattle.label.specs.Oral.{order_of}
 use Rattle.book.specs.Grammar.{is_place}
 use Rattle.book.specs.Table.{MessageTable, told}
 use Rattle.drawing.specs.declared.node.Extent.TheVariants.{Folded}
 use Rattle.drawing.specs.declared.node.Mark.TheVariants.{Honest}
 use Rattle.drawing.specs.declared.node.Node.{Node}
-use Rattle.drawing.specs.declared.node.Outcome.{Outcome}
-use Rattle.drawing.specs.declared.node.Outcome.TheVariants.{Told, Agreed, Divided, Middle}
+use Rattle.combine.specs.declared.outcome.Outcome.{Outcome}
+use Rattle.combine.specs.Outcome.{outcome_order}
 use Rattle.drawing.specs.declared.node.View.{View}
 use Rattle.drawing.specs.Facts.{extent_at, outcome_at}
 use Rattle.drawing.specs.Shown.{nodes_below}
 
 -- the order that a label comes to: what he was told, where it has no list, and else what its list comes to
-abbrev pub order_at : Outcome → Option ℕ → ℕ
-order_at Told told = order_of told
-order_at (Agreed order) told = order
-order_at Divided told = 0
-order_at (Middle order) told = order
+abbrev pub order_at : Option Outcome → Option ℕ → ℕ
+order_at None told = order_of told
+order_at (Some outcome) told = outcome_order outcome
 
 -- all labels that go on from w with k relays left, as they are shown where nothing is left out
 abbrev pub all_below : MessageTable → List ℕ → ℕ → List ℕ → ℕ → List Node

@@ -1,12 +1,12 @@
 -- The tree of a lieutenant as a graph, in the language of Graphviz.
-use Rattle.std.specs.Prelude.{ℕ, ◌-◌, nat_lt, if◌then◌else◌, List, [], ◌++◌, take, length, codes}
+use Rattle.std.specs.Prelude.{ℕ, ◌-◌, nat_lt, if◌then◌else◌, List, [], ◌++◌, take, length, codes, Option, Some}
 use Rattle.std.specs.Fmt.{decimal}
 use Rattle.std.specs.List.{flat_map}
 use Rattle.book.specs.Decisions.{decision_of}
 use Rattle.book.specs.Explained.{dotted}
 use Rattle.book.specs.Table.{MessageTable}
-use Rattle.drawing.specs.declared.node.Outcome.{Outcome}
-use Rattle.drawing.specs.declared.node.Outcome.TheVariants.{Divided}
+use Rattle.combine.specs.declared.outcome.Outcome.{Outcome}
+use Rattle.combine.specs.declared.outcome.Outcome.TheVariants.{Divided}
 use Rattle.drawing.specs.declared.node.Mark.{Mark}
 use Rattle.drawing.specs.declared.node.Mark.TheVariants.{Honest, Traitor, Lie}
 use Rattle.drawing.specs.declared.node.Extent.{Extent}
@@ -21,8 +21,8 @@ mark_style Honest = []
 mark_style Traitor = codes ", shape=octagon"
 mark_style (Lie general took) = codes ", shape=octagon, color=red, penwidth=2"
 
-abbrev pub outcome_style : Outcome → List ℕ
-outcome_style Divided = codes ", style=dashed"
+abbrev pub outcome_style : Option Outcome → List ℕ
+outcome_style (Some (Divided order)) = codes ", style=dashed"
 outcome_style _ = []
 
 abbrev pub extent_style : Extent → List ℕ

@@ -1,12 +1,12 @@
 -- What the marks of a picture mean: below its rows a row for each mark that stands in it, and for no other.
-use Rattle.std.specs.Prelude.{ℕ, ◌+◌, Bool, true, false, if◌then◌else◌, List, [], ◌++◌, length, codes}
+use Rattle.std.specs.Prelude.{ℕ, ◌+◌, Bool, true, false, if◌then◌else◌, List, [], ◌++◌, length, codes, Option, None, Some}
 use Rattle.std.specs.List.{list_any}
+use Rattle.combine.specs.declared.outcome.Outcome.{Outcome}
+use Rattle.combine.specs.declared.outcome.Outcome.TheVariants.{Divided}
 use Rattle.drawing.specs.declared.node.Mark.{Mark}
 use Rattle.drawing.specs.declared.node.Mark.TheVariants.{Honest, Traitor, Lie}
 use Rattle.drawing.specs.declared.node.Marks.{Marks}
 use Rattle.drawing.specs.declared.node.Node.{Node}
-use Rattle.drawing.specs.declared.node.Outcome.{Outcome}
-use Rattle.drawing.specs.declared.node.Outcome.TheVariants.{Told, Divided}
 use Rattle.drawing.specs.Facts.{is_honest}
 use Rattle.drawing.specs.Rows.{row_end, row_start, shape}
 
@@ -18,8 +18,8 @@ abbrev pub is_lie : Mark → Bool
 is_lie (Lie general took) = true
 is_lie _ = false
 
-abbrev pub is_divided : Outcome → Bool
-is_divided Divided = true
+abbrev pub is_divided : Option Outcome → Bool
+is_divided (Some (Divided order)) = true
 is_divided _ = false
 
 -- which labels have a circle, a square, a diamond, and dashes
@@ -54,20 +54,21 @@ count_of marks = one_if marks.circle + one_if marks.square + one_if marks.diamon
 unfoldable pub meaning_words : List ℕ → List ℕ
 meaning_words words = codes "<text x=\"14\" y=\"17\">" ++ (words ++ codes "</text>")
 
-abbrev pub meaning : ℕ → Mark → Outcome → List ℕ → List ℕ
+abbrev pub meaning : ℕ → Mark → Option Outcome → List ℕ → List ℕ
 meaning place mark outcome words = row_start place ++ shape 0 mark outcome ++ meaning_words words ++ row_end
 
-abbrev pub meaning_if : Bool → ℕ → Mark → Outcome → List ℕ → List ℕ
+abbrev pub meaning_if : Bool → ℕ → Mark → Option Outcome → List ℕ → List ℕ
 meaning_if stands place mark outcome words = if stands then meaning place mark outcome words else []
 
 -- those of these marks below each other, the first with this place
 abbrev pub meanings : Marks → ℕ → List ℕ
 meanings marks place =
-    meaning_if marks.circle place Honest Told (codes "no lie is known")
-    ++ meaning_if marks.square (place + one_if marks.circle) Traitor Told (codes "a named commander, his word")
-    ++ meaning_if marks.diamond (place + one_if marks.circle + one_if marks.square) (Lie 0 0) Told
+    meaning_if marks.circle place Honest None (codes "no lie is known")
+    ++ meaning_if marks.square (place + one_if marks.circle) Traitor None (codes "a named commander, his word")
+    ++ meaning_if marks.diamond (place + one_if marks.circle + one_if marks.square) (Lie 0 0) None
     (codes "a lie of a named traitor")
-    ++ meaning_if marks.dashes (place + one_if marks.circle + one_if marks.square + one_if marks.diamond) Honest Divided
+    ++ meaning_if marks.dashes (place + one_if marks.circle + one_if marks.square + one_if marks.diamond) Honest
+    (Some (Divided 0))
     (codes "no order has a majority")
 
 -- a line below the rows

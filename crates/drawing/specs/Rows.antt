@@ -1,5 +1,5 @@
 -- The rows of a picture: lines, a shape and a text for each label.
-use Rattle.std.specs.Prelude.{ℕ, ◌+◌, ◌-◌, ◌*◌, max, List, [], ◌∷◌, ◌++◌, length, codes}
+use Rattle.std.specs.Prelude.{ℕ, ◌+◌, ◌-◌, ◌*◌, max, List, [], ◌∷◌, ◌++◌, length, codes, Option, Some}
 use Rattle.std.specs.Fmt.{decimal}
 use Rattle.std.specs.List.{flat_map, range_with_len}
 use Rattle.drawing.specs.declared.node.Branch.{Branch}
@@ -9,8 +9,8 @@ use Rattle.drawing.specs.declared.node.Extent.TheVariants.{Open}
 use Rattle.drawing.specs.declared.node.Mark.{Mark}
 use Rattle.drawing.specs.declared.node.Mark.TheVariants.{Honest, Traitor, Lie}
 use Rattle.drawing.specs.declared.node.Node.{Node}
-use Rattle.drawing.specs.declared.node.Outcome.{Outcome}
-use Rattle.drawing.specs.declared.node.Outcome.TheVariants.{Divided}
+use Rattle.combine.specs.declared.outcome.Outcome.{Outcome}
+use Rattle.combine.specs.declared.outcome.Outcome.TheVariants.{Divided}
 use Rattle.drawing.specs.Places.{branch_at}
 use Rattle.drawing.specs.Words.{said}
 
@@ -47,8 +47,8 @@ kind Honest = codes "told"
 kind Traitor = codes "word"
 kind (Lie general took) = codes "lie"
 
-abbrev pub outcome_class : Outcome → List ℕ
-outcome_class Divided = codes " split"
+abbrev pub outcome_class : Option Outcome → List ℕ
+outcome_class (Some (Divided order)) = codes " split"
 outcome_class _ = []
 
 abbrev pub outline : Mark → List ℕ
@@ -56,7 +56,7 @@ outline Honest = codes " 6a6 6 0 0 1 0 12a6 6 0 0 1 0-12z"
 outline Traitor = codes " 6h6v12h-12v-12z"
 outline (Lie general took) = codes " 4l8 8l-8 8l-8-8z"
 
-unfoldable pub shape : ℕ → Mark → Outcome → List ℕ
+unfoldable pub shape : ℕ → Mark → Option Outcome → List ℕ
 shape left mark outcome = codes "<path class=\""
     ++ (kind mark ++ (outcome_class outcome ++ (codes "\" d=\"M" ++ (decimal left ++ (outline mark ++ codes "\"/>")))))
 

@@ -1,9 +1,9 @@
 -- What is said of a label, in words: each phrase but the first behind a stop.
-use Rattle.std.specs.Prelude.{ℕ, List, [], ◌++◌, codes, None, Option}
+use Rattle.std.specs.Prelude.{ℕ, List, [], ◌++◌, codes, None, Option, Some}
 use Rattle.std.specs.Fmt.{decimal}
 use Rattle.book.specs.Explained.{dotted, order_words}
-use Rattle.drawing.specs.declared.node.Outcome.{Outcome}
-use Rattle.drawing.specs.declared.node.Outcome.TheVariants.{Told, Agreed, Divided, Middle}
+use Rattle.combine.specs.declared.outcome.Outcome.{Outcome}
+use Rattle.combine.specs.Outcome.{outcome_head, outcome_order}
 use Rattle.drawing.specs.declared.node.Mark.{Mark}
 use Rattle.drawing.specs.declared.node.Mark.TheVariants.{Honest, Traitor, Lie}
 use Rattle.drawing.specs.declared.node.Extent.{Extent}
@@ -14,15 +14,13 @@ abbrev pub told_words : Option ℕ → List ℕ
 told_words told = codes "told " ++ order_words told
 
 -- how nothing counts, where there is no list
-abbrev pub counted_words : Outcome → Option ℕ → List ℕ
-counted_words Told None = codes ", so 0"
+abbrev pub counted_words : Option Outcome → Option ℕ → List ℕ
+counted_words None None = codes ", so 0"
 counted_words outcome told = []
 
-abbrev pub outcome_words : List ℕ → Outcome → List ℕ
-outcome_words stop Told = []
-outcome_words stop (Agreed order) = stop ++ codes "majority " ++ decimal order
-outcome_words stop Divided = stop ++ codes "no majority, so 0"
-outcome_words stop (Middle order) = stop ++ codes "median " ++ decimal order
+abbrev pub outcome_words : List ℕ → Option Outcome → List ℕ
+outcome_words stop None = []
+outcome_words stop (Some outcome) = stop ++ outcome_head outcome ++ decimal (outcome_order outcome)
 
 abbrev pub mark_words : List ℕ → Mark → List ℕ
 mark_words stop Honest = []

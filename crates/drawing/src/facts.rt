@@ -1,17 +1,16 @@
 //! What a message table says of a label, to one lieutenant.
 ghost use Rattle.std.specs.Prelude.{◌≡◌, ◌≤◌, ◌<◌, ◌+◌, ◌*◌, ◌^◌, ◌∷◌, ◌++◌, [], suc, length, true};
-ghost use Rattle.combine.specs.Rule.{is_most};
 ghost use Rattle.label.specs.Labels.{on};
 ghost use Rattle.book.specs.Conditions.{is_told};
 ghost use Rattle.book.specs.Explained.{held, list_of};
 ghost use Rattle.book.specs.Grammar.{is_place};
-ghost use Rattle.drawing.specs.Facts.{below, extent_at, is_alike, is_alike_by, is_honest, is_same, mark_at, node_at, outcome_at, outcome_of, tells};
+ghost use Rattle.drawing.specs.Facts.{below, extent_at, is_alike, is_alike_by, is_honest, is_same, mark_at, node_at, outcome_at, tells};
 
 use crate::children::last_orders;
-use crate::node::{Extent, Mark, Node, Outcome, View};
+use crate::node::{Extent, Mark, Node, View};
 use arrayvec::ArrayVec;
 use book::Heard;
-use combine::{Combine, Rule};
+use combine::{Combine, Outcome};
 use label::Label;
 
 /// What the lieutenant holds of a label, with so many relays left: what he was told or, above the longest labels, what
@@ -50,42 +49,17 @@ fn orders<H: Heard>(table: &H, general: u8, label: &Label, relays: u8) -> ArrayV
     orders
 }
 
-/// What the list of a label comes to, with so many relays left.
-fn outcome<H: Heard>(table: &H, general: u8, label: &Label, relays: u8) -> Outcome
+/// What the list of a label comes to, with so many relays left, if there is one.
+fn outcome<H: Heard>(table: &H, general: u8, label: &Label, relays: u8) -> Option<Outcome>
     requires place { is_place (H.seen table.now) label.now general ≡ true }
     requires relays { length label.now + relays ≡ (H.seen table.now).bound + 1 }
     ensures { result ≡ outcome_at (H.seen table.now) relays label.now general }
 {
     if relays == 0 {
-        return Outcome::Told;
+        return None;
     }
     let orders = orders(table, general, label, relays - 1);
-    outcome_of(table.rule(), orders.as_slice())
-}
-
-/// What a list comes to.
-fn outcome_of(rule: Rule, orders: &[u32]) -> Outcome
-    ensures { result ≡ outcome_of rule orders.now }
-{
-    let order = rule.combine(orders);
-    match rule {
-        Rule::Median => Outcome::Middle(order),
-        Rule::Majority => {
-            if is_most(orders, order) {
-                Outcome::Agreed(order)
-            } else {
-                Outcome::Divided
-            }
-        }
-    }
-}
-
-/// Whether the order stands in more than half of the places.
-fn is_most(orders: &[u32], order: u32) -> bool
-    ensures { result ≡ is_most orders.now order }
-{
-    let count = orders.iter().filter(|x| **x == order).count();
-    count > orders.len() - count
+    Some(table.rule().outcome(orders.as_slice()))
 }
 
 /// Whether the general is named.

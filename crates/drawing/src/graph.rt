@@ -2,11 +2,12 @@
 ghost use Rattle.std.specs.Prelude.{◌≡◌, ◌≢◌, ◌<◌, ◌++◌, string_bytes, IfOk, OnOk};
 ghost use Rattle.drawing.specs.Graph.{edge, extent_style, graph_box, graph_head, graph_node, graph_nodes, graph_start, graph_styles, graph_text, graph_title, mark_style, outcome_style};
 
-use crate::node::{Extent, Mark, Node, Outcome, View};
+use crate::node::{Extent, Mark, Node, View};
 use crate::places::put_label;
 use crate::shown::nodes;
 use crate::words::put_words;
 use book::{Heard, decision};
+use combine::Outcome;
 use std::alloc::{AllocError, Global};
 
 /// The tree of what a lieutenant was told, as a graph: a box for each label that is shown, an octagon for a lie and for
@@ -128,12 +129,12 @@ fn mark_style(mark: Mark) -> &'static str
 }
 
 /// How it is drawn by what its list comes to.
-fn outcome_style(outcome: Outcome) -> &'static str
+fn outcome_style(outcome: Option<Outcome>) -> &'static str
     ensures { result.now ≡ outcome_style outcome }
 {
     match outcome {
-        Outcome::Divided => ", style=dashed",
-        Outcome::Told | Outcome::Agreed(_) | Outcome::Middle(_) => "",
+        Some(Outcome::Divided(_)) => ", style=dashed",
+        Some(Outcome::Agreed(_) | Outcome::Middle(_)) | None => "",
     }
 }
 

@@ -4,8 +4,9 @@ ghost use Rattle.std.specs.List.{list_any};
 ghost use Rattle.drawing.specs.Legend.{count_of, has_circle, has_dashes, has_diamond, has_square, legend, marks_of, meaning, meaning_if, meaning_words, meanings, one_if, rule, rule_at};
 
 use crate::facts::is_honest;
-use crate::node::{Mark, Marks, Node, Outcome};
+use crate::node::{Mark, Marks, Node};
 use crate::rows::{put_shape, put_start, row_end};
+use combine::Outcome;
 use std::alloc::AllocError;
 
 /// Which marks stand in the picture of these labels.
@@ -73,7 +74,7 @@ fn has_diamond(node: &Node) -> bool
 fn has_dashes(node: &Node) -> bool
     ensures { result ≡ has_dashes node.now }
 {
-    matches!(node.outcome, Outcome::Divided)
+    matches!(node.outcome, Some(Outcome::Divided(_)))
 }
 
 /// How many marks these are.
@@ -135,7 +136,7 @@ fn put_meanings(out: &mut String, marks: Marks, place: u128) -> Result<(), Alloc
         marks.circle,
         place,
         Mark::Honest,
-        Outcome::Told,
+        None,
         "no lie is known",
     )?;
     put_meaning_if(
@@ -143,7 +144,7 @@ fn put_meanings(out: &mut String, marks: Marks, place: u128) -> Result<(), Alloc
         marks.square,
         second,
         Mark::Traitor,
-        Outcome::Told,
+        None,
         "a named commander, his word",
     )?;
     put_meaning_if(
@@ -151,7 +152,7 @@ fn put_meanings(out: &mut String, marks: Marks, place: u128) -> Result<(), Alloc
         marks.diamond,
         third,
         Mark::Lie(0, 0),
-        Outcome::Told,
+        None,
         "a lie of a named traitor",
     )?;
     put_meaning_if(
@@ -159,7 +160,7 @@ fn put_meanings(out: &mut String, marks: Marks, place: u128) -> Result<(), Alloc
         marks.dashes,
         last,
         Mark::Honest,
-        Outcome::Divided,
+        Some(Outcome::Divided(0)),
         "no order has a majority",
     )?;
     Ok(())
@@ -171,7 +172,7 @@ fn put_meaning_if(
     stands: bool,
     place: u128,
     mark: Mark,
-    outcome: Outcome,
+    outcome: Option<Outcome>,
     words: &str,
 ) -> Result<(), AllocError>
     requires { place < 2 ^ 100 }
@@ -189,7 +190,7 @@ fn put_meaning(
     out: &mut String,
     place: u128,
     mark: Mark,
-    outcome: Outcome,
+    outcome: Option<Outcome>,
     words: &str,
 ) -> Result<(), AllocError>
     requires { place < 2 ^ 100 }

@@ -23,7 +23,7 @@ pub use form::Form;
 pub use graph::tree_graph;
 pub use laws::{folds_are_alike, outcomes_are_explained, pictures_are_elements};
 pub use lines::tree_text;
-pub use node::{Branch, Extent, Mark, Node, Outcome, Style, View};
+pub use node::{Branch, Extent, Mark, Node, Style, View};
 pub use shown::{deeper, is_open, nodes, ordered, root_node};
 pub use svg::tree_svg;
 pub use words::put_said;

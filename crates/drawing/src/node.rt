@@ -1,18 +1,6 @@
 //! What a picture says of a label.
+use combine::Outcome;
 use label::Label;
-
-/// What the list of a label comes to.
-#[derive(Clone, Copy, Debug, PartialEq, Eq, Drop)]
-pub enum Outcome {
-    /// No relay is left, so there is no list: what was told counts.
-    Told,
-    /// This order stands in more than half of the places.
-    Agreed(u32),
-    /// No order stands in more than half of the places, so it is RETREAT.
-    Divided,
-    /// This order is the median.
-    Middle(u32),
-}
 
 /// Which marks stand in a picture.
 #[derive(Clone, Copy, Debug, PartialEq, Eq, Drop)]
@@ -91,8 +79,8 @@ pub struct Node {
     pub label: Label,
     /// What the lieutenant was told, 0 for RETREAT, if anything.
     pub told: Option<u32>,
-    /// What his list of the label comes to.
-    pub outcome: Outcome,
+    /// What his list of the label comes to; nothing where no relay is left, so that what was told counts.
+    pub outcome: Option<Outcome>,
     /// Whether what was told is a lie.
     pub mark: Mark,
     /// Whether the labels below are shown.

@@ -2,9 +2,10 @@
 ghost use Rattle.std.specs.Prelude.{◌≡◌, ◌≤◌, ◌<◌, ◌^◌, ◌++◌, length, string_bytes, IfOk, OnOk};
 ghost use Rattle.drawing.specs.Rows.{branch_way, branch_ways, kind, lines_end, lines_start, outcome_class, outline, reach, row, row_end, row_start, rows_from, shape, stub, way, widest, word_text};
 
-use crate::node::{Branch, Extent, Mark, Node, Outcome};
+use crate::node::{Branch, Extent, Mark, Node};
 use crate::places::branch_at;
 use crate::words::put_said;
+use combine::Outcome;
 use std::alloc::{AllocError, Global};
 
 /// How far the widest row reaches to the right of the first label's place.
@@ -160,7 +161,7 @@ pub(crate) fn put_shape(
     out: &mut String,
     left: usize,
     mark: Mark,
-    outcome: Outcome,
+    outcome: Option<Outcome>,
 ) -> Result<(), AllocError>
     ensures { OnOk result (string_bytes out.new ≡ string_bytes out.old ++ shape left mark outcome) }
 {
@@ -185,12 +186,12 @@ fn kind(mark: Mark) -> &'static str
 }
 
 /// Its further class.
-fn outcome_class(outcome: Outcome) -> &'static str
+fn outcome_class(outcome: Option<Outcome>) -> &'static str
     ensures { result.now ≡ outcome_class outcome }
 {
     match outcome {
-        Outcome::Divided => " split",
-        Outcome::Told | Outcome::Agreed(_) | Outcome::Middle(_) => "",
+        Some(Outcome::Divided(_)) => " split",
+        Some(Outcome::Agreed(_) | Outcome::Middle(_)) | None => "",
     }
 }
 

@@ -2,8 +2,9 @@
 ghost use Rattle.std.specs.Prelude.{◌≡◌, ◌++◌, string_bytes, OnOk};
 ghost use Rattle.drawing.specs.Words.{counted_words, extent_words, mark_words, outcome_words, said, told_words, words};
 
-use crate::node::{Extent, Mark, Node, Outcome};
+use crate::node::{Extent, Mark, Node};
 use crate::places::put_label;
+use combine::Outcome;
 use std::alloc::AllocError;
 
 /// Adds a label, and what is said of it.
@@ -41,25 +42,29 @@ fn put_told(out: &mut String, told: Option<u32>) -> Result<(), AllocError>
 }
 
 /// Adds how nothing counts, where there is no list.
-fn put_counted(out: &mut String, outcome: Outcome, told: Option<u32>) -> Result<(), AllocError>
+fn put_counted(
+    out: &mut String,
+    outcome: Option<Outcome>,
+    told: Option<u32>,
+) -> Result<(), AllocError>
     ensures { OnOk result (string_bytes out.new ≡ string_bytes out.old ++ counted_words outcome told) }
 {
     match (outcome, told) {
-        (Outcome::Told, None) => out.push_str(", so 0"),
+        (None, None) => out.push_str(", so 0"),
         _ => Ok(()),
     }
 }
 
 /// Adds what the list comes to, if there is one.
-fn put_outcome(out: &mut String, stop: &str, outcome: Outcome) -> Result<(), AllocError>
+fn put_outcome(out: &mut String, stop: &str, outcome: Option<Outcome>) -> Result<(), AllocError>
     ensures { OnOk result (string_bytes out.new ≡ string_bytes out.old ++ outcome_words stop.now outcome) }
 {
-    match outcome {
-        Outcome::Told => Ok(()),
-        Outcome::Agreed(order) => write!(out, "{stop}majority {order}"),
-        Outcome::Divided => write!(out, "{stop}no majority, so 0"),
-        Outcome::Middle(order) => write!(out, "{stop}median {order}"),
-    }
+    let Some(outcome) = outcome else {
+        return Ok(());
+    };
+    let head = outcome.head();
+    let order = outcome.order();
+    write!(out, "{stop}{head}{order}")
 }
 
 /// Adds whose word it is, where he is named as a traitor, and lies or is the commander.

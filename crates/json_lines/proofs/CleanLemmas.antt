@@ -1,11 +1,12 @@
 -- No line tells a float.
 use Rattle.std.proofs.Common.{◌≡◌, ℕ, Bool, true, false, List, [], ◌∷◌, Option, None, Some, Ordering, Less, Equal, Greater, option_map, option_and_then, bytes_eq, codes, refl}
-use Rattle.std.specs.Prelude.{if◌then◌else◌, ◌||◌, ◌==◌, length, slice_get}
+use Rattle.std.specs.Prelude.{if◌then◌else◌, ◌||◌, ◌==◌, is_some, length, slice_get}
 use Rattle.std.specs.Str.Lossy.{utf8_lossy}
 use Rattle.std.specs.Cmp.Lexicographic.{slice_cmp}
 use Rattle.std.specs.Ordering.{match_ordering, nat_cmp}
 use Rattle.serde_json.specs.Data.{Data, null, boolean, number, unsigned, string, array, Items, no_items, item, Members, no_members, member, put}
 use Rattle.serde_json.specs.Written.{has_float, items_have_float, members_have_float}
+use Rattle.combine.specs.Names.{rule_named}
 use Rattle.text.specs.Parts.{before, lines_of, pieces}
 use Rattle.text.specs.Stop.{dot, feed, space}
 use Rattle.json_lines.specs.declared.held.Held.{Held}
@@ -16,7 +17,7 @@ use Rattle.json_lines.specs.Lines.{with_file}
 use Rattle.json_lines.specs.Objects.{called, first_by, first_shaped, line_object, or, shaped, told_by, unshaped, with_mark, with_name}
 use Rattle.json_lines.specs.Refusals.{behind_stop, class_of, fault_object, namer, namer_of, refusal_object, refused_object, reported, sentence_of, with_namer, with_sentence, with_text}
 use Rattle.json_lines.specs.Shapes.{Row, shapes}
-use Rattle.json_lines.specs.Told.{Word, all, joined, number_of, place_of, places, small, told, yes_no_of}
+use Rattle.json_lines.specs.Told.{Word, all, joined, number_of, place_of, places, rule_of, small, told, yes_no_of}
 
 abbrev IsClean : Option Data → Type 0
 IsClean None = Unit {0}
@@ -89,6 +90,9 @@ joined_clean w =
 pub places_clean : (ws : List Word) → IsClean (places ws)
 places_clean ws = array_clean (all place_of ws) (all_clean place_of place_clean ws)
 
+rule_clean : (w : Word) → IsClean (rule_of w)
+rule_clean w = either IsClean (is_some (rule_named w)) (Some (string (utf8_lossy w))) None refl tt
+
 pub told_clean : (k w : Word) → IsClean (told k w)
 unfolding told
 told_clean k w =
@@ -96,7 +100,8 @@ told_clean k w =
     (either IsClean (bytes_eq k (codes "P")) (place_of w) _ (place_clean w)
     (either IsClean (bytes_eq k (codes "A")) (yes_no_of w) _ (yes_no_clean w)
     (either IsClean (bytes_eq k (codes "S")) (joined w) _ (joined_clean w)
-    (either IsClean (bytes_eq w k) (Some (string (utf8_lossy w))) None refl tt))))
+    (either IsClean (bytes_eq k (codes "C")) (rule_of w) _ (rule_clean w)
+    (either IsClean (bytes_eq w k) (Some (string (utf8_lossy w))) None refl tt)))))
 
 abbrev NoFloat : Members → Type 0
 NoFloat ms = members_have_float ms ≡ false

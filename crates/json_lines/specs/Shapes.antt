@@ -47,9 +47,7 @@ shapes =
     plain (codes "version") (codes "chronicle N") (codes "- version") Nothing
     ∷ plain (codes "campaign") (codes "generals N bound N commander N order N")
     (codes "- generals - bound - commander - order") Nothing
-    ∷ plain (codes "campaign") (codes "generals N bound N commander N order N patience P rule majority")
-    (codes "- generals - bound - commander - order - patience - rule") Nothing
-    ∷ plain (codes "campaign") (codes "generals N bound N commander N order N patience P rule median")
+    ∷ plain (codes "campaign") (codes "generals N bound N commander N order N patience P rule C")
     (codes "- generals - bound - commander - order - patience - rule") Nothing
     ∷ plain (codes "campaign") (codes "signed generals N bound N commander N order N patience P")
     (codes "messages - generals - bound - commander - order - patience") Nothing
@@ -74,9 +72,7 @@ shapes =
     ∷ plain (codes "put") (codes "put N N N") (codes "- rank receiver order") Outbox
     ∷ plain (codes "word") (codes "word N N") (codes "- slot value") Nothing
     ∷ plain (codes "table") (codes "generals N bound N commander N") (codes "- generals - bound - commander") Nothing
-    ∷ plain (codes "table") (codes "generals N bound N commander N rule majority")
-    (codes "- generals - bound - commander - rule") Nothing
-    ∷ plain (codes "table") (codes "generals N bound N commander N rule median")
+    ∷ plain (codes "table") (codes "generals N bound N commander N rule C")
     (codes "- generals - bound - commander - rule") Nothing
     ∷ plain (codes "message") (codes "tell S N N") (codes "- label receiver order") Nothing
     ∷ []

@@ -1,6 +1,7 @@
 -- What a word of a line tells, as JSON (RFC 8259).
-use Rattle.std.specs.Prelude.{ℕ, ◌^◌, nat_lt, true, false, if◌then◌else◌, List, [], ◌∷◌, Option, None, Some, option_map, option_and_then, bytes_eq, codes}
+use Rattle.std.specs.Prelude.{ℕ, ◌^◌, nat_lt, true, false, if◌then◌else◌, List, [], ◌∷◌, Option, None, Some, option_map, option_and_then, is_some, bytes_eq, codes}
 use Rattle.std.specs.Str.Lossy.{utf8_lossy}
+use Rattle.combine.specs.Names.{rule_named}
 use Rattle.serde_json.specs.Data.{Data, null, boolean, number, unsigned, string, array, Items, no_items, item}
 use Rattle.text.specs.Number.{decimal_of}
 use Rattle.text.specs.Parts.{pieces}
@@ -48,13 +49,18 @@ joined word = if bytes_eq word (codes "-") then Some (array no_items) else numbe
 abbrev pub places : List Word → Option Data
 places words = option_map array (all place_of words)
 
+-- a rule's word, as a text
+abbrev pub rule_of : Word → Option Data
+rule_of word = if is_some (rule_named word) then Some (string (utf8_lossy word)) else None
+
 -- what a word tells that stands for this one of a shape: a number for N, a number or a dash for P, yes, no or a dash
--- for A, numbers joined by dots or a dash for S, and for another word that word itself
+-- for A, numbers joined by dots or a dash for S, a rule's word for C, and for another word that word itself
 unfoldable pub told : Word → Word → Option Data
 told kind word =
     if bytes_eq kind (codes "N") then number_of word
     else if bytes_eq kind (codes "P") then place_of word
     else if bytes_eq kind (codes "A") then yes_no_of word
     else if bytes_eq kind (codes "S") then joined word
+    else if bytes_eq kind (codes "C") then rule_of word
     else if bytes_eq word kind then Some (string (utf8_lossy word))
     else None

@@ -21,8 +21,8 @@ pub(crate) struct Shape {
     /// What such a line is called.
     pub line: &'static str,
     /// Its words, and what each is called, or a dash where it is not told. Of the words `N` stands for a number, `P`
-    /// for a number or a dash, `A` for yes, no or a dash, `S` for numbers joined by dots or a dash, `*` for all words
-    /// that are left, each a number or a dash, and any other for itself.
+    /// for a number or a dash, `A` for yes, no or a dash, `S` for numbers joined by dots or a dash, `C` for a rule's
+    /// word, `*` for all words that are left, each a number or a dash, and any other for itself.
     pub parts: &'static [(&'static str, &'static str)],
     /// What holds of each such line, or does not; no name where nothing is told.
     pub mark: &'static str,
@@ -70,27 +70,7 @@ const SHAPES: &[Shape] = &[
             ("patience", "-"),
             ("P", "patience"),
             ("rule", "-"),
-            ("majority", "rule"),
-        ],
-        mark: "",
-        holds: false,
-        within: Within::Nothing,
-    },
-    Shape {
-        line: "campaign",
-        parts: &[
-            ("generals", "-"),
-            ("N", "generals"),
-            ("bound", "-"),
-            ("N", "bound"),
-            ("commander", "-"),
-            ("N", "commander"),
-            ("order", "-"),
-            ("N", "order"),
-            ("patience", "-"),
-            ("P", "patience"),
-            ("rule", "-"),
-            ("median", "rule"),
+            ("C", "rule"),
         ],
         mark: "",
         holds: false,
@@ -340,23 +320,7 @@ const SHAPES: &[Shape] = &[
             ("commander", "-"),
             ("N", "commander"),
             ("rule", "-"),
-            ("majority", "rule"),
-        ],
-        mark: "",
-        holds: false,
-        within: Within::Nothing,
-    },
-    Shape {
-        line: "table",
-        parts: &[
-            ("generals", "-"),
-            ("N", "generals"),
-            ("bound", "-"),
-            ("N", "bound"),
-            ("commander", "-"),
-            ("N", "commander"),
-            ("rule", "-"),
-            ("median", "rule"),
+            ("C", "rule"),
         ],
         mark: "",
         holds: false,

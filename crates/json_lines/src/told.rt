@@ -5,9 +5,10 @@ ghost use Rattle.serde_json.specs.Data.{string};
 ghost use Rattle.serde_json.specs.View.{view};
 ghost use Rattle.text.specs.Parts.{left};
 ghost use Rattle.text.specs.Stop.{space};
-ghost use Rattle.json_lines.specs.Told.{joined, number_of, numbers_of, place_of, places, small, told, yes_no_of};
+ghost use Rattle.json_lines.specs.Told.{joined, number_of, numbers_of, place_of, places, rule_of, small, told, yes_no_of};
 
 use crate::stops::{DOT, SPACE};
+use combine::Rule;
 use serde_json::Value;
 use std::alloc::{AllocError, Global};
 use text::{decimal, piece};
@@ -97,8 +98,19 @@ pub(crate) fn places(alloc: Global, words: Option<&[u8]>) -> Result<Option<Value
     Ok(Some(Value::Array(items)))
 }
 
+/// A rule's word, as a text.
+fn rule(alloc: Global, word: &[u8]) -> Result<Option<Value>, AllocError>
+    ensures { IfOk result (λ o. option_map view o ≡ rule_of word.now) }
+{
+    match Rule::named(word) {
+        Some(_) => Ok(Some(spelled(alloc, word)?)),
+        None => Ok(None),
+    }
+}
+
 /// What a word tells that stands for this word of a shape: a number for `N`, a number or a dash for `P`, yes, no or a
-/// dash for `A`, numbers joined by dots or a dash for `S`, and for another word that word itself.
+/// dash for `A`, numbers joined by dots or a dash for `S`, a rule's word for `C`, and for another word that word
+/// itself.
 #[tactic(auto, unfolding(crate::specs::Told::told))]
 pub(crate) fn told(alloc: Global, kind: &[u8], word: &[u8]) -> Result<Option<Value>, AllocError>
     ensures { IfOk result (λ o. option_map view o ≡ told kind.now word.now) }
@@ -111,6 +123,8 @@ pub(crate) fn told(alloc: Global, kind: &[u8], word: &[u8]) -> Result<Option<Val
         Ok(yes_no(word))
     } else if kind == b"S".as_slice() {
         joined(alloc, word)
+    } else if kind == b"C".as_slice() {
+        rule(alloc, word)
     } else if word == kind {
         Ok(Some(spelled(alloc, word)?))
     } else {

@@ -4,7 +4,7 @@ ghost use Rattle.insn.specs.Insn.{bytes_of};
 ghost use Rattle.semantics.specs.Run.{IsContext};
 
 use crate::little::number_at;
-use byteorder::{ByteOrder, LittleEndian};
+use contexts::word_at;
 use insn::Size;
 use std::marker::Model;
 
@@ -71,6 +71,6 @@ impl<'a> Context<'a> {
         requires { place + 4 ≤ 4096 }
         ensures { result ≡ little_number (take 4 (drop place self.now)) }
     {
-        LittleEndian::read_u32(&self.bytes[place..])
+        word_at(self.bytes, place)
     }
 }

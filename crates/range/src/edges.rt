@@ -6,7 +6,7 @@ ghost use Rattle.range.specs.Interval.{IsIn};
 ghost use Rattle.range.specs.Edges.{equal, different, above, at_least, exchanged, edge, opposite, edge_limit, refined, is_refined, HoldBoth, without, meets};
 
 use crate::range::Range;
-use crate::used::{greatest, least_negative};
+use crate::width::{greatest, least_negative};
 use word::{Condition, Width};
 
 /// What is left of two ranges where a jump on a condition is taken, or is not taken; None where no pair of

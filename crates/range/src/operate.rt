@@ -6,7 +6,7 @@ ghost use Rattle.range.specs.Interval.{IsIn};
 ghost use Rattle.range.specs.Table.{table, row};
 
 use crate::range::Range;
-use crate::used::used;
+use crate::width::used;
 use crate::{bitwise, quotients, shifts, sums};
 use word::arithmetic::{alu32, alu64};
 use word::{Operation, Width};

@@ -5,7 +5,7 @@ ghost use Rattle.word.specs.Arithmetic.{bits_of};
 ghost use Rattle.range.specs.Table.{quotients, remainders, signed_quotients, signed_remainders};
 
 use crate::range::Range;
-use crate::used::{least_negative, of_width};
+use crate::width::{least_negative, of_width};
 use word::Width;
 
 /// The range of the quotients, 0 where the divisor is.

@@ -5,7 +5,7 @@ ghost use Rattle.word.specs.Arithmetic.{bits_of};
 ghost use Rattle.range.specs.Table.{left_shifts, right_shifts, signed_shifts};
 
 use crate::range::Range;
-use crate::used::{bit_count, greatest, least_negative, of_width};
+use crate::width::{bit_count, greatest, least_negative, of_width};
 use word::Width;
 
 /// The range of the numbers shifted left.

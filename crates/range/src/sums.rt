@@ -5,7 +5,7 @@ ghost use Rattle.word.specs.Arithmetic.{bits_of};
 ghost use Rattle.range.specs.Table.{sums, differences, products};
 
 use crate::range::Range;
-use crate::used::{greatest, of_width};
+use crate::width::{greatest, of_width};
 use word::Width;
 
 /// The range of the wrapping sums.

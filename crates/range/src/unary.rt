@@ -6,7 +6,7 @@ ghost use Rattle.range.specs.Interval.{IsIn};
 ghost use Rattle.range.specs.Table.{negations, extensions, swaps, part_bits};
 
 use crate::range::Range;
-use crate::used::{of_width, used};
+use crate::width::{of_width, used};
 use word::{ByteOrder, Narrow, SwapSize, Width, arithmetic, swap};
 
 /// The range of the negated numbers.

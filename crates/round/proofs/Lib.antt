@@ -11,7 +11,6 @@ pub mod Settled
 pub mod Ends
 pub mod Programs
 pub mod Turning
-pub mod Spelling
 pub mod Senders
 pub mod Prolonging
 pub mod Delivering

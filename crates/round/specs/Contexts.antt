@@ -1,7 +1,5 @@
 -- What a general is told as a round begins, and what a loyal general tells then (own; TOPLAS 1982, algorithm OM).
-use Rattle.std.specs.Prelude.{ℕ, suc, ◌-◌, ◌+◌, ◌*◌, ◌<◌, ◌≡◌, ◌^◌, true, List, [], ◌∷◌, ◌++◌, length, take, map, flat_map, replicate, slice_get, slice_range, Some, None}
-use Rattle.semantics.specs.Limits.{context_size}
-use Rattle.word.specs.Bytes.{little_bytes, little_number}
+use Rattle.std.specs.Prelude.{ℕ, suc, ◌<◌, ◌≡◌, ◌^◌, true, List, [], length, map, slice_get, Some, None}
 use Rattle.label.specs.declared.shape.Shape.{Shape}
 use Rattle.label.specs.Relay.{relay}
 use Rattle.label.specs.Oral.{heard}
@@ -9,6 +7,7 @@ use Rattle.semantics.specs.Relay.{Relay, oral}
 use Rattle.semantics.specs.State.{Outbox}
 use Rattle.semantics.specs.Outbox.{places, taken_value}
 use Rattle.outbox.specs.Contents.{Contents}
+pub use Rattle.contexts.specs.Layout.{context_bytes, context_numbers, number_told, at_generals, at_general, at_commander, at_round, at_kind}
 use Rattle.round.specs.Scenario.{Scenario, shape_of}
 use Rattle.round.specs.Letters.{Letter, messages, telling}
 
@@ -16,16 +15,6 @@ use Rattle.round.specs.Letters.{Letter, messages, telling}
 -- label the scenario's order, which the commander alone relays, loyal or not
 abbrev pub took : Scenario → List (List Letter) → ℕ → List ℕ → ℕ
 took s before g u = heard (messages before) s.order u g
-
--- a context: 4,096 bytes, in them 32-bit numbers from the front, then zeros
-unfoldable pub context_bytes : List ℕ → List ℕ
-context_bytes numbers = take context_size (flat_map (little_bytes 4) numbers ++ replicate context_size 0)
-
--- the numbers of a context: eight of the relay and its campaign, and the value taken for each label relayed
-abbrev pub context_numbers : Shape → ℕ → List ℕ → List ℕ
-context_numbers shape bound values =
-    shape.generals ∷ bound ∷ shape.general ∷ shape.commander ∷ shape.round ∷ length values ∷
-    (shape.generals - shape.round) ∷ 0 ∷ values
 
 -- what a general is told when the round behind these begins
 abbrev pub context_of : Scenario → List (List Letter) → ℕ → List ℕ
@@ -37,26 +26,6 @@ context_of s before g =
 abbrev pub AreWords : Scenario → List (List Letter) → ℕ → Type 0
 AreWords s before g = (rank : ℕ) (u : List ℕ) → slice_get (relay (shape_of s g (suc (length before)))) rank ≡ Some u →
     took s before g u < 2 ^ 32
-
--- a word of a context, of 4 bytes
-abbrev pub number_told : List ℕ → ℕ → ℕ
-number_told context word = little_number (slice_range context (4 * word) (4 * word + 4))
-
--- which words of a context tell what (`context_numbers`)
-abbrev pub at_generals : ℕ
-at_generals = 0
-
-abbrev pub at_general : ℕ
-at_general = 2
-
-abbrev pub at_commander : ℕ
-at_commander = 3
-
-abbrev pub at_round : ℕ
-at_round = 4
-
-abbrev pub at_kind : ℕ
-at_kind = 7
 
 -- a context tells this general and this round
 abbrev pub IsToldTo : ℕ → ℕ → List ℕ → Type 0

@@ -4,7 +4,6 @@
 
 mod accesses;
 mod code;
-mod context;
 mod delivery;
 mod front;
 mod laws;
@@ -22,7 +21,6 @@ mod tellers;
 mod told;
 mod turns;
 
-pub use context::context_telling;
 pub use delivery::deliver;
 pub use laws::{
     contexts_tell, loyal_letters_follow, outboxes_tell, patience_is_kept, runs_are_safe,

@@ -1,21 +1,15 @@
 //! The letters of loyal generals.
-ghost use Rattle.std.specs.Prelude.{◌≡◌, ◌*◌, ◌+◌, ◌≤◌, length, take, drop, IfOk};
-ghost use Rattle.word.specs.Bytes.{little_number};
+ghost use Rattle.std.specs.Prelude.{◌≡◌, length, IfOk};
 ghost use Rattle.label.specs.Relay.{IsShape};
-ghost use Rattle.round.specs.Contexts.{IsToldTo, shape_told, outbox_told, letter_told, number_told};
+ghost use Rattle.round.specs.Contexts.{IsToldTo, shape_told, outbox_told, letter_told};
 
 use crate::letter::Letter;
 use crate::seat::Seat;
-use byteorder::{ByteOrder, LittleEndian};
+use contexts::layout::{AT_COMMANDER, AT_GENERALS};
+use contexts::number_told;
 use label::Shape;
 use outbox::Outbox;
 use std::alloc::{AllocError, Global};
-
-/// The word of a context that tells how many generals there are.
-const AT_GENERALS: usize = 0;
-
-/// The word of a context that tells the commander.
-const AT_COMMANDER: usize = 3;
 
 /// A loyal general's letter of a round: he tells each receiver of each label what his context says that he took. The
 /// context is that of this general in this round. The definition `faithful_letter` tells it of what he took in the
@@ -71,20 +65,4 @@ pub(crate) fn shape_told(general: u32, round: u32, context: &[u8]) -> Shape
         general,
         round,
     }
-}
-
-/// A word of a context, of 4 bytes.
-fn number_told(context: &[u8], word: usize) -> u32
-    requires { 4 * word + 4 ≤ length context.now }
-    ensures { result ≡ number_told context.now word }
-{
-    word_at(context, 4 * word)
-}
-
-/// The number that the 4 bytes from an offset on spell, the lowest first.
-fn word_at(bytes: &[u8], offset: usize) -> u32
-    requires { offset + 4 ≤ length bytes.now }
-    ensures { result ≡ little_number (take 4 (drop offset bytes.now)) }
-{
-    LittleEndian::read_u32(&bytes[offset..])
 }

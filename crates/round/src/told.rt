@@ -3,11 +3,11 @@ ghost use Rattle.round.specs.Letters.{Letter as LetterSeen};
 ghost use Rattle.round.specs.Contexts.{context_of, AreWords};
 ghost use Rattle.round.specs.Told.{WasTold, AreLettersOf, AreRoundsOf, lieutenant_at};
 
-use crate::context::write_context;
 use crate::delivery::deliver_to_all;
 use crate::letter::Letter;
 use crate::round::Round;
 use crate::scenario::Scenario;
+use contexts::write_context;
 use mem::Context;
 use std::alloc::{AllocError, Global};
 use std::marker::Model;

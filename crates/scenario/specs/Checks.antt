@@ -3,7 +3,7 @@ use Rattle.std.specs.Prelude.{ℕ, suc, ℤ, pos, negsuc, Bool, ◌+◌, ◌-◌
 use Rattle.std.specs.Option.{ok_or}
 use Rattle.toml.specs.Data.{Data, Items, Members, no_items, item, no_members, member, get_member, as_integer, as_str, as_array}
 use Rattle.combine.specs.declared.chosen.Rule.{Rule}
-use Rattle.combine.specs.declared.chosen.Rule.TheVariants.{Majority, Median}
+use Rattle.combine.specs.Names.{default_rule, rule_named}
 use Rattle.round.specs.Scenario.{IsPatience}
 use Rattle.scenario.specs.declared.messages.Messages.{Messages}
 use Rattle.scenario.specs.declared.messages.Messages.TheVariants.{Oral, Signed}
@@ -103,14 +103,11 @@ board (Some d) = do
 
 -- the rule that a text names
 abbrev pub rule_by_name : List ℕ → Result Rule Flaw
-rule_by_name t =
-    if bytes_eq t (codes "majority") then Ok Majority
-    else if bytes_eq t (codes "median") then Ok Median
-    else Err (faulty faults.Range (places.Key names.Rule))
+rule_by_name t = ok_or (rule_named t) (faulty faults.Range (places.Key names.Rule))
 
--- the rule, the majority where there is no key
+-- the rule, or what is so where there is no key
 unfoldable pub rule : Option Data → Result Rule Flaw
-rule None = Ok Majority
+rule None = Ok default_rule
 rule (Some d) = do
   t ← ok_or (as_str d) (faulty faults.Kind (places.Key names.Rule))
   rule_by_name t

@@ -26,23 +26,20 @@ fn rule_by_name(text: &str) -> Result<Rule, ScenarioError>
     ensures value { Gives (λ r. r) result (rule_by_name text.now) }
     ensures fault { IfErr result (λ e. e ≢ Memory) }
 {
-    if text == "majority" {
-        return Ok(Rule::Majority);
+    match Rule::named(text.as_bytes()) {
+        Some(rule) => Ok(rule),
+        None => Err(ScenarioError::At(Fault::Range, Place::Key(Name::Rule))),
     }
-    if text == "median" {
-        return Ok(Rule::Median);
-    }
-    Err(ScenarioError::At(Fault::Range, Place::Key(Name::Rule)))
 }
 
-/// The rule, the majority where there is no key.
+/// The rule, or what is so where there is no key.
 #[tactic(auto, unfolding(crate::specs::Checks::rule))]
 fn rule(value: Option<&Value>) -> Result<Rule, ScenarioError>
     ensures value { Gives (λ r. r) result (rule (option_map (λ v. view v.now) value.entry)) }
     ensures fault { IfErr result (λ e. e ≢ Memory) }
 {
     let Some(value) = value else {
-        return Ok(Rule::Majority);
+        return Ok(Rule::DEFAULT);
     };
     match value.as_str() {
         Some(text) => rule_by_name(text),

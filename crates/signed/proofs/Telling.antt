@@ -3,7 +3,7 @@ use Rattle.std.proofs.Common.{◌≡◌, ℕ, suc, ◌<◌, ◌≤◌, List, len
 use Rattle.round.specs.Scenario.{Scenario, IsScenario, shape_of}
 use Rattle.round.specs.Letters.{Letter}
 use Rattle.round.specs.Contexts.{IsToldTo, shape_told, number_told, at_kind, tells_oral}
-use Rattle.round.proofs.Telling.{number_at}
+use Rattle.contexts.proofs.Numbers.{number_at}
 use Rattle.world.specs.Campaigns.{TellRelays}
 use Rattle.signed.specs.Contexts.{signed_context_numbers}
 use Rattle.signed.specs.Kind.{signed_kind, signed_context, held_in}

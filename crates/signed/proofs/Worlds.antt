@@ -11,7 +11,8 @@ use Rattle.round.specs.Scenario.{Scenario, IsScenario, is_traitor}
 use Rattle.round.specs.Letters.{Letter, letter_of}
 use Rattle.round.specs.Activation.{started}
 use Rattle.round.specs.Runs.{IsRunOf}
-use Rattle.round.proofs.Contexts.{bytes_context, shape_is}
+use Rattle.contexts.proofs.Bytes.{bytes_context}
+use Rattle.round.proofs.Contexts.{shape_is}
 use Rattle.round.proofs.Lists.{some_at}
 use Rattle.world.specs.declared.event.Event.{Event}
 use Rattle.world.specs.Kind.{loyal_letter}

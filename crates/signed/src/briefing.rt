@@ -4,8 +4,9 @@ ghost use Rattle.signed.specs.Sending.{context_behind, held_of, relay_behind, Ar
 
 use crate::held::Held;
 use crate::outgoing::SentRound;
+use contexts::context_telling;
 use outbox::Outbox;
-use round::{Scenario, context_telling};
+use round::Scenario;
 use std::alloc::{AllocError, Global};
 
 /// The number at byte 28 of a context where orders are signed.

@@ -1,13 +1,18 @@
 -- Families with the same head have the same campaigns.
 use Rattle.std.proofs.Common.{ℕ, ◌≡◌, ◌<◌, ◌^◌, true, false, List, [], ◌∷◌, ◌++◌, ◌%◌, drop, refl, sym, ap, ◌∙◌, arith, append_assoc, codes, Option, None, Some}
-use Rattle.std.specs.Prelude.{decimal, bytes_eq, IfSome, string_bytes, map}
+use Rattle.std.specs.Prelude.{decimal, bytes_eq, IfSome, not, string_bytes, map}
 use Rattle.std.proofs.lemmas.List.{append_cancel_right}
 use Rattle.text.specs.Number.{decimal_of}
 use Rattle.text.specs.Stop.{comma}
 use Rattle.text.specs.declared.stop.Stop.TheVariants.{Byte}
 use Rattle.text.proofs.CutLemmas.{Lacks}
 use Rattle.text.proofs.DecimalLemmas.{decimal_of-decimal}
-use Rattle.combine.specs.declared.chosen.Rule.TheVariants.{Majority, Median}
+use Rattle.combine.specs.declared.chosen.Rule.{Rule}
+use Rattle.combine.specs.Names.{rule_name, rule_named}
+use Rattle.combine.proofs.NameLaws.{name_read}
+use Rattle.book.proofs.RuleNames.{name_lacks_comma}
+use Rattle.text.specs.Stop.{is_stop}
+use Rattle.text.proofs.BytesLemmas.{all-append}
 use Rattle.survey.specs.declared.adversary.Adversary.{Adversary}
 use Rattle.survey.specs.declared.adversary.Adversary.TheVariants.{Lies, Silent, Collude, Given}
 use Rattle.survey.specs.declared.manner.Manner.{Manner}
@@ -53,8 +58,7 @@ from_bound f = member (codes ",\"bound_high\"") (decimal f.bound.high) (from_lea
 -- ---- words
 
 manner_lacks : (m : Manner) → Lacks comma (manner_word m)
-manner_lacks (Oral Majority) = refl
-manner_lacks (Oral Median) = refl
+manner_lacks (Oral rule) = all-append (λ c. not (is_stop comma c)) (codes "\"") (rule_name rule ++ codes "\"") refl (all-append (λ c. not (is_stop comma c)) (rule_name rule) (codes "\"") (name_lacks_comma rule) refl)
 manner_lacks Signed = refl
 
 patience_lacks : (p : Option ℕ) → IfSome p (λ steps. steps < 2 ^ 64) → Lacks comma (patience_word p)
@@ -72,15 +76,22 @@ same_number n m few less e =
 unlike : {A : Type 0} (xs ys zs : List ℕ) → bytes_eq xs zs ≡ true → bytes_eq ys zs ≡ false → xs ≡ ys → A
 unlike xs ys zs like other e = let same = ap (λ l. bytes_eq l zs) e in absurd (let z : true ≡ false = sym like ∙ (same ∙ other) in cc)
 
+-- a word in quotation marks is the word
+unquoted : (xs ys : List ℕ) → codes "\"" ++ (xs ++ codes "\"") ≡ codes "\"" ++ (ys ++ codes "\"") → xs ≡ ys
+unquoted xs ys e = append_cancel_right xs ys (codes "\"") (ap (drop 1) e)
+
+-- no rule has this word
+no_rule : {A : Type 0} (rule : Rule) → rule_name rule ≡ codes "signed" → A
+no_rule rule e = let so : Some rule ≡ rule_named (codes "signed") = sym (name_read rule) ∙ ap rule_named e in absurd (let z : Some rule ≡ None = so in cc)
+
 same_manner : (m k : Manner) → manner_word m ≡ manner_word k → m ≡ k
-same_manner (Oral Majority) (Oral Majority) e = refl
-same_manner (Oral Majority) (Oral Median) e = unlike (codes "\"majority\"") (codes "\"median\"") (codes "\"majority\"") refl refl e
-same_manner (Oral Majority) Signed e = unlike (codes "\"majority\"") (codes "\"signed\"") (codes "\"majority\"") refl refl e
-same_manner (Oral Median) (Oral Majority) e = unlike (codes "\"median\"") (codes "\"majority\"") (codes "\"median\"") refl refl e
-same_manner (Oral Median) (Oral Median) e = refl
-same_manner (Oral Median) Signed e = unlike (codes "\"median\"") (codes "\"signed\"") (codes "\"median\"") refl refl e
-same_manner Signed (Oral Majority) e = unlike (codes "\"signed\"") (codes "\"majority\"") (codes "\"signed\"") refl refl e
-same_manner Signed (Oral Median) e = unlike (codes "\"signed\"") (codes "\"median\"") (codes "\"signed\"") refl refl e
+same_manner (Oral rule) (Oral other) e =
+    let read = ap rule_named (unquoted (rule_name rule) (rule_name other) e) in
+    let so : Some rule ≡ Some other = sym (name_read rule) ∙ (read ∙ name_read other) in
+    let same : rule ≡ other = cc in
+    ap Oral same
+same_manner (Oral rule) Signed e = no_rule rule (unquoted (rule_name rule) (codes "signed") e)
+same_manner Signed (Oral rule) e = no_rule rule (unquoted (rule_name rule) (codes "signed") (sym e))
 same_manner Signed Signed e = refl
 
 same_patience : (p q : Option ℕ) → IfSome p (λ steps. steps < 2 ^ 64) → IfSome q (λ steps. steps < 2 ^ 64) → patience_word p ≡ patience_word q → p ≡ q

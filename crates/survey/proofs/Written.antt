@@ -1,7 +1,9 @@
 -- What is written of a family's campaigns is a part.
 use Rattle.std.proofs.Common.{ℕ, ◌≡◌, ◌<◌, ◌^◌, List, [], ◌∷◌, ◌++◌, map, refl, ap, arith, codes, Option, None, Some}
-use Rattle.std.specs.Prelude.{decimal, flat_map, IfSome}
-use Rattle.combine.specs.declared.chosen.Rule.TheVariants.{Majority, Median}
+use Rattle.std.specs.Prelude.{◌==◌, decimal, flat_map, IfSome, not}
+use Rattle.combine.specs.Names.{rule_name}
+use Rattle.book.proofs.RuleNames.{name_lacks_feed}
+use Rattle.text.proofs.BytesLemmas.{all-append}
 use Rattle.survey.specs.declared.finding.Finding.{Finding}
 use Rattle.survey.specs.declared.manner.Manner.{Manner}
 use Rattle.survey.specs.declared.manner.Manner.TheVariants.{Oral, Signed}
@@ -13,8 +15,7 @@ use Rattle.survey.specs.Parts.{IsHeadLine, IsLine, IsUnfed, found_in, row_text}
 use Rattle.survey.proofs.Walks.{decimal_unfed, member_line}
 
 manner_unfed : (m : Manner) → IsUnfed (manner_word m)
-manner_unfed (Oral Majority) = refl
-manner_unfed (Oral Median) = refl
+manner_unfed (Oral rule) = all-append (λ c. not (c == 10)) (codes "\"") (rule_name rule ++ codes "\"") refl (all-append (λ c. not (c == 10)) (rule_name rule) (codes "\"") (name_lacks_feed rule) refl)
 manner_unfed Signed = refl
 
 patience_unfed : (p : Option ℕ) → IfSome p (λ steps. steps < 2 ^ 64) → IsUnfed (patience_word p)

@@ -2,7 +2,7 @@
 -- ascending.
 use Rattle.std.specs.Prelude.{ℕ, ◌≡◌, ◌<◌, ◌^◌, ◌==◌, not, true, Bool, IfSome, List, [], ◌∷◌, ◌++◌, take, decimal, bytes_eq, codes, Option, None, Some, string_bytes}
 use Rattle.std.specs.List.{list_all}
-use Rattle.combine.specs.declared.chosen.Rule.TheVariants.{Majority, Median}
+use Rattle.combine.specs.Names.{rule_name}
 use Rattle.survey.specs.declared.adversary.Adversary.{Adversary}
 use Rattle.survey.specs.declared.adversary.Adversary.TheVariants.{Lies, Silent, Collude, Given}
 use Rattle.survey.specs.declared.manner.Manner.{Manner}
@@ -20,8 +20,7 @@ adversary_word Collude = codes "\"collude\""
 adversary_word (Given hex) = codes "\"0x" ++ (string_bytes hex ++ codes "\"")
 
 abbrev pub manner_word : Manner → List ℕ
-manner_word (Oral Majority) = codes "\"majority\""
-manner_word (Oral Median) = codes "\"median\""
+manner_word (Oral rule) = codes "\"" ++ (rule_name rule ++ codes "\"")
 manner_word Signed = codes "\"signed\""
 
 abbrev pub patience_word : Option ℕ → List ℕ

@@ -1,6 +1,7 @@
 -- The text of a campaign (docs/FORMATS.md, "Scenarios").
-use Rattle.std.specs.Prelude.{ℕ, Bool, true, false, List, [], ◌++◌, flat_map, decimal, codes, Option, None, Some}
-use Rattle.combine.specs.declared.chosen.Rule.TheVariants.{Majority, Median}
+use Rattle.std.specs.Prelude.{ℕ, Bool, true, false, if◌then◌else◌, List, [], ◌++◌, flat_map, decimal, codes, Option, None, Some}
+use Rattle.combine.specs.declared.chosen.Rule.{Rule}
+use Rattle.combine.specs.Names.{is_default, rule_name}
 use Rattle.survey.specs.declared.lie.Lie.{Lie}
 use Rattle.survey.specs.declared.lie.Lie.TheVariants.{Honest, Sway, Sign, Pass}
 use Rattle.survey.specs.declared.lie.Said.{Said}
@@ -41,9 +42,12 @@ source_text (Some hex) t = codes "\ncode = \"" ++ hex ++ codes "\"\n"
 unfoldable pub traitor_text : Option (List ℕ) → Traitor → List ℕ
 traitor_text given t = codes "\n[[traitor]]\ngeneral = " ++ (decimal t.general ++ source_text given t)
 
+-- a rule, but for the one that is so where none is named
+abbrev pub rule_text : Rule → List ℕ
+rule_text rule = if is_default rule then [] else codes "rule = \"" ++ (rule_name rule ++ codes "\"\n")
+
 abbrev pub manner_text : Manner → List ℕ
-manner_text (Oral Majority) = []
-manner_text (Oral Median) = codes "rule = \"median\"\n"
+manner_text (Oral rule) = rule_text rule
 manner_text Signed = codes "messages = \"signed\"\n"
 
 abbrev pub patience_text : Option ℕ → List ℕ

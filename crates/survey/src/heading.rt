@@ -1,5 +1,5 @@
 //! The head of lines: the family whose campaigns they tell.
-ghost use Rattle.std.specs.Prelude.{◌≡◌, ◌++◌, IfOk, OnOk, string_bytes};
+ghost use Rattle.std.specs.Prelude.{◌≡◌, ◌++◌, IfOk, OnOk, codes, string_bytes};
 ghost use Rattle.survey.specs.Heads.{adversary_word, head_end, head_front, head_middle, head_text, is_head, manner_word, patience_word};
 
 use crate::adversary::Adversary;
@@ -7,7 +7,6 @@ use crate::family::Family;
 use crate::manner::Manner;
 use crate::putting::put_numbered;
 use crate::span::Span;
-use combine::Rule;
 use std::alloc::{AllocError, Global};
 
 /// What the traitors do.
@@ -23,14 +22,20 @@ fn adversary_word(alloc: Global, adversary: &Adversary) -> Result<String, AllocE
 }
 
 /// How orders are sent.
-fn manner_word(manner: Manner) -> &'static str
-    ensures { result.now ≡ manner_word manner }
+fn manner_word(alloc: Global, manner: Manner) -> Result<String, AllocError>
+    ensures { IfOk result (λ word. string_bytes word ≡ manner_word manner) }
 {
     match manner {
-        Manner::Oral(Rule::Majority) => "\"majority\"",
-        Manner::Oral(Rule::Median) => "\"median\"",
-        Manner::Signed => "\"signed\"",
+        Manner::Oral(rule) => quoted(alloc, rule.name()),
+        Manner::Signed => String::from_str(alloc, "\"signed\""),
     }
+}
+
+/// A word in quotation marks.
+fn quoted(alloc: Global, word: &str) -> Result<String, AllocError>
+    ensures { IfOk result (λ text. string_bytes text ≡ codes "\"" ++ (word.now ++ codes "\"")) }
+{
+    format!(in alloc; "\"{word}\"")
 }
 
 /// For how long traitors are waited for.
@@ -90,11 +95,12 @@ pub fn head(alloc: Global, family: &Family) -> Result<String, AllocError>
     ensures { IfOk result (λ text. string_bytes text ≡ head_text family.now) }
 {
     let adversary = adversary_word(alloc, family.adversary())?;
+    let manner = manner_word(alloc, family.manner())?;
     let patience = patience_word(alloc, family.patience())?;
     let mut out = String::new(alloc);
     put_word(&mut out, "{\"adversary\":", adversary.as_str())?;
     put_front(&mut out, family.bound(), family.generals())?;
-    put_middle(&mut out, manner_word(family.manner()), patience.as_str())?;
+    put_middle(&mut out, manner.as_str(), patience.as_str())?;
     put_end(&mut out, family.traitors())?;
     Ok(out)
 }

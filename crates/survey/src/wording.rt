@@ -1,6 +1,6 @@
 //! The text of a campaign.
 ghost use Rattle.std.specs.Prelude.{◌≡◌, ◌++◌, OnOk, IfOk, codes, decimal, flat_map, option_map, string_bytes};
-ghost use Rattle.survey.specs.Wording.{call_text, campaign_text, counting_text, lie_text, manner_text, numbers_text, patience_text, plot_text, program_text, said_text, source_text, traitor_text};
+ghost use Rattle.survey.specs.Wording.{call_text, campaign_text, counting_text, lie_text, manner_text, numbers_text, patience_text, plot_text, program_text, said_text, rule_text, source_text, traitor_text};
 
 use crate::family::Family;
 use crate::lie::{Lie, Said};
@@ -144,13 +144,24 @@ fn put_traitors(
     Ok(())
 }
 
+/// Adds by which rule orders are combined, but for the one that is so where none is named.
+fn put_rule(out: &mut String, rule: Rule) -> Result<(), AllocError>
+    ensures { OnOk result (string_bytes out.new ≡ string_bytes out.old ++ rule_text rule) }
+{
+    if rule.is_default() {
+        return Ok(());
+    }
+    out.push_str("rule = \"")?;
+    out.push_str(rule.name())?;
+    out.push_str("\"\n")
+}
+
 /// Adds how orders are sent.
 fn put_manner(out: &mut String, manner: Manner) -> Result<(), AllocError>
     ensures { OnOk result (string_bytes out.new ≡ string_bytes out.old ++ manner_text manner) }
 {
     match manner {
-        Manner::Oral(Rule::Majority) => Ok(()),
-        Manner::Oral(Rule::Median) => out.push_str("rule = \"median\"\n"),
+        Manner::Oral(rule) => put_rule(out, rule),
         Manner::Signed => out.push_str("messages = \"signed\"\n"),
     }
 }

@@ -26,4 +26,5 @@ abbrev pub IsUnasked : AskedError → ℕ → Type 0
 IsUnasked (asked.Words refusal) status =
     (IsMistake (kind_of refusal) × (status ≡ 2)) ⊎ (¬ IsMistake (kind_of refusal) × (status ≡ 0))
 IsUnasked (asked.Value why) status = status ≡ 2
+IsUnasked asked.Rule status = status ≡ 2
 IsUnasked asked.Memory status = ⊥

@@ -1,10 +1,10 @@
 -- What words name (docs/FORMATS.md, "Surveys").
-use Rattle.std.specs.Prelude.{ℕ, ◌≡◌, ◌≢◌, IsSomeAnd, Bool, true, false, if◌then◌else◌, List, bytes_eq, codes, Option, None, Some, string_bytes}
+use Rattle.std.specs.Prelude.{ℕ, ◌≡◌, ◌≢◌, IsSomeAnd, Bool, true, false, List, codes, Option, None, Some, option_map, string_bytes}
 use Rattle.hex.specs.Hex.{encode_lower}
 use Rattle.asm.specs.Program.{program_of}
 use Rattle.codec.specs.Spelling.{program_bytes}
 use Rattle.verify.specs.Judgement.{judged}
-use Rattle.combine.specs.declared.chosen.Rule.TheVariants.{Majority, Median}
+use Rattle.combine.specs.Names.{default_rule, rule_named}
 use Rattle.survey.specs.declared.adversary.Adversary.{Adversary}
 use Rattle.survey.specs.declared.adversary.Adversary.TheVariants.{Lies, Silent, Collude, Given}
 use Rattle.survey.specs.declared.manner.Manner.{Manner}
@@ -14,16 +14,13 @@ use Rattle.surveyor.specs.declared.asked.Survey.{Survey}
 
 abbrev pub plain_manner : Bool → Manner
 plain_manner true = Signed
-plain_manner false = Oral Majority
+plain_manner false = Oral default_rule
 
 -- how messages are sent, by a rule, if one is named, and by whether they are signed
 abbrev pub manner_named : Option (List ℕ) → Bool → Option Manner
 manner_named None signed = Some (plain_manner signed)
 manner_named (Some rule) true = None
-manner_named (Some rule) false =
-    if bytes_eq rule (codes "majority") then Some (Oral Majority)
-    else if bytes_eq rule (codes "median") then Some (Oral Median)
-    else None
+manner_named (Some rule) false = option_map Oral (rule_named rule)
 
 -- the text is an assembly program that the verifier accepts, and this is its bytecode in hex
 abbrev pub IsProgramOf : List ℕ → List ℕ → Type 0

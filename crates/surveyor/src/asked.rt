@@ -69,6 +69,8 @@ pub enum AskedError {
     Words(clap::Error),
     /// What is wrong with the value of an option.
     Value(&'static str),
+    /// That its rule is none.
+    Rule,
     /// Want of memory.
     Memory,
 }
@@ -89,8 +91,6 @@ const SEEDS: &str =
     "--seeds takes up to 10000000 numbers below 18446744073709551615, as 7 or 1..1000";
 
 const PATIENCE: &str = "--patience takes 1 to 4096";
-
-const RULE: &str = "--rule takes majority or median";
 
 const SIGNED: &str = "signed messages have no rule";
 
@@ -121,7 +121,11 @@ fn switch<'a>(alloc: Global, name: &'a str, help: &'a str) -> Arg<'a> {
 }
 
 /// The options that say which campaigns there are, added to a command.
-fn with_family<'a>(alloc: Global, command: Command<'a>) -> Result<Command<'a>, AllocError> {
+fn with_family<'a>(
+    alloc: Global,
+    command: Command<'a>,
+    rules: &'a str,
+) -> Result<Command<'a>, AllocError> {
     command
         .arg(option(
             alloc,
@@ -147,12 +151,7 @@ fn with_family<'a>(alloc: Global, command: Command<'a>) -> Result<Command<'a>, A
             "N..M",
             "The seeds, each of which gives a campaign, 10000000 at most [default: 1..1000]",
         ))?
-        .arg(option(
-            alloc,
-            "rule",
-            "RULE",
-            "How orders are combined: majority or median [default: majority]",
-        ))?
+        .arg(option(alloc, "rule", "RULE", rules))?
         .arg(option(
             alloc,
             "patience",
@@ -214,12 +213,19 @@ fn with_shapes<'a>(alloc: Global, command: Command<'a>) -> Result<Command<'a>, A
         )
 }
 
+/// What is said of `--rule`.
+fn rules(alloc: Global) -> Result<String, AllocError> {
+    let names = Rule::names();
+    let default = Rule::DEFAULT.name();
+    format!(in alloc; "How orders are combined: {names} [default: {default}]")
+}
+
 /// What may be asked for, as `clap` is told of it.
-fn command<'a>(alloc: Global) -> Result<Command<'a>, AllocError> {
+fn command<'a>(alloc: Global, rules: &'a str) -> Result<Command<'a>, AllocError> {
     let command = Command::new(alloc, "survey")
         .no_binary_name(true)
         .bin_name("byzlab survey")?;
-    let command = with_shapes(alloc, with_family(alloc, command)?)?;
+    let command = with_shapes(alloc, with_family(alloc, command, rules)?)?;
     Ok(command.about("Plays many campaigns of a family, and counts how they come out"))
 }
 
@@ -238,13 +244,10 @@ fn manner_named(rule: Option<&str>, is_signed: bool) -> Option<Manner>
     if is_signed {
         return None;
     }
-    if rule.as_bytes() == b"majority".as_slice() {
-        return Some(Manner::Oral(Rule::Majority));
+    match Rule::named(rule.as_bytes()) {
+        Some(rule) => Some(Manner::Oral(rule)),
+        None => None,
     }
-    if rule.as_bytes() == b"median".as_slice() {
-        return Some(Manner::Oral(Rule::Median));
-    }
-    None
 }
 
 /// How messages are sent where no rule is named.
@@ -254,17 +257,17 @@ fn plain_manner(is_signed: bool) -> Manner
     if is_signed {
         Manner::Signed
     } else {
-        Manner::Oral(Rule::Majority)
+        Manner::Oral(Rule::DEFAULT)
     }
 }
 
 /// How messages are sent.
-fn manner(found: &ArgMatches) -> Result<Manner, &'static str> {
+fn manner(found: &ArgMatches) -> Result<Manner, AskedError> {
     let is_signed = found.get_flag("signed");
     match manner_named(found.get_str("rule"), is_signed) {
         Some(manner) => Ok(manner),
-        None if is_signed => Err(SIGNED),
-        None => Err(RULE),
+        None if is_signed => Err(AskedError::Value(SIGNED)),
+        None => Err(AskedError::Rule),
     }
 }
 
@@ -323,7 +326,7 @@ fn survey_of<'a>(alloc: Global, found: &ArgMatches<'a>, some: &'a str) -> Result
         generals,
         bound,
         traitors,
-        manner: manner(found).map_err(AskedError::Value)?,
+        manner: manner(found)?,
         patience: patience_of(found)?,
         adversary: String::from_str(alloc, value(found, "adversary", "lies"))?,
         first: seeds.0,
@@ -415,7 +418,8 @@ fn meant(alloc: Global, found: &ArgMatches) -> Result<Asked, AskedError>
 pub fn request(alloc: Global, words: &[&str]) -> Result<Asked, AskedError>
     ensures { IfOk result IsAsked }
 {
-    let command = command(alloc)?;
+    let rules = rules(alloc)?;
+    let command = command(alloc, rules.as_str())?;
     match command.try_get_matches_from(words) {
         Ok(found) => meant(alloc, &found),
         Err(error) if error.kind() == ErrorKind::OutOfMemory => Err(AskedError::Memory),

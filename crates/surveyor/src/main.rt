@@ -21,6 +21,7 @@ ghost use Rattle.surveyor.specs.Telling.{IsUnasked};
 
 use asked::{Asked, AskedError, request};
 use breaking::broken;
+use combine::Rule;
 use std::env;
 use std::process::ExitCode;
 use std::thread::Threads;
@@ -73,6 +74,11 @@ fn unasked(rt: &HostRuntime, error: AskedError) -> Result<u8, Fault>
         }
         AskedError::Value(why) => {
             let _ = rt.eprintln(format_args!("error: {why}"));
+            Ok(2)
+        }
+        AskedError::Rule => {
+            let names = Rule::names();
+            let _ = rt.eprintln(format_args!("error: --rule takes {names}"));
             Ok(2)
         }
         AskedError::Memory => Err(Fault::Memory),

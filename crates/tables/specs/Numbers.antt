@@ -1,14 +1,14 @@
 -- The numbers of a campaign, as words.
 use Rattle.std.specs.Prelude.{ℕ, ◌≡◌, true, List, Option, Some}
 use Rattle.combine.specs.declared.chosen.Rule.{Rule}
-use Rattle.combine.specs.declared.chosen.Rule.TheVariants.{Majority}
+use Rattle.combine.specs.Names.{default_rule}
 use Rattle.book.specs.Grammar.{is_within}
 use Rattle.text.specs.Number.{decimal_of}
 use Rattle.text.specs.Options.{◌>>=◌}
 
 -- what the first line of a table with these words says
 unfoldable pub numbers_in : List ℕ → List ℕ → List ℕ → Option (ℕ × ℕ × ℕ × Rule)
-numbers_in n m c = decimal_of n >>= λ a. decimal_of m >>= λ b. decimal_of c >>= λ k. Some (a, b, k, Majority)
+numbers_in n m c = decimal_of n >>= λ a. decimal_of m >>= λ b. decimal_of c >>= λ k. Some (a, b, k, default_rule)
 
 -- they are numbers within the limits of a campaign, of which this is how many generals it has
 abbrev pub HasGenerals : List ℕ → List ℕ → List ℕ → ℕ → Type 0

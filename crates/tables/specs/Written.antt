@@ -3,17 +3,16 @@ use Rattle.std.specs.Prelude.{ℕ, zero, suc, ◌+◌, ◌==◌, Bool, false, if
 use Rattle.std.specs.Fmt.{decimal}
 use Rattle.std.specs.List.{flat_map, range_with_len}
 use Rattle.combine.specs.declared.chosen.Rule.{Rule}
-use Rattle.combine.specs.declared.chosen.Rule.TheVariants.{Majority, Median}
+use Rattle.combine.specs.Names.{is_default, rule_name}
 use Rattle.label.specs.Labels.{others}
 use Rattle.label.specs.Oral.{Messages}
 use Rattle.book.specs.Explained.{dotted}
 use Rattle.tables.specs.declared.mark.Mark.{Mark}
 use Rattle.tables.specs.declared.mark.Mark.TheVariants.{Order, Open, Silence}
 
--- what stands behind the numbers of the first line: a rule that is not the majority
+-- what stands behind the numbers of the first line: a rule, but for the one that is so where none is named
 abbrev pub rule_words : Rule → List ℕ
-rule_words Majority = []
-rule_words Median = codes " rule median"
+rule_words rule = if is_default rule then [] else codes " rule " ++ rule_name rule
 
 -- the campaign's numbers, and its rule
 abbrev pub first_line : ℕ → ℕ → ℕ → Rule → List ℕ

@@ -1,5 +1,5 @@
 ghost use Rattle.std.specs.Prelude.{◌≡◌, ◌≢◌, IfOk, IfErr, Err, Some, string_bytes};
-ghost use Rattle.combine.specs.declared.chosen.Rule.TheVariants.{Majority};
+ghost use Rattle.combine.specs.Names.{default_rule};
 ghost use Rattle.book.specs.Grammar.{opened};
 ghost use Rattle.book.specs.Table.{AreNumbersWithin};
 ghost use Rattle.book.specs.declared.fault.TableError.TheVariants.{Memory};
@@ -34,7 +34,7 @@ pub fn filled(
 {
     let (generals, bound, commander) = numbers(generals, bound, commander)?;
     let marks = LoyalMarks { order, liar };
-    Ok(write(alloc, &marks, generals, bound, commander, Rule::Majority)?)
+    Ok(write(alloc, &marks, generals, bound, commander, Rule::DEFAULT)?)
 }
 
 /// How many generals a campaign with these numbers has.
@@ -54,7 +54,8 @@ pub fn generals_in(generals: &str, bound: &str, commander: &str) -> Result<u8, T
 /// The numbers of a campaign, as they stand on the first line of a table.
 #[tactic(auto, unfolding(crate::specs::Numbers::numbers_in))]
 fn numbers(generals: &str, bound: &str, commander: &str) -> Result<(u8, u8, u8), TableError>
-    ensures told { IfOk result (λ n. numbers_in generals.now bound.now commander.now ≡ Some (n.0, n.1, n.2, Majority)) }
+    ensures told { IfOk result
+        (λ n. numbers_in generals.now bound.now commander.now ≡ Some (n.0, n.1, n.2, default_rule)) }
     ensures within { IfOk result (λ n. AreNumbersWithin n.0 n.1 n.2) }
     ensures refused { IfErr result (λ e. (e ≢ Memory)
         × (opened (numbers_in generals.now bound.now commander.now) ≡ Err e)) }

@@ -59,7 +59,7 @@ fn prolonged(alloc: Global, label: &Label, name: &str, general: u8) -> Result<St
     format!(in alloc; "{name}.{general}")
 }
 
-/// The campaign's numbers, and its rule where it is not the majority.
+/// The campaign's numbers, and its rule, but for the one that is so where none is named.
 fn first_line(
     alloc: Global,
     generals: u8,
@@ -69,18 +69,20 @@ fn first_line(
 ) -> Result<String, AllocError>
     ensures { IfOk result (λ text. string_bytes text ≡ first_line generals bound commander rule) }
 {
-    let rule = rule_words(rule);
+    let words = rule_words(alloc, rule)?;
+    let rule = words.as_str();
     format!(in alloc; "generals {generals} bound {bound} commander {commander}{rule}\n")
 }
 
 /// What stands behind the numbers.
-fn rule_words(rule: Rule) -> &'static str
-    ensures { result.now ≡ rule_words rule }
+fn rule_words(alloc: Global, rule: Rule) -> Result<String, AllocError>
+    ensures { IfOk result (λ words. string_bytes words ≡ rule_words rule) }
 {
-    match rule {
-        Rule::Majority => "",
-        Rule::Median => " rule median",
+    if rule.is_default() {
+        return Ok(String::new(alloc));
     }
+    let name = rule.name();
+    format!(in alloc; " rule {name}")
 }
 
 /// Adds the lines of the labels that have so many generals more than this one, which is written so.

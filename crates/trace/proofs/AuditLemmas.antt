@@ -4,7 +4,7 @@ use Rattle.std.specs.Prelude.{slice_get, bytes_eq, codes, if◌then◌else◌}
 use Rattle.std.specs.Global.{Global}
 use Rattle.std.proofs.lemmas.List.{take_all}
 use Rattle.combine.specs.declared.chosen.Rule.{Rule}
-use Rattle.combine.specs.declared.chosen.Rule.TheVariants.{Majority, Median}
+use Rattle.combine.specs.Names.{is_default}
 use Rattle.round.specs.Scenario.{Scenario}
 use Rattle.world.specs.Playing.{lists_in}
 use Rattle.world.specs.declared.event.Event.{Event}
@@ -40,30 +40,28 @@ first_rounds K (suc k) (line ∷ lines) w =
 -- a text names its version
 pub version_known : (rule : Rule) (v : Version) (c : Chronicle) → Admits rule v → version_named rule (text_in v c) ≡ Some v
 unfolding version_named text_in lines_in
-version_known Majority First c a = refl
-version_known Median First c a = absurd a
-version_known Majority Second c a = refl
-version_known Median Second c a = refl
+version_known rule First c a = ap (λ b. if b then Some First else None) a
+version_known rule Second c a = refl
 
--- the first version is not named under the median
-median_first : (line : List ℕ) → line_version Median line ≢ Some First
-median_first line h = by (bytes_eq line (codes "chronicle 2")) (bytes_eq line (codes "chronicle 1")) h
+-- the first version is named only under the rule where none is named
+line_first : (rule : Rule) (line : List ℕ) → line_version rule line ≡ Some First → is_default rule ≡ true
+line_first rule line h = by (bytes_eq line (codes "chronicle 2")) (bytes_eq line (codes "chronicle 1")) (is_default rule) h
   where
-    by : (a b : Bool) → (if a then Some Second else if b then None else None) ≡ Some First → ⊥
-    by true b e = absurd cc
-    by false true e = absurd cc
-    by false false e = absurd cc
+    by : (a b is_so : Bool) → (if a then Some Second else if b then (if is_so then Some First else None) else None) ≡ Some First → is_so ≡ true
+    by true b is_so e = absurd cc
+    by false true true e = refl
+    by false true false e = absurd cc
+    by false false is_so e = absurd cc
 
-none_first : (lines : List (List ℕ)) → lines_version Median lines ≢ Some First
-none_first [] h = absurd cc
-none_first (line ∷ lines) h = median_first line h
+lines_first : (rule : Rule) (lines : List (List ℕ)) → lines_version rule lines ≡ Some First → is_default rule ≡ true
+lines_first rule [] h = absurd cc
+lines_first rule (line ∷ lines) h = line_first rule line h
 
 -- what is named is admitted
 pub named_admitted : (rule : Rule) (v : Version) (t : List ℕ) → version_named rule t ≡ Some v → Admits rule v
 unfolding version_named
 named_admitted rule Second t h = tt
-named_admitted Majority First t h = tt
-named_admitted Median First t h = none_first (pieces feed t) h
+named_admitted rule First t h = lines_first rule (pieces feed t) h
 
 -- a sound text in the version that it names
 sound_version : (s : Scenario) (t : List ℕ) (v : Version) → version_named s.rule t ≡ Some v → (h : IsSoundText s t) → t ≡ text_in v (chronicle_told s t)

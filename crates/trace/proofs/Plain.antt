@@ -1,11 +1,14 @@
 -- The lines of a chronicle are lines of plain words.
-use Rattle.std.proofs.Common.{◌≡◌, ℕ, suc, List, [], ◌∷◌, ◌++◌, map, flat_map, Bool, true, false, refl, Option, None, Some}
+use Rattle.std.proofs.Common.{◌≡◌, ℕ, suc, List, [], ◌∷◌, ◌++◌, map, flat_map, Bool, true, false, refl, Option, None, Some, arith}
 use Rattle.std.specs.Prelude.{decimal, codes, nat_lt, filter, ◌==◌}
 use Rattle.std.specs.List.{list_all}
+use Rattle.std.proofs.lemmas.Bool.Decides.{nat_tests}
 use Rattle.std.proofs.lemmas.Bool.{and_parts, ltb-true}
 use Rattle.insn.specs.declared.insn.Insn.{Insn}
 use Rattle.combine.specs.declared.chosen.Rule.{Rule}
-use Rattle.combine.specs.declared.chosen.Rule.TheVariants.{Majority, Median}
+use Rattle.combine.specs.Names.{is_small, rule_name}
+use Rattle.combine.proofs.NameLaws.{names_law}
+use Rattle.text.proofs.BytesLemmas.{all-weaker}
 use Rattle.semantics.specs.declared.request.Request.{Request}
 use Rattle.semantics.specs.declared.request.Request.TheVariants.{Get, Swap, Add, Cas, Copy}
 use Rattle.board.specs.Board.{Access}
@@ -14,7 +17,7 @@ use Rattle.round.specs.Letters.{Letter}
 use Rattle.world.specs.declared.verdict.Verdict.{Verdict}
 use Rattle.world.specs.Chronicle.{Chronicle}
 use Rattle.label.specs.Lieutenants.{lieutenants}
-use Rattle.trace.specs.Text.{Word, Line, asked, access_line, place, row_lines, yes_no, yes_no_none, letter_line, letter_lines, rounds_told, decision_line, decision_lines, verdict_line, version_word, version_line, rule_word, campaign_words, further_words, head_lines, lines_behind, lines_in}
+use Rattle.trace.specs.Text.{Word, Line, asked, access_line, place, row_lines, yes_no, yes_no_none, letter_line, letter_lines, rounds_told, decision_line, decision_lines, verdict_line, version_word, version_line, campaign_words, further_words, head_lines, lines_behind, lines_in}
 use Rattle.trace.specs.declared.version.Version.{Version}
 use Rattle.trace.specs.declared.version.Version.TheVariants.{First, Second}
 use Rattle.trace.proofs.Splitting.{IsPlain, ArePlain, IsLine, AreLines, decimal_plain}
@@ -105,9 +108,11 @@ version_plain : (v : Version) → IsPlain (version_word v)
 version_plain First = by_test (codes "1") refl
 version_plain Second = by_test (codes "2") refl
 
-rule_plain : (r : Rule) → IsPlain (rule_word r)
-rule_plain Majority = by_test (codes "majority") refl
-rule_plain Median = by_test (codes "median") refl
+past_space : (c : ℕ) → is_small c ≡ true → nat_lt 32 c ≡ true
+past_space c h = grind (arith, nat_tests)
+
+rule_plain : (r : Rule) → IsPlain (rule_name r)
+rule_plain r = by_test (rule_name r) (all-weaker is_small (λ c. nat_lt 32 c) past_space (rule_name r) (names_law.letters r))
 
 head_plain : (v : Version) (patience : Option ℕ) (rule : Rule) → ArePlain (further_words v patience rule)
 head_plain First patience rule = tt

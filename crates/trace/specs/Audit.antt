@@ -1,7 +1,7 @@
 -- What an audit answers to a text that is not sound (own).
 use Rattle.std.specs.Prelude.{ℕ, suc, ◌≡◌, ◌≢◌, ◌≤◌, ◌==◌, nat_le, if◌then◌else◌, List, [], ◌∷◌, length, take, slice_get, count_by, bytes_eq, codes, Option, Some, None}
 use Rattle.combine.specs.declared.chosen.Rule.{Rule}
-use Rattle.combine.specs.declared.chosen.Rule.TheVariants.{Majority, Median}
+use Rattle.combine.specs.Names.{is_default}
 use Rattle.text.specs.Stop.{feed}
 use Rattle.text.specs.Parts.{pieces}
 use Rattle.round.specs.Scenario.{Scenario}
@@ -17,8 +17,7 @@ use Rattle.trace.specs.Shapes.{unshaped_from}
 
 -- the version that a first line names, where a campaign by the rule may be told in it
 abbrev pub first_version : Rule → Option Version
-first_version Majority = Some First
-first_version Median = None
+first_version rule = if is_default rule then Some First else None
 
 abbrev pub line_version : Rule → List ℕ → Option Version
 line_version rule line = if bytes_eq line (codes "chronicle 2") then Some Second

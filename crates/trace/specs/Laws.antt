@@ -1,7 +1,7 @@
 -- What holds of every chronicle's text. Each statement is the contract of a function of this crate.
-use Rattle.std.specs.Prelude.{ℕ, ◌≡◌, ◌<◌, ◌↔◌, All, List, length}
+use Rattle.std.specs.Prelude.{ℕ, ◌≡◌, ◌<◌, ◌↔◌, true, All, List, length}
 use Rattle.combine.specs.declared.chosen.Rule.{Rule}
-use Rattle.combine.specs.declared.chosen.Rule.TheVariants.{Majority, Median}
+use Rattle.combine.specs.Names.{is_default}
 use Rattle.world.specs.declared.event.Event.{Event}
 use Rattle.round.specs.Scenario.{Scenario, IsScenario}
 use Rattle.world.specs.World.{opening, run}
@@ -17,11 +17,10 @@ abbrev pub NamesAreTold : Type 0
 NamesAreTold = (v : Version) (c : Chronicle) → All (λ a. a.general < 13) c.accesses →
     names_of (text_in v c) ≡ names_in 1 c.accesses (length c.letters)
 
--- the versions in which a campaign may be told: the second always, the first where the rule is the majority
+-- the versions in which a campaign may be told: the second always, the first by the rule where none is named
 abbrev pub Admits : Rule → Version → Type 0
 Admits rule Second = Unit {0}
-Admits Majority First = Unit {0}
-Admits Median First = ⊥
+Admits rule First = is_default rule ≡ true
 
 -- an audit replays the accesses in the order that the text tells, and compares the texts
 pub record IsSoundText (s : Scenario) (t : List ℕ) : Type 0 where

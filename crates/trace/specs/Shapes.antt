@@ -1,6 +1,7 @@
 -- The shapes of a chronicle's lines: each is a line's alone, whatever its numbers (own).
 use Rattle.std.specs.Prelude.{ℕ, suc, ◌==◌, ◌&&◌, ◌||◌, nat_lt, Bool, true, false, if◌then◌else◌, List, [], ◌∷◌, length, bytes_eq, codes, Option, Some, None, is_some}
 use Rattle.std.specs.List.{list_all}
+use Rattle.combine.specs.Names.{rule_named}
 use Rattle.text.specs.Stop.{dot, space}
 use Rattle.text.specs.Parts.{pieces}
 use Rattle.text.specs.Number.{decimal_of}
@@ -27,7 +28,7 @@ abbrev pub are_receivers : Word → Bool
 are_receivers word = is_dash word || are_joined word
 
 -- whether a word is what a word of a shape stands for: N for a number, P for a number or a dash, A for yes or no, B for
--- these or a dash, S for numbers joined by dots, R for these or a dash, any other for itself
+-- these or a dash, S for numbers joined by dots, R for these or a dash, C for a rule's word, any other for itself
 unfoldable pub stands_for : Word → Word → Bool
 stands_for kind word =
     if bytes_eq kind (codes "N") then is_number word
@@ -36,6 +37,7 @@ stands_for kind word =
     else if bytes_eq kind (codes "B") then (is_dash word || is_yes_no word)
     else if bytes_eq kind (codes "S") then are_joined word
     else if bytes_eq kind (codes "R") then are_receivers word
+    else if bytes_eq kind (codes "C") then is_some (rule_named word)
     else bytes_eq word kind
 
 -- the words behind those of a shape
@@ -66,8 +68,7 @@ is_version words =
 unfoldable pub is_campaign : List Word → Bool
 is_campaign words =
     fits (codes "generals N bound N commander N order N") words
-    || fits (codes "generals N bound N commander N order N patience P rule majority") words
-    || fits (codes "generals N bound N commander N order N patience P rule median") words
+    || fits (codes "generals N bound N commander N order N patience P rule C") words
     || fits (codes "signed generals N bound N commander N order N patience P") words
 
 -- places to the end of a line, at least one: each label of a row has a receiver

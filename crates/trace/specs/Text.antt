@@ -1,8 +1,8 @@
 -- The text of a chronicle, line by line (own).
-use Rattle.std.specs.Prelude.{ℕ, suc, ◌==◌, Bool, true, false, List, [], ◌∷◌, ◌++◌, map, flat_map, filter, decimal, codes, Option, None, Some}
+use Rattle.std.specs.Prelude.{ℕ, suc, ◌==◌, Bool, true, false, List, [], ◌∷◌, ◌++◌, map, flat_map, filter, decimal, codes, Option, None, Some, if◌then◌else◌}
 use Rattle.insn.specs.declared.insn.Insn.{Insn}
 use Rattle.combine.specs.declared.chosen.Rule.{Rule}
-use Rattle.combine.specs.declared.chosen.Rule.TheVariants.{Majority, Median}
+use Rattle.combine.specs.Names.{is_default, rule_name}
 use Rattle.semantics.specs.declared.request.Request.{Request}
 use Rattle.semantics.specs.declared.request.Request.TheVariants.{Get, Swap, Add, Cas, Copy}
 use Rattle.board.specs.Board.{Access}
@@ -93,18 +93,13 @@ abbrev pub verdict_line : Verdict → Line
 verdict_line v = codes "verdict" ∷ codes "alike" ∷ yes_no v.alike ∷ codes "obeyed" ∷ yes_no_none v.obeyed ∷
     codes "bound" ∷ yes_no v.bound ∷ []
 
--- a campaign without a patience, by the majority, is told in the first version, any other in the second
+-- a campaign without a patience, by the rule where none is named, is told in the first version, any other in the second
 abbrev pub version_by : Option ℕ → Rule → Version
-version_by None Majority = First
-version_by None Median = Second
+version_by None rule = if is_default rule then First else Second
 version_by (Some patience) rule = Second
 
 abbrev pub version_of : Scenario → Version
 version_of s = version_by s.patience s.rule
-
-abbrev pub rule_word : Rule → Word
-rule_word Majority = codes "majority"
-rule_word Median = codes "median"
 
 abbrev pub version_word : Version → Word
 version_word First = codes "1"
@@ -120,7 +115,7 @@ campaign_words n m c order = codes "generals" ∷ decimal n ∷ codes "bound" �
 -- what a version tells behind the order
 abbrev pub further_words : Version → Option ℕ → Rule → List Word
 further_words First patience rule = []
-further_words Second patience rule = codes "patience" ∷ place patience ∷ codes "rule" ∷ rule_word rule ∷ []
+further_words Second patience rule = codes "patience" ∷ place patience ∷ codes "rule" ∷ rule_name rule ∷ []
 
 abbrev pub head_lines : Version → Scenario → List Line
 head_lines v s =

@@ -23,9 +23,10 @@ use world::{Chronicle, Verdict, replay};
 fn first_version(rule: Rule) -> Option<Version>
     ensures { result ≡ first_version rule }
 {
-    match rule {
-        Rule::Majority => Some(Version::First),
-        Rule::Median => None,
+    if rule.is_default() {
+        Some(Version::First)
+    } else {
+        None
     }
 }
 

@@ -1,7 +1,8 @@
 //! The first two lines of a chronicle, written to a sink.
 ghost use Rattle.std.specs.Prelude.{◌≡◌, ◌∷◌, [], Option};
+ghost use Rattle.combine.specs.Names.{rule_name};
 ghost use Rattle.trace.specs.Sinks.{Wrote};
-ghost use Rattle.trace.specs.Text.{spaced, further, text, rule_word, version_line, campaign_words, further_words};
+ghost use Rattle.trace.specs.Text.{spaced, further, text, version_line, campaign_words, further_words};
 
 use crate::lines::put_order;
 use crate::sink::Sink;
@@ -33,13 +34,11 @@ pub fn put_campaign<S: Sink>(sink: &mut S, generals: u32, bound: u32, commander:
 
 /// The rule's word, behind a space.
 fn put_rule<S: Sink>(sink: &mut S, rule: Rule)
-    ensures { Wrote (S.contents sink.old) (S.has_failed sink.old) (32 ∷ rule_word rule) (S.contents sink.new)
+    ensures { Wrote (S.contents sink.old) (S.has_failed sink.old) (32 ∷ rule_name rule) (S.contents sink.new)
         (S.has_failed sink.new) }
 {
-    match rule {
-        Rule::Majority => put_all(sink, b" majority"),
-        Rule::Median => put_all(sink, b" median"),
-    }
+    put_all(sink, b" ");
+    put_all(sink, rule.name().as_bytes());
 }
 
 /// The patience and the rule.

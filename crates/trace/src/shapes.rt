@@ -7,6 +7,7 @@ ghost use Rattle.trace.specs.Shapes.{are_joined, are_places, are_receivers, behi
 ghost use Rattle.trace.specs.Shapes.{is_campaign, is_number, is_place, is_shaped, is_told, is_version, is_yes_no, stands_for, unshaped_from};
 
 use crate::stops::{DOT, FEED, SPACE};
+use combine::Rule;
 use text::{decimal, piece};
 
 /// Whether a word is a number, or a dash for nothing.
@@ -46,7 +47,8 @@ fn are_receivers(word: &[u8]) -> bool
 }
 
 /// Whether a word is what a word of a shape stands for: `N` for a number, `P` for a number or a dash, `A` for yes or
-/// no, `B` for these or a dash, `S` for numbers joined by dots, `R` for these or a dash, any other for itself.
+/// no, `B` for these or a dash, `S` for numbers joined by dots, `R` for these or a dash, `C` for a rule's word, any
+/// other for itself.
 #[tactic(auto, unfolding(crate::specs::Shapes::stands_for))]
 fn stands_for(kind: &[u8], word: &[u8]) -> bool
     ensures { result ≡ stands_for kind.now word.now }
@@ -63,6 +65,8 @@ fn stands_for(kind: &[u8], word: &[u8]) -> bool
         are_joined(word)
     } else if kind == b"R".as_slice() {
         are_receivers(word)
+    } else if kind == b"C".as_slice() {
+        Rule::named(word).is_some()
     } else {
         word == kind
     }
@@ -113,11 +117,7 @@ fn is_campaign(line: &[u8]) -> bool
 {
     fits(b"generals N bound N commander N order N", line)
         || fits(
-            b"generals N bound N commander N order N patience P rule majority",
-            line,
-        )
-        || fits(
-            b"generals N bound N commander N order N patience P rule median",
+            b"generals N bound N commander N order N patience P rule C",
             line,
         )
         || fits(

@@ -12,12 +12,12 @@ pub enum Version {
     Second,
 }
 
-/// The version in which a campaign is told: the first without a patience and by the majority.
+/// The version in which a campaign is told: the first without a patience, by the rule where none is named.
 pub fn version_by(patience: Option<u32>, rule: Rule) -> Version
     ensures { result ≡ version_by patience rule }
 {
-    match (patience, rule) {
-        (None, Rule::Majority) => Version::First,
-        (None, Rule::Median) | (Some(_), _) => Version::Second,
+    match patience {
+        None if rule.is_default() => Version::First,
+        None | Some(_) => Version::Second,
     }
 }

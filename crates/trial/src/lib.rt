@@ -11,7 +11,6 @@ mod reader;
 mod relayed;
 mod running;
 mod setting;
-mod spelling;
 mod words;
 
 pub use fault::{Fault, SettingError};

@@ -2,9 +2,8 @@ ghost use Rattle.std.specs.Prelude.{◌≡◌, ◌≤◌, ◌+◌, length, vec_l
 ghost use Rattle.label.specs.Relay.{IsShape, relay};
 ghost use Rattle.trial.specs.Setting.{bench, context_in};
 
-use crate::spelling::spell;
+use contexts::context_telling;
 use label::Shape;
-use mem::Context;
 use std::alloc::{AllocError, Global};
 use std::marker::Model;
 
@@ -104,10 +103,6 @@ impl Setting {
             generals - round,
             0,
         ];
-        let mut bytes = Vec::with_capacity(alloc, Context::BYTES)?;
-        spell(&mut bytes, &header)?;
-        spell(&mut bytes, taken)?;
-        bytes.resize(Context::BYTES, 0)?;
-        Ok(bytes)
+        context_telling(alloc, &header, taken)
     }
 }

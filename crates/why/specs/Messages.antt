@@ -1,15 +1,20 @@
 -- What is said of a fault of a message table.
 use Rattle.std.specs.Prelude.{ℕ, List, ◌++◌, ◌-◌, ◌==◌, ◌||◌, if◌then◌else◌, Option, None, Some, codes, decimal, length}
+use Rattle.combine.specs.Names.{rule_names}
 use Rattle.book.specs.declared.fault.Fault.{Fault}
 use Rattle.book.specs.declared.fault.Fault.TheVariants as fault
 use Rattle.why.specs.Assembly.{begins_marked, has}
 use Rattle.why.specs.Lines.{all_marked, line_at, trimmed}
 use Rattle.why.specs.Report.{report_text}
 
+abbrev pub first_sentence : List ℕ
+first_sentence = codes
+    "the first line is `generals N bound M commander C`, perhaps with ` rule R` behind it, where R is " ++ rule_names
+
 abbrev pub table_sentence : Fault → ℕ → List ℕ
 table_sentence fault.Line number =
     if number == 1
-    then codes "the first line is `generals N bound M commander C`, perhaps with ` rule majority` or ` rule median` behind it"
+    then first_sentence
     else codes "a line is `tell LABEL RECEIVER ORDER`: the label's generals joined by dots, numbers without leading zeros, an order of at most 4294967295"
 table_sentence fault.Range number =
     codes "a table has 2 to 13 generals, a bound of 0 to 4 and at most generals - 2, and a commander below generals"

@@ -6,6 +6,7 @@ use Rattle.std.specs.Str.{IsUtf8, bytes_eq}
 use Rattle.toml.specs.Data.{Members}
 use Rattle.toml.specs.Parse.{parse_document}
 use Rattle.asm.specs.declared.fault.Fault.{Fault as AsmFault}
+use Rattle.combine.specs.Names.{rule_names}
 use Rattle.codec.specs.declared.fault.Fault.{Fault as CodecFault}
 use Rattle.verify.specs.Telling.{code_of}
 use Rattle.verify.specs.declared.reason.Reason.{Reason}
@@ -38,7 +39,7 @@ missing_sentence name = codes "the key `" ++ text_of name ++ codes "` is missing
 
 abbrev pub kind_sentence : Name → List ℕ
 kind_sentence names.Board = codes "a board is a list of whole numbers"
-kind_sentence names.Rule = codes "a rule is a text, \"majority\" or \"median\""
+kind_sentence names.Rule = codes "a rule is a text in quotation marks: " ++ rule_names
 kind_sentence names.Messages = codes "messages are a text, \"oral\" or \"signed\""
 kind_sentence names.Traitor = codes "the traitors are a list of tables, each begun by `[[traitor]]`"
 kind_sentence names.Asm = codes "a program is a text in quotation marks, as `asm = \"mov r0, 0\\nexit\"`"
@@ -52,7 +53,7 @@ range_sentence names.Commander = codes "a general is numbered from 0 on"
 range_sentence names.Order = codes "an order is 0 to 4294967295"
 range_sentence names.Board = codes "a board has at most 64 words"
 range_sentence names.Patience = codes "a patience is 1 to 4096 steps"
-range_sentence names.Rule = codes "a rule is \"majority\" or \"median\""
+range_sentence names.Rule = codes "a rule is " ++ rule_names
 range_sentence names.Messages =
     codes "messages are \"oral\" or \"signed\", and of all but `play` without `--table` and `audit` \"oral\""
 range_sentence name = codes "this value is out of its range"

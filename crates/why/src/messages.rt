@@ -1,21 +1,31 @@
 //! What is said of a fault of a message table.
 ghost use Rattle.std.specs.Prelude.{◌≡◌, IfOk, option_map, string_bytes};
-ghost use Rattle.why.specs.Messages.{shape_advice, stranger_line_told, stranger_told, table_advice, table_line_told, table_sentence, table_told};
+ghost use Rattle.why.specs.Messages.{first_sentence, shape_advice, stranger_line_told, stranger_told, table_advice, table_line_told, table_sentence, table_told};
 ghost use Rattle.why.specs.Report.{help_words};
 
 use crate::assembly::{begins_marked, has};
 use crate::lines::{all_marked, line_at, trimmed};
 use crate::report::{Help, report};
 use book::Fault;
+use combine::Rule;
 use std::alloc::{AllocError, Global};
 
-/// What was wanted in a line of this number.
-fn sentence(fault: Fault, number: u64) -> &'static str
-    ensures { result.now ≡ table_sentence fault number }
+/// What was wanted in the first line.
+fn first_sentence(alloc: Global) -> Result<String, AllocError>
+    ensures { IfOk result (λ text. string_bytes text ≡ first_sentence) }
 {
-    match fault {
-        Fault::Line if number == 1 =>
-            "the first line is `generals N bound M commander C`, perhaps with ` rule majority` or ` rule median` behind it",
+    let names = Rule::names();
+    format!(in alloc;
+        "the first line is `generals N bound M commander C`, perhaps with ` rule R` behind it, where R is {names}"
+    )
+}
+
+/// What was wanted in a line of this number.
+fn sentence(alloc: Global, fault: Fault, number: u64) -> Result<String, AllocError>
+    ensures { IfOk result (λ text. string_bytes text ≡ table_sentence fault number) }
+{
+    let sentence = match fault {
+        Fault::Line if number == 1 => return first_sentence(alloc),
         Fault::Line =>
             "a line is `tell LABEL RECEIVER ORDER`: the label's generals joined by dots, numbers without leading zeros, an order of at most 4294967295",
         Fault::Range =>
@@ -23,7 +33,8 @@ fn sentence(fault: Fault, number: u64) -> &'static str
         Fault::Place =>
             "nobody is told of this label, or not this receiver: a label begins with the commander, has at most bound + 1 generals, none twice, and the receiver is not on it",
         Fault::Twice => "a line before tells this receiver of this label",
-    }
+    };
+    String::from_str(alloc, sentence)
 }
 
 /// What may mend the shape of a line.
@@ -69,12 +80,13 @@ fn line_told(
     ensures { IfOk result (λ told. string_bytes told
         ≡ table_line_told name.now fault number (option_map (λ l. l.now) line.entry)) }
 {
-    let sentence = sentence(fault, number);
+    let sentence = sentence(alloc, fault, number)?;
     let Some(line) = line else {
-        return report(alloc, name, sentence, None, None);
+        return report(alloc, name, sentence.as_str(), None, None);
     };
     let mark = all_marked(number, trimmed(line));
-    report(alloc, name, sentence, Some(mark), help(fault, number, line))
+    let help = help(fault, number, line);
+    report(alloc, name, sentence.as_str(), Some(mark), help)
 }
 
 /// What is said of a fault at a line of the message table of the file with this name.

@@ -8,6 +8,7 @@ ghost use Rattle.why.specs.Scenarios.{entry_key_told, entry_keys, entry_sentence
 use crate::keys::{Found, entry_line, find_line, header, shown_at};
 use crate::nearest::near;
 use crate::report::{Help, Mark, report};
+use combine::Rule;
 use scenario::{Fault, Name, Place};
 use std::alloc::{AllocError, Global};
 
@@ -53,37 +54,45 @@ fn missing_sentence(alloc: Global, name: Name) -> Result<String, AllocError>
     }
 }
 
-/// Of which kind the value is to be.
-fn kind_sentence(name: Name) -> &'static str
-    ensures { result.now ≡ kind_sentence name }
+/// Of which kind a value is to be.
+fn kind_sentence(alloc: Global, name: Name) -> Result<String, AllocError>
+    ensures { IfOk result (λ text. string_bytes text ≡ kind_sentence name) }
 {
-    match name {
+    let sentence = match name {
+        Name::Rule => {
+            let names = Rule::names();
+            return format!(in alloc; "a rule is a text in quotation marks: {names}");
+        }
         Name::Board => "a board is a list of whole numbers",
-        Name::Rule => "a rule is a text, \"majority\" or \"median\"",
         Name::Messages => "messages are a text, \"oral\" or \"signed\"",
         Name::Traitor => "the traitors are a list of tables, each begun by `[[traitor]]`",
         Name::Asm => "a program is a text in quotation marks, as `asm = \"mov r0, 0\\nexit\"`",
         Name::Code => "bytecode is a text in quotation marks, of digits in hex",
         _ => "a whole number is wanted here",
-    }
+    };
+    String::from_str(alloc, sentence)
 }
 
 /// In which range it is to be.
-fn range_sentence(name: Name) -> &'static str
-    ensures { result.now ≡ range_sentence name }
+fn range_sentence(alloc: Global, name: Name) -> Result<String, AllocError>
+    ensures { IfOk result (λ text. string_bytes text ≡ range_sentence name) }
 {
-    match name {
+    let sentence = match name {
+        Name::Rule => {
+            let names = Rule::names();
+            return format!(in alloc; "a rule is {names}");
+        }
         Name::Generals => "there are 2 to 13 generals",
         Name::Bound => "a bound is 0 to 4, and at most generals - 2",
         Name::Commander => "a general is numbered from 0 on",
         Name::Order => "an order is 0 to 4294967295",
         Name::Board => "a board has at most 64 words",
         Name::Patience => "a patience is 1 to 4096 steps",
-        Name::Rule => "a rule is \"majority\" or \"median\"",
         Name::Messages =>
             "messages are \"oral\" or \"signed\", and of all but `play` without `--table` and `audit` \"oral\"",
         _ => "this value is out of its range",
-    }
+    };
+    String::from_str(alloc, sentence)
 }
 
 /// What is wrong with a key or its value.
@@ -92,8 +101,8 @@ fn name_sentence(alloc: Global, fault: Fault, name: Name) -> Result<String, Allo
 {
     let sentence = match fault {
         Fault::Key => return missing_sentence(alloc, name),
-        Fault::Kind => kind_sentence(name),
-        Fault::Range => range_sentence(name),
+        Fault::Kind => return kind_sentence(alloc, name),
+        Fault::Range => return range_sentence(alloc, name),
         Fault::General => "no general has this number: they are 0 to generals - 1",
         Fault::Twice => "a table before is of this general",
     };

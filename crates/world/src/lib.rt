@@ -1,25 +1,24 @@
 //! The world of a campaign. What is said of it stands in specs/.
 #![tactic(auto)]
 
-mod beginnings;
+mod campaign;
 mod chronicle;
 pub mod draft;
 mod event;
-mod events;
 pub mod judging;
 mod laws;
 pub mod letters;
 mod looking;
+mod opening;
 mod outcome;
 mod part;
 pub mod parts;
-mod player;
-mod playing;
 mod plays;
 mod schedule;
 mod verdict;
 mod world;
 
+pub use campaign::{named_round, play, play_listed, play_named, play_names, replay, wind_up};
 pub use chronicle::Chronicle;
 pub use event::{Event, EventError};
 pub use laws::{
@@ -29,8 +28,6 @@ pub use laws::{
     worlds_agree,
 };
 pub use part::Part;
-pub use player::{play, replay};
-pub use playing::{named_round, play_listed, play_named, play_names, wind_up};
 pub use plays::Plays;
 pub use schedule::{Entries, Repeat, Schedule};
 pub use verdict::Verdict;

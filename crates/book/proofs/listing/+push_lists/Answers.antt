@@ -1,8 +1,9 @@
-use Rattle.std.proofs.Common.{◌≡◌, ◌<◌, ◌∙◌, ◌-◌, ◌++◌, ◌∷◌, [], arith, sym, ap, ℕ, suc, List, map, length, lit<, append-nil}
+use Rattle.std.proofs.Common.{◌≡◌, ◌<◌, ◌∙◌, ◌-◌, ◌++◌, ◌∷◌, [], arith, refl, sym, ap, ℕ, suc, List, map, length, lit<, append-nil}
 use Rattle.std.specs.Fmt.{decimal}
 use Rattle.std.specs.String.{string_bytes}
 use Rattle.label.specs.Labels.{others}
-use Rattle.book.specs.Explained.{element, held, list_lines, outcome, part}
+use Rattle.combine.specs.Outcome.{outcome_of, outcome_words}
+use Rattle.book.specs.Explained.{element, held, list_lines, part}
 use Rattle.book.proofs.Gathering.{few_others, text_yes, text_no, lines_yes, lines_no, map_no, on_first, on_behind, off_first}
 use Rattle.book.proofs.ListLemmas.{place_off, held_last, lines_last, own_more, other_more, held_all, lines_all}
 use Rattle.book.proofs.listing.+push_lists.Goals as goal
@@ -70,7 +71,7 @@ returns-clause-held g t c =
     let ne = c.if-relays-eq0.false in
     let more : c.args.relays ≡ suc (c.args.relays - 1) = omega arith in
     let all : c.loop-other.other ≡ (g.H.Heard.seen c.args.table.now).generals = omega arith in
-    rw (c.combine-order.ensures, c.rule-rule.ensures, c.as_slice.ensures.value) (held_all (g.H.Heard.seen c.args.table.now) c.args.relays (c.args.relays - 1) c.args.label.now c.args.general c.loop-other.other c.loop-other.orders.items more all c.loop-other.invariant.orders)
+    rw (c.order-order.ensures, c.outcome-outcome.ensures.order, c.rule.ensures, c.as_slice.ensures.value) (held_all (g.H.Heard.seen c.args.table.now) c.args.relays (c.args.relays - 1) c.args.label.now c.args.general c.loop-other.other c.loop-other.orders.items more all c.loop-other.invariant.orders)
 
 pub returns-clause-lines : goal.returns-clause-lines
 returns-clause-lines g t c =
@@ -78,6 +79,6 @@ returns-clause-lines g t c =
     let ne = c.if-relays-eq0.false in
     let more : c.args.relays ≡ suc (c.args.relays - 1) = omega arith in
     let all : c.loop-other.other ≡ (g.H.Heard.seen c.args.table.now).generals = omega arith in
-    let out : (c.outcome_words-words.result.now ++ decimal c.combine-order.result) ≡ outcome (g.H.Heard.seen c.args.table.now).rule c.loop-other.orders.items = rw (c.rule-rule.ensures, c.as_slice-2.ensures.value) at c.outcome_words-words.ensures in
-    lines_all (g.H.Heard.seen c.args.table.now) c.args.relays (c.args.relays - 1) c.args.label.now c.args.general c.loop-other.other (string_bytes c.args.lines.now) (string_bytes c.push_list.new.lines) (string_bytes c.loop-other.lines) (string_bytes c.loop-other.parts) (c.outcome_words-words.result.now ++ decimal c.combine-order.result) c.loop-other.orders.items c.told-told.result
+    let out : (c.head-words.result.now ++ decimal c.order-order.result) ≡ outcome_words (outcome_of (g.H.Heard.seen c.args.table.now).rule c.loop-other.orders.items) = rw (c.head-words.ensures, c.order-order.ensures, c.outcome-outcome.ensures.value, c.rule.ensures, c.as_slice.ensures.value) refl in
+    lines_all (g.H.Heard.seen c.args.table.now) c.args.relays (c.args.relays - 1) c.args.label.now c.args.general c.loop-other.other (string_bytes c.args.lines.now) (string_bytes c.push_list.new.lines) (string_bytes c.loop-other.lines) (string_bytes c.loop-other.parts) (c.head-words.result.now ++ decimal c.order-order.result) c.loop-other.orders.items c.told-told.result
     more all c.loop-other.invariant.lines c.loop-other.invariant.parts c.loop-other.invariant.orders out c.told-told.ensures (rw c.as_str.ensures.value at (c.in_ok-push_list.ensures c.args.label.now c.requires.1.1.1.1.0))

@@ -9,6 +9,6 @@ pub returns : goal.returns
 returns c =
     IfOk-weaker c.format.result _ _
     (λ s h.
-    let k : string_bytes s ≡ (codes "generals " ++ decimal c.args.generals ++ codes " bound " ++ decimal c.args.bound ++ codes " commander " ++ decimal c.args.commander ++ c.rule_words-rule.result.now ++ codes "\n") = simp append_assoc h in
-    k ∙ ap (λ words. codes "generals " ++ decimal c.args.generals ++ codes " bound " ++ decimal c.args.bound ++ codes " commander " ++ decimal c.args.commander ++ words ++ codes "\n") c.rule_words-rule.ensures)
+    let k : string_bytes s ≡ (codes "generals " ++ decimal c.args.generals ++ codes " bound " ++ decimal c.args.bound ++ codes " commander " ++ decimal c.args.commander ++ c.as_str-rule.result.now ++ codes "\n") = simp append_assoc h in
+    k ∙ ap (λ words. codes "generals " ++ decimal c.args.generals ++ codes " bound " ++ decimal c.args.bound ++ codes " commander " ++ decimal c.args.commander ++ words ++ codes "\n") (c.as_str-rule.ensures.value ∙ c.in_ok-words.ensures))
     c.format.ensures.ok

@@ -1,10 +1,12 @@
-use Rattle.std.proofs.Common.{◌≡◌, ◌≤◌, ◌++◌, ℕ, List, flat_map, length, refl, ap, ◌∙◌, arith}
+use Rattle.std.proofs.Common.{◌≡◌, ◌≤◌, ◌++◌, ℕ, List, Vec, Global, length, ap, ◌∙◌, arith}
+use Rattle.std.proofs.lemmas.Result.{IfOk-weaker}
 use Rattle.std.specs.Vec.{vec_len}
 use Rattle.semantics.proofs.PlacesLaws.{relays_few}
 use Rattle.label.specs.Relay.{relay}
 use Rattle.semantics.specs.Relay.{oral}
-use Rattle.round.proofs.Spelling.{header_numbers, context_done}
-use Rattle.word.specs.Bytes.{little_bytes}
+use Rattle.round.specs.Contexts.{context_bytes}
+use Rattle.contexts.proofs.Bytes.{bytes_context}
+use Rattle.contexts.proofs.Spelling.{header_numbers}
 use Rattle.trial.specs.Setting.{context_in}
 use Rattle.trial.proofs.setting.Setting.context.Goals as goal
 
@@ -15,15 +17,30 @@ overflow_cast-header c =
     let len : length c.as_slice-taken.result.now ≡ length c.self.inside.taken.items = ap length c.as_slice-taken.ensures.value in
     omega arith
 
+pub context_telling-requires : goal.context_telling-requires
+context_telling-requires c =
+    let few : length (relay c.self.inside.shape) ≤ 990 = relays_few (oral c.self.inside.shape) c.self.invariant.shape in
+    let each : length c.self.inside.taken.items ≡ length (relay c.self.inside.shape) = c.self.invariant.each in
+    let len : length c.as_slice-taken.result.now ≡ length c.self.inside.taken.items = ap length c.as_slice-taken.ensures.value in
+    record { few = omega arith }
+
 pub returns-clause-bytes : goal.returns-clause-bytes
 returns-clause-bytes c =
     let s = c.self.inside in
-    let few : length (relay s.shape) ≤ 990 = relays_few (oral s.shape) c.self.invariant.shape in
-    let each : length s.taken.items ≡ length (relay s.shape) = c.self.invariant.each in
-    let same : length c.as_slice-taken.result.now ≡ length s.taken.items = ap length c.as_slice-taken.ensures.value in
-    let coded : header_numbers s.shape s.bound (length c.as_slice-taken.result.now) ≡ header_numbers s.shape s.bound (length s.taken.items) = ap (header_numbers s.shape s.bound) same in
-    let spelled : c.spell-2.new.bytes.items ≡ c.spell.new.bytes.items ++ flat_map (little_bytes 4) s.taken.items =
-    c.in_ok-spell-2.ensures ∙ ap (λ (numbers : List ℕ). c.spell.new.bytes.items ++ flat_map (little_bytes 4) numbers) c.as_slice-taken.ensures.value in
-    context_done (header_numbers s.shape s.bound (length s.taken.items)) (header_numbers s.shape s.bound (length c.as_slice-taken.result.now)) s.taken.items c.in_ok-bytes.bytes.items c.spell.new.bytes.items c.spell-2.new.bytes.items c.resize.new.self.items (vec_len c.spell-2.new.bytes)
-    refl (omega arith) coded c.in_ok-bytes.ensures.items c.in_ok-spell.ensures spelled (let o = c.spell-2.new.bytes.ok in omega arith) c.in_ok-resize.ensures.items
-    ∙ ap context_in c.self.view_is
+    let taken : List ℕ = c.as_slice-taken.result.now in
+    IfOk-weaker c.context_telling.result
+    (λ (v : Vec ℕ Global). v.items ≡ context_bytes (header_numbers s.shape s.bound (length taken) ++ taken))
+    (λ (v : Vec ℕ Global). v.items ≡ context_in c.args.self.now)
+    (λ v is. is ∙ (ap (λ (l : List ℕ). context_bytes (header_numbers s.shape s.bound (length l) ++ l)) c.as_slice-taken.ensures.value ∙ ap context_in c.self.view_is))
+    c.context_telling.ensures
+
+pub returns-clause-whole : goal.returns-clause-whole
+returns-clause-whole c =
+    let s = c.self.inside in
+    let taken : List ℕ = c.as_slice-taken.result.now in
+    let numbers : List ℕ = header_numbers s.shape s.bound (length taken) ++ taken in
+    IfOk-weaker c.context_telling.result
+    (λ (v : Vec ℕ Global). v.items ≡ context_bytes numbers)
+    (λ (v : Vec ℕ Global). vec_len v ≡ 4096)
+    (λ v is. let o = v.ok in let long = (bytes_context numbers).long in let same = ap length is in omega arith)
+    c.context_telling.ensures

@@ -1,0 +1,37 @@
+-- The words that name rules.
+use Rattle.std.specs.Prelude.{ℕ, ◌≡◌, ◌&&◌, nat_le, Bool, true, false, if◌then◌else◌, List, bytes_eq, codes, Option, None, Some}
+use Rattle.std.specs.List.{list_all}
+use Rattle.combine.specs.declared.chosen.Rule.{Rule}
+use Rattle.combine.specs.declared.chosen.Rule.TheVariants.{Majority, Median}
+
+-- the word of a rule
+abbrev pub rule_name : Rule → List ℕ
+rule_name Majority = codes "majority"
+rule_name Median = codes "median"
+
+-- the rule of a word
+abbrev pub rule_named : List ℕ → Option Rule
+rule_named word = if bytes_eq word (codes "majority") then Some Majority
+    else (if bytes_eq word (codes "median") then Some Median else None)
+
+-- all words, as a sentence lists them
+abbrev pub rule_names : List ℕ
+rule_names = codes "majority or median"
+
+-- the rule where none is named
+abbrev pub default_rule : Rule
+default_rule = Majority
+
+abbrev pub is_default : Rule → Bool
+is_default Majority = true
+is_default _ = false
+
+-- a small letter of ASCII
+abbrev pub is_small : ℕ → Bool
+is_small c = nat_le 97 c && nat_le c 122
+
+-- a word is small letters, and names the rule whose word it is
+pub record NamesAreWords : Type 0 where
+  pub letters : (rule : Rule) → list_all is_small (rule_name rule) ≡ true
+  pub read : (rule : Rule) → rule_named (rule_name rule) ≡ Some rule
+  pub default : (rule : Rule) → is_default rule ≡ true → rule ≡ default_rule

@@ -1,0 +1,286 @@
+ghost use Rattle.std.specs.Prelude.{◌≡◌, ◌<◌, ◌≤◌, ◌↔◌, ℕ, IfOk, IsNone, IsTrue, Some, None, [], map, length, slice_get, slice_index_or};
+ghost use Rattle.label.specs.Relay.{IsShape, receivers};
+ghost use Rattle.semantics.specs.Relay.{oral, signed, relayed};
+ghost use Rattle.semantics.specs.Entries.{is_entered, entered};
+ghost use Rattle.semantics.specs.Outbox.{places, taken_value as value_in, empty_outbox, written, places_set, at_place, along_row, at_receiver, as_taken};
+ghost use Rattle.outbox.specs.Contents.{HasPlaces, order_at};
+ghost use Rattle.outbox.specs.Rows.{order_of_row};
+
+use crate::relays::rows_of;
+use crate::row::Row;
+use crate::rows::{copied, same_orders};
+use crate::signing::{Signing, copied_signing, same_signing};
+use contexts::taken_value;
+use label::Shape;
+use semantics::Entry;
+use std::alloc::{AllocError, Global};
+use std::marker::Model;
+
+/// The outbox of a general in a round: for each label that he relays, by rank, an order or nothing for each receiver;
+/// or, where orders are signed, what he enters.
+#[derive(Drop)]
+pub struct Outbox {
+    shape: Shape,
+    rows: Vec<Row>,
+    /// What was entered where orders are signed; nothing where they are oral.
+    signing: Option<Signing>,
+}
+
+impl Model for Outbox {
+    ghost use Rattle.outbox.specs.Contents.{Contents, IsOutbox, contents_of, entries_of, relay_of};
+
+    ghost Value = { Contents };
+
+    ghost view = { λ o. contents_of (relay_of o.shape o.signing) (entries_of o.signing) o.rows.items };
+
+    ghost invariant = { λ o. IsOutbox (relay_of o.shape o.signing) o.rows.items };
+}
+
+impl Outbox {
+    /// An outbox in which nothing is put. Nothing that is put later takes memory.
+    ///
+    /// # Errors
+    ///
+    /// `AllocError` where the memory for the rows is refused.
+    pub fn new(alloc: Global, shape: Shape) -> Result<Outbox, AllocError>
+        requires { IsShape shape }
+        ensures relay { IfOk result (λ outbox. outbox.relay ≡ oral shape) }
+        ensures empty { IfOk result (λ outbox. outbox.rows ≡ empty_outbox (oral shape)) }
+        ensures unentered { IfOk result (λ outbox. outbox.entries ≡ []) }
+    {
+        Ok(Outbox {
+            shape,
+            rows: rows_of(alloc, shape)?,
+            signing: None,
+        })
+    }
+
+    /// An outbox of signed messages in which nothing is entered, of a general who holds chains with these
+    /// signers, bit g of each number for general g. It has no place; nothing that is entered later takes memory.
+    ///
+    /// # Errors
+    ///
+    /// `AllocError` where the memory for the signers is refused.
+    pub fn signed(alloc: Global, shape: Shape, held: &[u16]) -> Result<Outbox, AllocError>
+        requires { IsShape shape }
+        ensures relay { IfOk result (λ outbox. outbox.relay ≡ signed shape held.now) }
+        ensures empty { IfOk result (λ outbox. outbox.rows ≡ empty_outbox (signed shape held.now)) }
+        ensures unentered { IfOk result (λ outbox. outbox.entries ≡ []) }
+    {
+        Ok(Outbox {
+            shape,
+            rows: Vec::new(alloc),
+            signing: Some(Signing::new(alloc, held)?),
+        })
+    }
+
+    /// Enters an order, signed by the general, for these receivers: whether he commands, and there was room.
+    pub fn sign(&mut self, order: u32, receivers: u16) -> bool
+        ensures relay { self.new.relay ≡ self.old.relay }
+        ensures rows { self.new.rows ≡ self.old.rows }
+        ensures entries { self.new.entries ≡ entered self.old.relay self.old.entries (Entry.Sign order receivers) }
+        ensures taken { result ≡ is_entered self.old.relay self.old.entries (Entry.Sign order receivers) }
+    {
+        self.enter(Entry::Sign { order, receivers })
+    }
+
+    /// Enters the chain held at this place, with the general's signature, for these receivers: whether there is such a
+    /// chain, which he has not signed, and there was room.
+    pub fn pass(&mut self, held: u16, receivers: u16) -> bool
+        ensures relay { self.new.relay ≡ self.old.relay }
+        ensures rows { self.new.rows ≡ self.old.rows }
+        ensures entries { self.new.entries ≡ entered self.old.relay self.old.entries (Entry.Pass held receivers) }
+        ensures taken { result ≡ is_entered self.old.relay self.old.entries (Entry.Pass held receivers) }
+    {
+        self.enter(Entry::Pass { held, receivers })
+    }
+
+    /// Takes an entry, where orders are signed: whether it was taken.
+    fn enter(&mut self, entry: Entry) -> bool
+        ensures relay { self.new.relay ≡ self.old.relay }
+        ensures rows { self.new.rows ≡ self.old.rows }
+        ensures entries { self.new.entries ≡ entered self.old.relay self.old.entries entry }
+        ensures taken { result ≡ is_entered self.old.relay self.old.entries entry }
+    {
+        let shape = self.shape;
+        match &mut self.signing {
+            None => false,
+            Some(signing) => signing.enter(shape, entry),
+        }
+    }
+
+    /// What was entered, in order.
+    pub fn entries(&self) -> &[Entry]
+        ensures same { result.now ≡ self.now.entries }
+        ensures few { length self.now.entries ≤ 8 }
+    {
+        match &self.signing {
+            None => &[],
+            Some(signing) => signing.entries(),
+        }
+    }
+
+    /// Puts an order for a receiver of a label, by its rank, in place of an earlier one: whether there is such a place.
+    pub fn put(&mut self, rank: u32, receiver: u32, order: u32) -> bool
+        ensures relay { self.new.relay ≡ self.old.relay }
+        ensures entries { self.new.entries ≡ self.old.entries }
+        ensures rows { self.new.rows ≡ written self.old.relay (at_place rank receiver order) self.old.rows }
+        ensures there { IsTrue result ↔ (0 < places_set self.old.relay (at_place rank receiver order)) }
+        ensures found { IsTrue result → order_at self.new.relay self.new.rows rank receiver ≡ Some order }
+    {
+        let rank = rank as usize;
+        if rank >= self.rows.len() {
+            return false;
+        }
+        self.rows[rank].put(receiver, order)
+    }
+
+    /// Puts orders for the receivers of a label, by its rank, ascending, as many as there are: how many were put.
+    pub fn put_row(&mut self, rank: u32, orders: &[u32]) -> u32
+        ensures relay { self.new.relay ≡ self.old.relay }
+        ensures entries { self.new.entries ≡ self.old.entries }
+        ensures rows { self.new.rows ≡ written self.old.relay (along_row rank orders.now) self.old.rows }
+        ensures count { result ≡ places_set self.old.relay (along_row rank orders.now) }
+    {
+        let rank = rank as usize;
+        if rank >= self.rows.len() {
+            return 0;
+        }
+        self.rows[rank].fill(orders)
+    }
+
+    /// Puts one order for a receiver at every label: how many were put.
+    pub fn sway(&mut self, receiver: u32, order: u32) -> u32
+        ensures relay { self.new.relay ≡ self.old.relay }
+        ensures entries { self.new.entries ≡ self.old.entries }
+        ensures rows { self.new.rows ≡ written self.old.relay (at_receiver receiver order) self.old.rows }
+        ensures count { result ≡ places_set self.old.relay (at_receiver receiver order) }
+    {
+        let mut set = 0;
+        for rank in 0..self.rows.len() {
+            if self.rows[rank].put(receiver, order) {
+                set += 1;
+            }
+        }
+        set
+    }
+
+    /// Puts for a receiver, at every label, the value that the general took for it: how many were put.
+    pub fn honest(&mut self, context: &[u8], receiver: u32) -> u32
+        requires { length context.now ≡ 4096 }
+        ensures relay { self.new.relay ≡ self.old.relay }
+        ensures entries { self.new.entries ≡ self.old.entries }
+        ensures rows { self.new.rows ≡ written self.old.relay (as_taken context.now receiver) self.old.rows }
+        ensures count { result ≡ places_set self.old.relay (as_taken context.now receiver) }
+    {
+        let mut set = 0;
+        let labels = self.rows.len();
+        for rank in 0..labels {
+            if self.rows[rank].put(receiver, taken_value(context, rank)) {
+                set += 1;
+            }
+        }
+        set
+    }
+
+    /// Puts for every receiver, at every label, the value that the general took for it.
+    pub fn honest_to_all(&mut self, context: &[u8])
+        requires { length context.now ≡ 4096 }
+        ensures relay { self.new.relay ≡ self.old.relay }
+        ensures entries { self.new.entries ≡ self.old.entries }
+        ensures rows { self.new.rows
+            ≡ map (λ row. map (λ place. Some (value_in context.now place.rank)) row) (places self.old.relay) }
+    {
+        let labels = self.rows.len();
+        for rank in 0..labels {
+            self.rows[rank].put_all(taken_value(context, rank));
+        }
+    }
+
+    /// The order for a receiver of the label of that rank, where there is such a place and an order was put.
+    pub fn get(&self, rank: u32, receiver: u32) -> Option<u32>
+        ensures { result ≡ order_at self.now.relay self.now.rows rank receiver }
+    {
+        let rank = rank as usize;
+        if rank >= self.rows.len() {
+            return None;
+        }
+        self.rows[rank].order(receiver)
+    }
+
+    /// The orders for the label of that rank, where there is such a label.
+    pub fn orders(&self, rank: u32) -> Option<&Row>
+        ensures none { IsNone result ↔ (length self.now.rows ≤ rank) }
+        ensures orders { (receiver : ℕ) →
+            order_of_row result receiver ≡ order_at self.now.relay self.now.rows rank receiver }
+    {
+        let rank = rank as usize;
+        if rank >= self.rows.len() {
+            return None;
+        }
+        Some(&self.rows[rank])
+    }
+
+    /// How many labels it has a row for: at most 11 * 10 * 9, those of 13 generals in round 5.
+    pub fn labels(&self) -> u32
+        ensures rows { result ≡ length self.now.rows }
+        ensures relayed { result ≡ length (relayed self.now.relay) }
+        ensures few { result ≤ 990 }
+        ensures places { HasPlaces self.now.relay self.now.rows }
+    {
+        self.rows.len() as u32
+    }
+
+    /// Who hears of the label of that rank, ascending.
+    pub fn receivers(&self, rank: u32) -> &[u8]
+        requires { rank < length self.now.rows }
+        ensures row { slice_get (map (receivers self.now.relay.shape) (relayed self.now.relay)) rank ≡ Some result.now }
+        ensures long { length result.now ≡ length (slice_index_or self.now.rows rank []) }
+    {
+        self.rows[rank as usize].receivers()
+    }
+
+    /// The order for the receiver of that number among those of the label of that rank, from 0, where there is such a
+    /// place and an order was put.
+    pub fn at(&self, rank: u32, number: usize) -> Option<u32>
+        ensures { result ≡ slice_index_or (slice_index_or self.now.rows rank []) number None }
+    {
+        let rank = rank as usize;
+        if rank >= self.rows.len() {
+            return None;
+        }
+        self.rows[rank].at(number)
+    }
+
+    /// The same outbox.
+    ///
+    /// # Errors
+    ///
+    /// `AllocError` where the memory for the rows is refused.
+    pub fn copy(&self, alloc: Global) -> Result<Outbox, AllocError>
+        ensures { IfOk result (λ outbox. outbox ≡ self.now) }
+    {
+        Ok(Outbox {
+            shape: self.shape,
+            rows: copied(alloc, self.rows.as_slice())?,
+            signing: copied_signing(alloc, &self.signing)?,
+        })
+    }
+
+    /// Whether they are of one relay, have the same order at each place, and the same entries.
+    pub fn same(&self, other: &Outbox) -> bool
+        ensures { IsTrue result ↔ (self.now ≡ other.now) }
+    {
+        other.shape == self.shape
+            && same_signing(&self.signing, &other.signing)
+            && same_orders(self.rows.as_slice(), other.rows.as_slice())
+    }
+
+    /// Whose relay it is, among which generals and in which round.
+    pub fn shape(&self) -> Shape
+        ensures same { result ≡ self.now.relay.shape }
+        ensures within { IsShape result }
+    {
+        self.shape
+    }
+}

@@ -1,0 +1,28 @@
+-- The chronicle of the world that was played.
+use Rattle.std.proofs.Common.{ap, subst, ◌∙◌}
+use Rattle.world.specs.World.{World}
+use Rattle.world.specs.Agreement.{IsFinished}
+use Rattle.world.specs.Chronicle.{chronicle_of}
+use Rattle.world.specs.Lists.{listed}
+use Rattle.world.specs.Schedules.{lines_by}
+use Rattle.world.proofs.Outcomes.{finished_agree, finished_decisions, finished_verdict, finished_well}
+use Rattle.world.proofs.campaign.play.Goals as goal
+
+pub returns-clause-listed : goal.returns-clause-listed
+returns-clause-listed c = c.in-Some.ensures.told ∙ ap (λ (w : World). chronicle_of w) c.in_ok-world.ensures.listed
+
+pub returns-clause-decisions : goal.returns-clause-decisions
+returns-clause-decisions c =
+    finished_decisions c.args.scenario (listed c.args.scenario (lines_by c.args.schedule.now)) c.in-Some.chronicle c.recall.ensures (subst (λ (w : World). IsFinished w) c.in_ok-world.ensures.listed c.in_ok-world.ensures.finished) (returns-clause-listed c)
+
+pub returns-clause-agree : goal.returns-clause-agree
+returns-clause-agree c =
+    finished_agree c.args.scenario (listed c.args.scenario (lines_by c.args.schedule.now)) c.in-Some.chronicle c.recall.ensures (subst (λ (w : World). IsFinished w) c.in_ok-world.ensures.listed c.in_ok-world.ensures.finished) (returns-clause-listed c)
+
+pub returns-clause-verdict : goal.returns-clause-verdict
+returns-clause-verdict c =
+    finished_verdict c.args.scenario (listed c.args.scenario (lines_by c.args.schedule.now)) c.in-Some.chronicle c.recall.ensures (subst (λ (w : World). IsFinished w) c.in_ok-world.ensures.listed c.in_ok-world.ensures.finished) (returns-clause-listed c)
+
+pub returns-clause-well : goal.returns-clause-well
+returns-clause-well c =
+    finished_well c.args.scenario (listed c.args.scenario (lines_by c.args.schedule.now)) c.in-Some.chronicle c.recall.ensures (subst (λ (w : World). IsFinished w) c.in_ok-world.ensures.listed c.in_ok-world.ensures.finished) (returns-clause-listed c)

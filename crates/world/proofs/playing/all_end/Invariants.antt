@@ -1,8 +1,0 @@
-use Rattle.std.proofs.Common.{◌≡◌}
-use Rattle.round.specs.Scenario.{program_of}
-use Rattle.world.specs.Kind.{each, run}
-use Rattle.world.specs.KindLists.{ticks_of}
-use Rattle.world.proofs.playing.all_end.Given as goal
-
-abbrev pub invariant-loop-general : goal.invariant-loop-general
-invariant-loop-general g l = g.W.Plays.seen l.world ≡ run g.W.Plays.kind (g.W.Plays.seen l.initial.world) (each l.general (λ i. ticks_of i (program_of (g.W.Plays.seen l.initial.world).scenario i)))

@@ -1,9 +1,0 @@
-use Rattle.std.proofs.Common.{◌≡◌, ◌-◌, suc, drop}
-use Rattle.world.specs.Kind.{run}
-use Rattle.world.specs.KindLists.{replayed_rounds}
-use Rattle.world.specs.Playing.{lists_in}
-use Rattle.world.proofs.playing.play_named.Given as goal
-
-abbrev pub invariant-loop-round : goal.invariant-loop-round
-invariant-loop-round g l = run g.W.Plays.kind (g.W.Plays.seen l.world) (replayed_rounds g.W.Plays.kind (g.W.Plays.seen l.world) (l.rounds - l.round) (drop l.round (lists_in l.names)))
-    ≡ run g.W.Plays.kind (g.W.Plays.seen l.initial.world) (replayed_rounds g.W.Plays.kind (g.W.Plays.seen l.initial.world) (suc (g.W.Plays.seen l.initial.world).scenario.bound) (lists_in l.names))

@@ -1,0 +1,340 @@
+//! Campaigns from a scenario to their chronicle, and from their opening to their end in a world of whichever kind.
+ghost use Rattle.std.specs.Prelude.{◌≡◌, IfOk, ◌<◌, [], suc, OnOk, replicate, slice_get, slice_index_or};
+ghost use Rattle.round.specs.Letters.{messages};
+ghost use Rattle.world.specs.Agreement.{IsFinished};
+ghost use Rattle.world.specs.Chronicle.{decisions, chronicle_of};
+ghost use Rattle.world.specs.Lists.{listed, replayed};
+ghost use Rattle.world.specs.Playing.{lists_in, line_events};
+ghost use Rattle.world.specs.Promises.{AgreeUnderBound, IsVerdictOn, IsWellUnderBound};
+ghost use Rattle.world.specs.Schedules.{lines_by, entries_of};
+ghost use Rattle.world.specs.World.{opening, run};
+ghost use Rattle.world.specs.declared.event.Event.TheVariants.{Tick, Post, Close};
+ghost use Rattle.round.specs.Scenario.{program_of};
+ghost use Rattle.world.specs.Kind.{each, happen, run as run_of};
+ghost use Rattle.world.specs.KindLists.{event_of, post_of, ticks_of, wound_up, listed_rounds, replayed_rounds, ticks_named, names_events};
+
+use crate::chronicle::Chronicle;
+use crate::parts;
+use crate::plays::Plays;
+use crate::schedule::{Repeat, Schedule};
+use crate::world::World;
+use round::Scenario;
+use std::alloc::{AllocError, Global};
+
+/// The chronicle of the scenario's campaign by a schedule: in each round its entries one by one, then the letters of
+/// all loyal generals and what is left of the traitors' instructions, ascending by number.
+///
+/// # Errors
+///
+/// `AllocError` where memory is refused.
+pub fn play(alloc: Global, scenario: Scenario, schedule: &Schedule) -> Result<Chronicle, AllocError>
+    ensures listed { IfOk result
+        (λ chronicle. chronicle ≡ chronicle_of (run (opening scenario) (listed scenario (lines_by schedule.now)))) }
+    ensures decisions { IfOk result
+        (λ chronicle. chronicle.decisions ≡ decisions scenario (messages chronicle.letters)) }
+    ensures agree { IfOk result (λ chronicle. AgreeUnderBound scenario chronicle.decisions) }
+    ensures verdict { IfOk result (λ chronicle. IsVerdictOn scenario chronicle.decisions chronicle.verdict) }
+    ensures well { IfOk result (λ chronicle. IsWellUnderBound chronicle.verdict) }
+{
+    scenario.recall();
+    let world = played(alloc, scenario, schedule)?;
+    match world.chronicle() {
+        Some(chronicle) => Ok(chronicle),
+        None => unreachable!(),
+    }
+}
+
+/// The chronicle of the scenario's campaign in which these generals, by round, make their accesses in this order; a
+/// round without names has none, and names beyond the last round give nothing.
+///
+/// # Errors
+///
+/// `AllocError` where memory is refused.
+pub fn replay(alloc: Global, scenario: Scenario, names: &[Vec<u8>]) -> Result<Chronicle, AllocError>
+    ensures replayed { IfOk result
+        (λ chronicle. chronicle ≡ chronicle_of (run (opening scenario) (replayed scenario (lists_in names.now)))) }
+    ensures agree { IfOk result (λ chronicle. AgreeUnderBound scenario chronicle.decisions) }
+    ensures verdict { IfOk result (λ chronicle. IsVerdictOn scenario chronicle.decisions chronicle.verdict) }
+    ensures well { IfOk result (λ chronicle. IsWellUnderBound chronicle.verdict) }
+{
+    scenario.recall();
+    let world = replayed(alloc, scenario, names)?;
+    match world.chronicle() {
+        Some(chronicle) => Ok(chronicle),
+        None => unreachable!(),
+    }
+}
+
+/// The scenario's campaign by a schedule, to its end.
+fn played(alloc: Global, scenario: Scenario, schedule: &Schedule) -> Result<World, AllocError>
+    ensures listed { IfOk result (λ world. world ≡ run (opening scenario) (listed scenario (lines_by schedule.now))) }
+    ensures finished { IfOk result IsFinished }
+{
+    scenario.recall();
+    let mut world = World::open(alloc, scenario)?;
+    play_listed(&mut world, schedule)?;
+    Ok(world)
+}
+
+/// The scenario's campaign in which these generals, by round, make their accesses in this order, to its end.
+fn replayed(alloc: Global, scenario: Scenario, names: &[Vec<u8>]) -> Result<World, AllocError>
+    ensures replayed { IfOk result (λ world. world ≡ run (opening scenario) (replayed scenario (lists_in names.now))) }
+    ensures finished { IfOk result IsFinished }
+{
+    scenario.recall();
+    let mut world = World::open(alloc, scenario)?;
+    play_named(&mut world, names)?;
+    Ok(world)
+}
+
+/// So many ticks of a general. They are not gone through one by one: from one access to the next he runs on.
+fn tick_often<W: Plays>(world: &mut W, general: u32, times: u32) -> Result<(), AllocError>
+    ensures { OnOk result (W.seen world.new ≡ run_of W.kind (W.seen world.old) (replicate times (Tick general))) }
+{
+    let mut left = times;
+    while left > 0 {
+        if parts::is_still(world.open_parts(), general) {
+            return Ok(());
+        }
+        let steps = parts::steps(world.open_parts(), general);
+        let taken = world.run_on(general, steps.saturating_add(left));
+        left -= taken;
+        if left > 0 {
+            world.tick(general)?;
+            left -= 1;
+        }
+    }
+    Ok(())
+}
+
+/// A general's entries: a traitor's ticks or a loyal general's posts; none where there is no such general.
+fn play_entry<W: Plays>(world: &mut W, repeat: Repeat) -> Result<(), AllocError>
+    ensures { OnOk result (W.seen world.new
+        ≡ run_of W.kind (W.seen world.old)
+        (line_events (W.seen world.old).scenario (replicate repeat.times repeat.general))) }
+{
+    if repeat.general >= world.campaign().generals() {
+        return Ok(());
+    }
+    if repeat.times == 0 {
+        return Ok(());
+    }
+    repeated(world, repeat.general, u32::from(repeat.times))
+}
+
+/// So many entries of one general.
+fn repeated<W: Plays>(world: &mut W, general: u8, times: u32) -> Result<(), AllocError>
+    requires inside { general < (W.seen world.old).scenario.generals }
+    requires some { 0 < times }
+    ensures { OnOk result (W.seen world.new
+        ≡ run_of W.kind (W.seen world.old)
+        (replicate times (event_of general (program_of (W.seen world.old).scenario general)))) }
+{
+    if world.campaign().is_traitor(general) {
+        return tick_often(world, u32::from(general), times);
+    }
+    post_often(world, u32::from(general), times);
+    Ok(())
+}
+
+/// So many posts of a loyal general are one.
+fn post_often<W: Plays>(world: &mut W, general: u32, times: u32)
+    requires { 0 < times }
+    ensures { W.seen world.new ≡ run_of W.kind (W.seen world.old) (replicate times (Post general)) }
+{
+    let _ = times;
+    world.give_post(general);
+}
+
+/// The entries of a schedule's line.
+fn play_line<W: Plays>(world: &mut W, repeats: &[Repeat]) -> Result<(), AllocError>
+    ensures { OnOk result (W.seen world.new
+        ≡ run_of W.kind (W.seen world.old) (line_events (W.seen world.old).scenario (entries_of repeats.now))) }
+{
+    for repeat in repeats {
+        play_entry(world, *repeat)?;
+    }
+    Ok(())
+}
+
+/// A named traitor's ticks until he has made one more access or has ended; nothing for another name.
+fn tick_to_access<W: Plays>(world: &mut W, general: u32) -> Result<(), AllocError>
+    ensures { OnOk result (W.seen world.new
+        ≡ run_of W.kind (W.seen world.old) (ticks_named general (slice_get (W.seen world.old).parts general))) }
+{
+    world.campaign().recall();
+    match parts::instructions(world.open_parts(), general) {
+        None => Ok(()),
+        Some(most) => {
+            world.run_on(general, most);
+            world.tick(general)
+        }
+    }
+}
+
+/// The accesses of the generals that are named for a round, in their order.
+///
+/// # Errors
+///
+/// `AllocError` where memory is refused. No more is said of the world then than of every world of its kind: let it go.
+pub fn play_names<W: Plays>(world: &mut W, names: &[u8]) -> Result<(), AllocError>
+    ensures { OnOk result (W.seen world.new
+        ≡ run_of W.kind (W.seen world.old) (names_events W.kind (W.seen world.old) names.now)) }
+{
+    for general in names {
+        tick_to_access(world, u32::from(*general))?;
+    }
+    Ok(())
+}
+
+/// Marks the general as one who has posted, where he is loyal.
+fn post_if_loyal<W: Plays>(world: &mut W, general: u8)
+    requires { general < (W.seen world.old).scenario.generals }
+    ensures { W.seen world.new
+        ≡ run_of W.kind (W.seen world.old) (post_of general (program_of (W.seen world.old).scenario general)) }
+{
+    if !world.campaign().is_traitor(general) {
+        world.give_post(u32::from(general));
+    }
+}
+
+/// A traitor's ticks to his end.
+fn tick_to_end<W: Plays>(world: &mut W, general: u8) -> Result<(), AllocError>
+    requires { general < (W.seen world.old).scenario.generals }
+    ensures { OnOk result (W.seen world.new
+        ≡ run_of W.kind (W.seen world.old) (ticks_of general (program_of (W.seen world.old).scenario general))) }
+{
+    match world.campaign().seat(general).program() {
+        Some(program) => {
+            let most = program.program().len();
+            tick_often(world, u32::from(general), most as u32)
+        }
+        None => Ok(()),
+    }
+}
+
+/// Marks all loyal generals as having posted, ascending.
+fn all_post<W: Plays>(world: &mut W)
+    ensures { W.seen world.new
+        ≡ run_of W.kind (W.seen world.old)
+        (each (W.seen world.old).scenario.generals (λ g. post_of g (program_of (W.seen world.old).scenario g))) }
+{
+    for general in 0..world.campaign().generals() {
+        post_if_loyal(world, general);
+    }
+}
+
+/// All traitors' ticks to their ends, ascending.
+fn all_end<W: Plays>(world: &mut W) -> Result<(), AllocError>
+    ensures { OnOk result (W.seen world.new
+        ≡ run_of W.kind (W.seen world.old)
+        (each (W.seen world.old).scenario.generals (λ g. ticks_of g (program_of (W.seen world.old).scenario g)))) }
+{
+    for general in 0..world.campaign().generals() {
+        tick_to_end(world, general)?;
+    }
+    Ok(())
+}
+
+/// The end of the round, where one is open.
+fn end_round<W: Plays>(world: &mut W) -> Result<(), AllocError>
+    ensures { OnOk result (W.seen world.new ≡ happen W.kind (W.seen world.old) Close) }
+{
+    if world.rounds() > usize::from(world.campaign().bound()) {
+        return Ok(());
+    }
+    world.close_round()
+}
+
+/// All loyal generals post, all traitors go to their ends, and the round is closed.
+///
+/// # Errors
+///
+/// `AllocError` where memory is refused. No more is said of the world then than of every world of its kind: let it go.
+pub fn wind_up<W: Plays>(world: &mut W) -> Result<(), AllocError>
+    ensures { OnOk result (W.seen world.new ≡ run_of W.kind (W.seen world.old) (wound_up (W.seen world.old).scenario)) }
+{
+    all_post(world);
+    all_end(world)?;
+    end_round(world)
+}
+
+/// A round by a line of a schedule.
+fn listed_round<W: Plays>(world: &mut W, line: &[Repeat]) -> Result<(), AllocError>
+    ensures { OnOk result (W.seen world.new
+        ≡ run_of W.kind
+        (run_of W.kind (W.seen world.old) (line_events (W.seen world.old).scenario (entries_of line.now)))
+        (wound_up (W.seen world.old).scenario)) }
+{
+    play_line(world, line)?;
+    wind_up(world)
+}
+
+/// A round by names.
+///
+/// # Errors
+///
+/// `AllocError` where memory is refused. No more is said of the world then than of every world of its kind: let it go.
+pub fn named_round<W: Plays>(world: &mut W, names: &[u8]) -> Result<(), AllocError>
+    ensures { OnOk result (W.seen world.new
+        ≡ run_of W.kind (run_of W.kind (W.seen world.old) (names_events W.kind (W.seen world.old) names.now))
+        (wound_up (W.seen world.old).scenario)) }
+{
+    play_names(world, names)?;
+    wind_up(world)
+}
+
+/// As many rounds more as the campaign has, by a schedule: from its opening on, all of it.
+///
+/// # Errors
+///
+/// `AllocError` where memory is refused. No more is said of the world then than of every world of its kind: let it go.
+pub fn play_listed<W: Plays>(world: &mut W, schedule: &Schedule) -> Result<(), AllocError>
+    ensures { OnOk result (W.seen world.new
+        ≡ run_of W.kind (W.seen world.old)
+        (listed_rounds (W.seen world.old).scenario (suc (W.seen world.old).scenario.bound) (lines_by schedule.now))) }
+{
+    let rounds = usize::from(world.campaign().bound()) + 1;
+    for round in 0..rounds {
+        listed_round(world, line_at(schedule, round))?;
+    }
+    Ok(())
+}
+
+/// As many rounds more as the campaign has, in which these generals, by round, make their accesses in this order: from
+/// its opening on, all of it. A round without names has no accesses.
+///
+/// # Errors
+///
+/// `AllocError` where memory is refused. No more is said of the world then than of every world of its kind: let it go.
+pub fn play_named<W: Plays>(world: &mut W, names: &[Vec<u8>]) -> Result<(), AllocError>
+    ensures { OnOk result (W.seen world.new
+        ≡ run_of W.kind (W.seen world.old)
+        (replayed_rounds W.kind (W.seen world.old) (suc (W.seen world.old).scenario.bound) (lists_in names.now))) }
+{
+    let rounds = usize::from(world.campaign().bound()) + 1;
+    for round in 0..rounds {
+        named_round(world, names_at(names, round))?;
+    }
+    Ok(())
+}
+
+/// The entries for a round, counted from 0.
+fn line_at(schedule: &Schedule, round: usize) -> &[Repeat]
+    ensures { result.now ≡ slice_index_or schedule.now round [] }
+{
+    match schedule.lines.get(round) {
+        Some(line) => line.repeats.as_slice(),
+        None => &[],
+    }
+}
+
+/// The names for a round, counted from 0.
+fn names_at(names: &[Vec<u8>], round: usize) -> &[u8]
+    ensures { result.now ≡ slice_index_or (lists_in names.now) round [] }
+{
+    match names.get(round) {
+        Some(line) => line.as_slice(),
+        None => &[],
+    }
+}
