@@ -66,6 +66,14 @@ impl Stack {
         }
     }
 
+    /// Nothing stands in it any more. Only what each cell is is written: no byte and no offset is looked at where
+    /// nothing stands.
+    pub fn clear(&mut self)
+        ensures { self.new ≡ replicate 512 Cell.Empty }
+    {
+        self.kinds = [0; 512];
+    }
+
     /// It has all its cells.
     pub(crate) fn recall(&self)
         ensures { length self.now ≡ 512 }
