@@ -1,5 +1,6 @@
 -- What `clap` is told of a subcommand, and of all of them, row by row.
-use Rattle.std.proofs.Common.{◌≡◌, ◌∙◌, ◌++◌, List, [], ◌∷◌, ap, append-nil, append_assoc, map, sym}
+use Rattle.std.proofs.Common.{◌≡◌, ◌∙◌, ◌+◌, ◌<◌, ◌++◌, ℕ, Bool, false, ◌||◌, List, [], ◌∷◌, ap, ap₂, append-nil, append_assoc, drop, get_or, length, map, sym}
+use Rattle.std.proofs.lemmas.List.{at_drop_more}
 use Rattle.clap.specs.Words.{App, Rule, new_app, with_rule}
 use Rattle.command_line.specs.Lab.{flag_rule, place_rule}
 use Rattle.command_line.specs.Subcommand.{flag_of, rule_for, shape_for}
@@ -38,3 +39,18 @@ pub row_is : (s : Subcommand) (app : App) → app ≡ with_places (new_app s.nam
 unfolding shape_for
 row_is s app is = ap (λ (a : App). a.top) (flags_are app s.flags.now
     ∙ ap (λ (a : App). with_rules a (map flag_rule (map flag_of s.flags.now))) (is ∙ places_are (new_app s.name.now) s.places.now))
+
+-- one place more, and one flag more, of those at the front of the rest
+pub place_more : (app next : App) (rule : Rule) (places : List Place) (i : ℕ) (d : Place) → i < length places → rule ≡ place_rule (get_or places i d).name.now → next ≡ with_rule app rule
+    → with_places next (drop (i + 1) places) ≡ with_places app (drop i places)
+place_more app next rule places i d less is same =
+    ap (λ (a : App). with_places a (drop (i + 1) places)) (same ∙ ap (λ (r : Rule). with_rule app r) is) ∙ sym (at_drop_more (with_places app) places i d less)
+
+pub flag_more : (app next : App) (rule : Rule) (flags : List Flag) (i : ℕ) (d : Flag) → i < length flags → rule ≡ rule_for (get_or flags i d) → next ≡ with_rule app rule
+    → (with_flags next (drop (i + 1) flags)).top ≡ (with_flags app (drop i flags)).top
+flag_more app next rule flags i d less is same =
+    ap (λ (a : App). (with_flags a (drop (i + 1) flags)).top) (same ∙ ap (λ (r : Rule). with_rule app r) is)
+    ∙ sym (at_drop_more (λ (rest : List Flag). (with_flags app rest).top) flags i d less)
+
+pub still_local : (new old global : Bool) → new ≡ (old || global) → old ≡ false → global ≡ false → new ≡ false
+still_local new old global is none local = is ∙ ap₂ (λ (a b : Bool). a || b) none local

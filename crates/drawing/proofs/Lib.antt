@@ -1,6 +1,7 @@
 pub mod ChildLemmas
 pub mod Gathered
 pub mod PlaceLemmas
+mod NextPlaces
 pub mod FactLemmas
 pub mod ShownLemmas
 pub mod RowLemmas

@@ -9,3 +9,4 @@ pub mod FirstCell
 pub mod KnownCells
 pub mod LittleWrites
 pub mod Alike
+mod WindowLemmas

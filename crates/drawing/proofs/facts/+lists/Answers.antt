@@ -4,6 +4,7 @@ use Rattle.book.proofs.Gathering.{few_others, map_no}
 use Rattle.book.proofs.ListLemmas.{place_off, held_last, own_more, other_more}
 use Rattle.label.specs.Labels.{others}
 use Rattle.drawing.proofs.FactLemmas.{held_more}
+use Rattle.drawing.proofs.NextPlaces.{next_fits}
 use Rattle.drawing.proofs.facts.+lists.Goals as goal
 use Rattle.drawing.proofs.facts.+lists.Goals.{orders-then-other-general, orders-else-other-general+then-not-has, orders-else-other-general+else-not-has}
 
@@ -33,6 +34,17 @@ orders-push-requires-then-not-has g t c =
     let small = c.generals-other-end.ensures.within.few in
     let room : length c.loop-other.orders.items < 13 = omega arith in
     (lit< tt, room)
+
+pub orders-held-requires : goal.orders-held-requires
+orders-held-requires g t c =
+    let sum = c.requires.relays in
+    let value = c.generals-other-end.ensures.value in
+    let test = c.loop-other-test.true in
+    let below : c.loop-other.other < (g.H.Heard.seen c.args.table.now).generals = omega arith in
+    let fits = next_fits (g.H.Heard.seen c.args.table.now) c.args.label.now c.with.result c.loop-other.other c.args.general c.requires.place (omega arith) below (sym c.has.ensures ∙ c.if-not-has.true) c.if-other-general.false c.with.ensures in
+    let long = fits.1 in
+    let less = c.decreases in
+    λ κs within. (omega arith, ((search), (fits.0, omega arith)))
 
 pub orders-loop-other-preserved : goal.orders-loop-other-preserved
 orders-loop-other-preserved g t c =

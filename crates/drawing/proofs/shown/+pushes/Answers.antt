@@ -1,10 +1,11 @@
-use Rattle.std.proofs.Common.{ℕ, List, ◌≡◌, ◌-◌, ◌∙◌, ◌++◌, ◌∷◌, ap, arith, sym, append-nil}
+use Rattle.std.proofs.Common.{ℕ, List, ◌≡◌, ◌<◌, ◌-◌, ◌∙◌, ◌++◌, ◌∷◌, ap, arith, sym, append-nil}
 use Rattle.std.specs.List.{flat_map}
 use Rattle.label.specs.Labels.{others}
 use Rattle.book.proofs.Gathering.{off_first, on_first, on_behind}
 use Rattle.drawing.specs.declared.node.Node.{Node}
 use Rattle.drawing.specs.Shown.{nodes_by}
 use Rattle.drawing.proofs.Gathered.{gathered_yes, gathered_no}
+use Rattle.drawing.proofs.NextPlaces.{next_fits}
 use Rattle.drawing.proofs.ShownLemmas.{below_last, below_more, with_same}
 use Rattle.drawing.proofs.shown.+pushes.Goals as goal
 use Rattle.drawing.proofs.shown.+pushes.Goals.{push_below-then-other-general+then-not-has+in_ok-push_with, push_below-else-other-general, push_below-else-other-general-via-then-other-general+else-not-has, push_below-else-other-general-via-else-other-general}
@@ -12,6 +13,48 @@ use Rattle.drawing.proofs.shown.+pushes.Goals.{push_below-then-other-general+the
 pub push_below-returns-then-relays-eq0 : goal.push_below-returns-then-relays-eq0
 push_below-returns-then-relays-eq0 g t c =
     sym (ap (λ xs. c.args.nodes.now.items ++ xs) (below_last (g.H.Heard.seen c.args.table.now) c.args.traitors.now c.args.view c.args.relays c.args.label.now c.args.general c.if-relays-eq0.true) ∙ append-nil c.args.nodes.now.items)
+
+pub push_below-mark_at-mark-requires-clause-place : goal.push_below-mark_at-mark-requires-clause-place
+push_below-mark_at-mark-requires-clause-place g t c =
+    let some = c.if-relays-eq0.false in
+    let sum = c.requires.relays in
+    let value = c.generals-other-end.ensures.value in
+    let test = c.loop-other-test.true in
+    let below : c.loop-other.other < (g.H.Heard.seen c.args.table.now).generals = omega arith in
+    let fits = next_fits (g.H.Heard.seen c.args.table.now) c.args.label.now c.with-next.result c.loop-other.other c.args.general c.requires.place (omega arith) below (sym c.has.ensures ∙ c.if-not-has.true) c.if-other-general.true c.with-next.ensures in
+    fits.0
+
+pub push_below-node_at-child-requires-clause-place : goal.push_below-node_at-child-requires-clause-place
+push_below-node_at-child-requires-clause-place g t c =
+    let some = c.if-relays-eq0.false in
+    let sum = c.requires.relays in
+    let value = c.generals-other-end.ensures.value in
+    let test = c.loop-other-test.true in
+    let below : c.loop-other.other < (g.H.Heard.seen c.args.table.now).generals = omega arith in
+    let fits = next_fits (g.H.Heard.seen c.args.table.now) c.args.label.now c.with.result c.loop-other.other c.args.general c.requires.place (omega arith) below (sym c.has.ensures ∙ c.if-not-has.true) c.if-other-general.true c.with.ensures in
+    fits.0
+
+pub push_below-node_at-child-requires-clause-relays : goal.push_below-node_at-child-requires-clause-relays
+push_below-node_at-child-requires-clause-relays g t c =
+    let some = c.if-relays-eq0.false in
+    let sum = c.requires.relays in
+    let value = c.generals-other-end.ensures.value in
+    let test = c.loop-other-test.true in
+    let below : c.loop-other.other < (g.H.Heard.seen c.args.table.now).generals = omega arith in
+    let fits = next_fits (g.H.Heard.seen c.args.table.now) c.args.label.now c.with.result c.loop-other.other c.args.general c.requires.place (omega arith) below (sym c.has.ensures ∙ c.if-not-has.true) c.if-other-general.true c.with.ensures in
+    let long = fits.1 in omega arith
+
+pub push_below-push_with-requires : goal.push_below-push_with-requires
+push_below-push_with-requires g t c =
+    let some = c.if-relays-eq0.false in
+    let sum = c.requires.relays in
+    let value = c.generals-other-end.ensures.value in
+    let test = c.loop-other-test.true in
+    let below : c.loop-other.other < (g.H.Heard.seen c.args.table.now).generals = omega arith in
+    let fits = next_fits (g.H.Heard.seen c.args.table.now) c.args.label.now c.with-next.result c.loop-other.other c.args.general c.requires.place (omega arith) below (sym c.has.ensures ∙ c.if-not-has.true) c.if-other-general.true c.with-next.ensures in
+    let long = fits.1 in
+    let less = c.decreases in
+    λ κs within. (omega arith, ((search), (fits.0, omega arith)))
 
 pub push_below-loop-other-preserved : goal.push_below-loop-other-preserved
 push_below-loop-other-preserved g t c =
