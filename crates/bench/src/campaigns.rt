@@ -1,164 +1,221 @@
-//! Times campaigns: from a scenario to its chronicle, from text to text, and audits.
+//! Times campaigns: from a scenario to its chronicle, from text to text, and audits; of signed messages the dearest
+//! close, too.
 
-use crate::texts::{colluding, idle, scenario_of};
-use crate::timing::{Timed, nanoseconds, report_work};
+use crate::task::{Task, report_task};
+use crate::texts::{colluding, idle, signing};
+use crate::timing::nanoseconds;
+use crate::told::{Messages, audited, freely, scenario_of, told_freely};
 use anyhow::{Result, bail};
 use round::Scenario;
-use std::alloc::{AllocError, Global};
+use signed::{SignedWorld, play_signed};
+use std::alloc::Global;
 use std::rt::Clock;
 use std::str;
+use std::sync::Wait;
+use std::thread::Threads;
 use std::time::Instant;
-use trace::{Latch, check, write_chronicle};
-use world::{Chronicle, Schedule, play};
+use world::{Event, EventError, play};
 
-/// The campaign's chronicle, in which the generals act one after another.
-pub fn played(alloc: Global, scenario: Scenario) -> Result<Chronicle, AllocError> {
-    let schedule = Schedule {
-        lines: Vec::new(alloc),
-    };
-    play(alloc, scenario, &schedule)
-}
-
-/// The text of a chronicle.
-fn text_of(alloc: Global, chronicle: &Chronicle) -> Result<Vec<u8>> {
-    let mut sink = Latch::new(Vec::new(alloc));
-    match write_chronicle(chronicle, &mut sink) {
-        Ok(()) => Ok(sink.into_writer()),
-        Err(_) => bail!("a list of bytes takes all"),
+/// How long a campaign takes from its scenario to its chronicle, in nanoseconds.
+pub fn play_once<C: Clock>(
+    alloc: Global,
+    clock: &C,
+    messages: Messages,
+    scenario: &Scenario,
+) -> Result<u64> {
+    let copy = scenario.copy(alloc)?;
+    match messages {
+        Messages::Oral => play_oral(alloc, clock, copy),
+        Messages::Signed => sign_once(alloc, clock, copy),
     }
 }
 
-/// The chronicle of a scenario's text.
-fn chronicle_of(alloc: Global, text: &str) -> Result<Chronicle> {
-    Ok(played(alloc, scenario_of(alloc, text)?)?)
+/// The same of oral messages.
+fn play_oral<C: Clock>(alloc: Global, clock: &C, scenario: Scenario) -> Result<u64> {
+    let schedule = freely(alloc);
+    let start = Instant::now(clock)?;
+    let chronicle = play(alloc, scenario, &schedule);
+    let time = nanoseconds(clock, start);
+    match chronicle {
+        Ok(_) => time,
+        Err(_) => bail!("out of memory"),
+    }
 }
 
-/// From a scenario to its chronicle.
-#[derive(Drop)]
-struct Playing<'a, C> {
+/// The same of signed messages.
+fn sign_once<C: Clock>(alloc: Global, clock: &C, scenario: Scenario) -> Result<u64> {
+    let schedule = freely(alloc);
+    let start = Instant::now(clock)?;
+    let chronicle = play_signed(alloc, scenario, &schedule);
+    let time = nanoseconds(clock, start);
+    match chronicle {
+        Ok(_) => time,
+        Err(_) => bail!("out of memory"),
+    }
+}
+
+/// The text of the chronicle of a scenario's text.
+fn chronicle_of(alloc: Global, messages: Messages, text: &str) -> Result<Vec<u8>> {
+    told_freely(alloc, messages, scenario_of(alloc, messages, text)?)
+}
+
+/// How long a campaign takes from its scenario's text to its chronicle's, in nanoseconds.
+pub fn tell_once<C: Clock>(
     alloc: Global,
-    clock: &'a C,
-    scenario: &'a Scenario,
+    clock: &C,
+    messages: Messages,
+    text: &str,
+) -> Result<u64> {
+    let start = Instant::now(clock)?;
+    let told = chronicle_of(alloc, messages, text);
+    let time = nanoseconds(clock, start);
+    match told {
+        Ok(_) => time,
+        Err(error) => Err(error),
+    }
 }
 
-impl<C: Clock> Timed for Playing<'_, C> {
-    fn once(&mut self) -> Result<u64> {
-        let copy = self.scenario.copy(self.alloc)?;
-        let start = Instant::now(self.clock)?;
-        let chronicle = played(self.alloc, copy);
-        let time = nanoseconds(self.clock, start);
-        match chronicle {
-            Ok(_) => time,
-            Err(_) => bail!("out of memory"),
+/// How long an audit takes, from a scenario and its chronicle's text to the verdict, in nanoseconds.
+pub fn audit_once<C: Clock>(
+    alloc: Global,
+    clock: &C,
+    messages: Messages,
+    scenario: &Scenario,
+    text: &str,
+) -> Result<u64> {
+    let start = Instant::now(clock)?;
+    let verdict = audited(alloc, messages, scenario, text);
+    let time = nanoseconds(clock, start);
+    match verdict {
+        Ok(_) => time,
+        Err(_) => bail!("an audit has found a fault"),
+    }
+}
+
+/// What all do before a round is closed, each event so many times.
+const TURNS: &[(Event, u32)] = &[
+    (Event::Post(1), 1),
+    (Event::Post(2), 1),
+    (Event::Post(3), 1),
+    (Event::Post(4), 1),
+    (Event::Post(5), 1),
+    (Event::Post(6), 1),
+    (Event::Post(7), 1),
+    (Event::Post(8), 1),
+    (Event::Post(9), 1),
+    (Event::Tick(0), 80),
+    (Event::Tick(10), 80),
+    (Event::Tick(11), 80),
+    (Event::Tick(12), 80),
+];
+
+/// All generals act to their end in the open round.
+fn act(world: &mut SignedWorld) -> Result<(), EventError> {
+    for (event, times) in TURNS {
+        for _ in 0..*times {
+            world.apply(*event)?;
         }
     }
+    Ok(())
 }
 
-/// From a scenario's text to its chronicle's.
-#[derive(Drop)]
-struct Telling<'a, C> {
-    alloc: Global,
-    clock: &'a C,
-    text: &'a str,
+/// The time of a close, in nanoseconds.
+fn close<C: Clock>(clock: &C, world: &mut SignedWorld) -> Result<u64> {
+    let start = Instant::now(clock)?;
+    world.apply(Event::Close)?;
+    nanoseconds(clock, start)
 }
 
-impl<C: Clock> Timed for Telling<'_, C> {
-    fn once(&mut self) -> Result<u64> {
-        let start = Instant::now(self.clock)?;
-        let chronicle = chronicle_of(self.alloc, self.text)?;
-        let told = text_of(self.alloc, &chronicle);
-        let time = nanoseconds(self.clock, start);
-        match told {
-            Ok(_) => time,
-            Err(error) => Err(error),
-        }
+/// The time of the dearest close of so many rounds and one, in nanoseconds.
+fn dearest<C: Clock>(clock: &C, world: &mut SignedWorld, bound: u8) -> Result<u64> {
+    let mut dearest = 0;
+    for _ in 0..=bound {
+        act(world)?;
+        dearest = close(clock, world)?.max(dearest);
     }
+    Ok(dearest)
 }
 
-/// From a scenario and its chronicle's text to the verdict.
-#[derive(Drop)]
-struct Auditing<'a, C> {
-    alloc: Global,
-    clock: &'a C,
-    scenario: &'a Scenario,
-    text: &'a str,
+/// The time of the dearest close of a campaign of signed messages, in nanoseconds.
+pub fn close_once<C: Clock>(alloc: Global, clock: &C, scenario: &Scenario) -> Result<u64> {
+    let mut world = SignedWorld::open(alloc, scenario.copy(alloc)?)?;
+    dearest(clock, &mut world, scenario.bound())
 }
 
-impl<C: Clock> Timed for Auditing<'_, C> {
-    fn once(&mut self) -> Result<u64> {
-        let start = Instant::now(self.clock)?;
-        let verdict = check(self.alloc, self.scenario, self.text);
-        let time = nanoseconds(self.clock, start);
-        match verdict {
-            Ok(_) => time,
-            Err(_) => bail!("an audit has found a fault"),
-        }
-    }
+/// What is printed of a campaign.
+#[derive(Clone, Copy)]
+struct Names {
+    play: &'static str,
+    tell: &'static str,
+    audit: &'static str,
 }
+
+/// Of seven generals, of whom two collude.
+const COLLUDING: Names = Names {
+    play: "play, two colluding traitors of seven",
+    tell: "from text to text, two colluding traitors of seven",
+    audit: "audit, two colluding traitors of seven",
+};
+
+/// Of thirteen, of whom four have long programs.
+const LONG: Names = Names {
+    play: "play, four long traitors of thirteen",
+    tell: "from text to text, four long traitors of thirteen",
+    audit: "audit, four long traitors of thirteen",
+};
+
+/// Of thirteen, of whom four sign and pass on.
+const SIGNED: Names = Names {
+    play: "play, signed, four traitors of thirteen",
+    tell: "from text to text, signed, four traitors of thirteen",
+    audit: "audit, signed, four traitors of thirteen",
+};
 
 /// Measures each campaign.
-pub fn report_campaigns<R: Print + Eprint + Clock + AllocGlobal>(rt: &R) -> Result<()> {
+pub fn report_campaigns<R: Print + Eprint + Clock + Threads + Wait + Sync + AllocGlobal>(
+    rt: &R,
+) -> Result<()> {
     let text = colluding(rt.alloc())?;
-    report_oral(rt, text.as_str(), "two colluding traitors of seven")?;
+    report_oral(rt, text.as_str(), &COLLUDING)?;
     let text = idle(rt.alloc())?;
-    report_oral(rt, text.as_str(), "four long traitors of thirteen")
+    report_oral(rt, text.as_str(), &LONG)?;
+    let text = signing(rt.alloc())?;
+    report_signed(rt, text.as_str())
 }
 
-fn report_oral<R: Print + Eprint + Clock + AllocGlobal>(
+/// Measures a campaign of oral messages.
+fn report_oral<R: Print + Eprint + Clock + Threads + Wait + Sync + AllocGlobal>(
     rt: &R,
     text: &str,
-    campaign: &str,
+    names: &Names,
 ) -> Result<()> {
-    let scenario = scenario_of(rt.alloc(), text)?;
-    report_play(rt, &scenario, campaign)?;
-    report_text(rt, text, campaign)?;
-    report_audit(rt, &scenario, text, campaign)
+    let scenario = scenario_of(rt.alloc(), Messages::Oral, text)?;
+    report_task(rt, names.play, &Task::Play(Messages::Oral, &scenario))?;
+    report_texts(rt, Messages::Oral, scenario, text, names)
 }
 
-fn report_play<R: Print + Eprint + Clock + AllocGlobal>(
-    rt: &R,
-    scenario: &Scenario,
-    campaign: &str,
-) -> Result<()> {
-    let alloc = rt.alloc();
-    let what = format!(in alloc; "play, {campaign}")?;
-    let mut work = Playing {
-        alloc,
-        clock: rt,
-        scenario,
-    };
-    report_work(rt, what.as_str(), &mut work)
-}
-
-fn report_text<R: Print + Eprint + Clock + AllocGlobal>(
+/// Measures the campaign of signed messages.
+fn report_signed<R: Print + Eprint + Clock + Threads + Wait + Sync + AllocGlobal>(
     rt: &R,
     text: &str,
-    campaign: &str,
 ) -> Result<()> {
-    let alloc = rt.alloc();
-    let what = format!(in alloc; "from text to text, {campaign}")?;
-    let mut work = Telling {
-        alloc,
-        clock: rt,
-        text,
-    };
-    report_work(rt, what.as_str(), &mut work)
+    let scenario = scenario_of(rt.alloc(), Messages::Signed, text)?;
+    report_task(rt, SIGNED.play, &Task::Play(Messages::Signed, &scenario))?;
+    let what = "dearest close, signed, four traitors of thirteen";
+    report_task(rt, what, &Task::Close(&scenario))?;
+    report_texts(rt, Messages::Signed, scenario, text, &SIGNED)
 }
 
-fn report_audit<R: Print + Eprint + Clock + AllocGlobal>(
+/// Measures a campaign from text to text, and its audit.
+fn report_texts<R: Print + Eprint + Clock + Threads + Wait + Sync + AllocGlobal>(
     rt: &R,
-    scenario: &Scenario,
+    messages: Messages,
+    scenario: Scenario,
     text: &str,
-    campaign: &str,
+    names: &Names,
 ) -> Result<()> {
-    let alloc = rt.alloc();
-    let what = format!(in alloc; "audit, {campaign}")?;
-    let told = text_of(alloc, &chronicle_of(alloc, text)?)?;
-    let mut work = Auditing {
-        alloc,
-        clock: rt,
-        scenario,
-        text: str::from_utf8(told.as_slice())?,
-    };
-    report_work(rt, what.as_str(), &mut work)
+    report_task(rt, names.tell, &Task::Tell(messages, text))?;
+    let chronicle = chronicle_of(rt.alloc(), messages, text)?;
+    let told = str::from_utf8(chronicle.as_slice())?;
+    report_task(rt, names.audit, &Task::Audit(messages, &scenario, told))
 }

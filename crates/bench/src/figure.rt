@@ -2,7 +2,7 @@ use crate::bytecode::UNITS;
 use std::fmt;
 
 /// How long a piece of work took.
-#[derive(Clone, Copy, Debug, PartialEq, Eq)]
+#[derive(Clone, Copy)]
 pub struct Figure {
     /// How many units or steps it had.
     pub count: u64,

@@ -17,13 +17,13 @@ mod outcome;
 mod playing;
 mod reading;
 mod serving;
-mod signing;
 mod stored;
+mod worlds;
 mod writer;
 mod writing;
 
 use anyhow::{Result, bail};
-use call::{CALLS, Call};
+use call::{CALLS, named};
 use campaign::{CAMPAIGNS, Campaign};
 use std::rt::Files;
 use std::sync::Wait;
@@ -40,31 +40,36 @@ pub fn answer<R: Print + Files + Threads + Wait + Sync + AllocGlobal>(
         files => {
             every(rt)?;
             stored::report(rt, files)?;
-            bytecode::report(rt)?;
-            auditing::report(rt)?;
-            reading::report(rt)?;
-            writing::report(rt)
+            damaged(rt)
         }
     }
+}
+
+/// Gives the layers programs and schedules by chance, damaged chronicles, and writers that fail.
+fn damaged<R: Print + AllocGlobal>(rt: &R) -> Result<()> {
+    bytecode::report(rt)?;
+    auditing::report(rt)?;
+    reading::report(rt)?;
+    writing::report(rt)
 }
 
 /// Makes the call of this name on the campaign of this name.
 fn one<R: Print + Threads + Wait + Sync + AllocGlobal>(
     rt: &R,
-    call: &str,
+    name: &str,
     campaign: &str,
 ) -> Result<()> {
-    match (Call::named(call), Campaign::named(campaign)) {
-        (Some(call), Some(campaign)) => calls::report(rt, call, campaign),
+    match (named(name), Campaign::named(campaign)) {
+        (Some(call), Some(campaign)) => calls::report(rt, name, call, campaign),
         _ => bail!("there is no such call, or no such campaign"),
     }
 }
 
 /// Makes every call on every campaign.
 fn every<R: Print + Threads + Wait + Sync + AllocGlobal>(rt: &R) -> Result<()> {
-    for call in CALLS {
+    for &(name, call) in CALLS {
         for campaign in CAMPAIGNS {
-            calls::report(rt, *call, *campaign)?;
+            calls::report(rt, name, call, *campaign)?;
         }
     }
     Ok(())

@@ -15,9 +15,10 @@ mod plain;
 mod report;
 mod rounds;
 mod shape;
-mod signatures;
+mod task;
 mod texts;
 mod timing;
+mod told;
 mod trees;
 mod work;
 
@@ -58,6 +59,5 @@ fn times<R: Print + Eprint + Clock + Threads + Wait + Sync + AllocGlobal>(rt: &R
     trees::report_trees(rt)?;
     rounds::report_rounds(rt)?;
     campaigns::report_campaigns(rt)?;
-    signatures::report_signatures(rt)?;
     musters::report_musters(rt)
 }

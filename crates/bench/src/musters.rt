@@ -1,8 +1,9 @@
 //! Times campaigns whose generals act in threads, beside as many threads that do nothing.
 
-use crate::median::median;
-use crate::texts::{colluding, idle, scenario_of};
-use crate::timing::{TIMES, nanoseconds, report_time};
+use crate::task::{Task, report_task};
+use crate::texts::{colluding, idle};
+use crate::timing::nanoseconds;
+use crate::told::{Messages, scenario_of};
 use anyhow::{Result, bail};
 use round::Scenario;
 use std::rt::Clock;
@@ -13,7 +14,7 @@ use std::time::Instant;
 use threads::{Open, muster};
 
 /// How long a campaign takes once with each general in a thread of his own through all rounds, in nanoseconds.
-fn muster_once<R: Clock + Threads + Wait + Sync + AllocGlobal>(
+pub fn muster_once<R: Clock + Threads + Wait + Sync + AllocGlobal>(
     rt: &R,
     scenario: &Scenario,
 ) -> Result<u64> {
@@ -27,21 +28,9 @@ fn muster_once<R: Clock + Threads + Wait + Sync + AllocGlobal>(
     }
 }
 
-/// Its median time, in nanoseconds.
-fn muster_time<R: Clock + Threads + Wait + Sync + AllocGlobal>(
-    rt: &R,
-    scenario: &Scenario,
-) -> Result<u64> {
-    let mut times = Vec::with_capacity(rt.alloc(), TIMES)?;
-    for _ in 0..TIMES {
-        times.push(muster_once(rt, scenario)?)?;
-    }
-    Ok(median(&mut times).unwrap_or(0))
-}
-
 /// How long it takes once to start a thread for each general in each round, that does nothing, in nanoseconds: what it
 /// saves that a general stays in his. How many were started is added up.
-fn start_once<R: Clock + Threads + Wait + Sync>(
+pub fn start_once<R: Clock + Threads + Wait + Sync>(
     rt: &R,
     generals: u8,
     rounds: u8,
@@ -52,59 +41,6 @@ fn start_once<R: Clock + Threads + Wait + Sync>(
         *count = count.wrapping_add(started_at_once(rt, generals));
     }
     nanoseconds(rt, start)
-}
-
-/// Its median time, in nanoseconds.
-fn start_time<R: Clock + Threads + Wait + Sync + AllocGlobal>(
-    rt: &R,
-    generals: u8,
-    rounds: u8,
-    count: &mut u64,
-) -> Result<u64> {
-    let mut times = Vec::with_capacity(rt.alloc(), TIMES)?;
-    for _ in 0..TIMES {
-        times.push(start_once(rt, generals, rounds, count)?)?;
-    }
-    Ok(median(&mut times).unwrap_or(0))
-}
-
-/// Measures campaigns of thirteen generals in five rounds, of whom four take 4,096 steps, and of seven in three, of
-/// whom two meet at the board.
-pub fn report_musters<R: Print + Eprint + Clock + Threads + Wait + Sync + AllocGlobal>(
-    rt: &R,
-) -> Result<()> {
-    let text = idle(rt.alloc())?;
-    let what = "muster, 13 generals, four idle traitors: 65 letters";
-    report_muster(rt, text.as_str(), what)?;
-    let what = "threads alone, 13 generals, four idle traitors: 65 letters";
-    report_threads(rt, 13, 5, what)?;
-    let text = colluding(rt.alloc())?;
-    let what = "muster, 7 generals, two colluders: 21 letters";
-    report_muster(rt, text.as_str(), what)?;
-    let what = "threads alone, 7 generals, two colluders: 21 letters";
-    report_threads(rt, 7, 3, what)
-}
-
-fn report_muster<R: Print + Eprint + Clock + Threads + Wait + Sync + AllocGlobal>(
-    rt: &R,
-    text: &str,
-    what: &str,
-) -> Result<()> {
-    let scenario = scenario_of(rt.alloc(), text)?;
-    report_time(rt, what, muster_time(rt, &scenario)?)
-}
-
-fn report_threads<R: Print + Eprint + Clock + Threads + Wait + Sync + AllocGlobal>(
-    rt: &R,
-    generals: u8,
-    rounds: u8,
-    what: &str,
-) -> Result<()> {
-    let mut count = 0;
-    let time = start_time(rt, generals, rounds, &mut count)?;
-    report_time(rt, what, time)?;
-    eprintln!(rt; "{count} threads were started")?;
-    Ok(())
 }
 
 /// Starts so many threads, waits for them, and answers how many there were.
@@ -119,4 +55,38 @@ fn started_at_once<R: Threads + Wait + Sync>(rt: &R, wanted: u8) -> u64 {
         }
         count
     })
+}
+
+/// Measures campaigns of thirteen generals in five rounds, of whom four take 4,096 steps, and of seven in three, of
+/// whom two meet at the board.
+pub fn report_musters<R: Print + Eprint + Clock + Threads + Wait + Sync + AllocGlobal>(
+    rt: &R,
+) -> Result<()> {
+    let text = idle(rt.alloc())?;
+    let what = "muster, 13 generals, four idle traitors: 65 letters";
+    report_muster(rt, text.as_str(), what)?;
+    let what = "threads alone, 13 generals, four idle traitors: 65 letters";
+    report_task(rt, what, &Task::Threads(13, 5))?;
+    report_musters_of_seven(rt)
+}
+
+/// Measures those of seven generals.
+fn report_musters_of_seven<R: Print + Eprint + Clock + Threads + Wait + Sync + AllocGlobal>(
+    rt: &R,
+) -> Result<()> {
+    let text = colluding(rt.alloc())?;
+    let what = "muster, 7 generals, two colluders: 21 letters";
+    report_muster(rt, text.as_str(), what)?;
+    let what = "threads alone, 7 generals, two colluders: 21 letters";
+    report_task(rt, what, &Task::Threads(7, 3))
+}
+
+/// Measures the muster of the campaign that a text tells.
+fn report_muster<R: Print + Eprint + Clock + Threads + Wait + Sync + AllocGlobal>(
+    rt: &R,
+    text: &str,
+    what: &str,
+) -> Result<()> {
+    let scenario = scenario_of(rt.alloc(), Messages::Oral, text)?;
+    report_task(rt, what, &Task::Muster(&scenario))
 }

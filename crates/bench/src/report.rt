@@ -1,7 +1,8 @@
 use crate::bytecode::UNITS;
 use crate::figure::Figure;
-use crate::shape::Shape;
-use crate::timing::{Timed, median_time};
+use crate::median::median;
+use crate::shape::{SHAPES, Shape};
+use crate::timing::TIMES;
 use crate::work::{ACTIVATIONS, Material, Work, time_once};
 use anyhow::Result;
 use std::alloc::Global;
@@ -10,7 +11,7 @@ use std::rt::Clock;
 /// Measures every shape. What was measured is printed on standard output, the figures on standard error.
 pub fn report<R: Print + Eprint + Clock + AllocGlobal>(rt: &R) -> Result<()> {
     let mut sum = 0;
-    for shape in Shape::ALL {
+    for shape in SHAPES {
         report_shape(rt, shape, &mut sum)?;
     }
     eprintln!(rt; "sum {sum}")?;
@@ -18,42 +19,21 @@ pub fn report<R: Print + Eprint + Clock + AllocGlobal>(rt: &R) -> Result<()> {
 }
 
 /// What is timed of a shape besides the plain loop.
-fn works(shape: Shape) -> &'static [Work] {
-    match shape {
-        Shape::Moves => &[
+fn works(shape: &Shape) -> &'static [Work] {
+    if shape.is_started {
+        &[
             Work::Plain,
             Work::Decode,
             Work::Verify,
             Work::Start,
             Work::Run,
-        ],
-        _ => &[Work::Plain, Work::Decode, Work::Verify, Work::Run],
+        ]
+    } else {
+        &[Work::Plain, Work::Decode, Work::Verify, Work::Run]
     }
 }
 
-/// A piece of work on the program of a shape. What it gives is mixed into `sum`, so that it is done.
-#[derive(Drop)]
-struct Doing<'a, C> {
-    alloc: Global,
-    clock: &'a C,
-    work: Work,
-    material: &'a Material,
-    sum: u64,
-}
-
-impl<C: Clock> Timed for Doing<'_, C> {
-    fn once(&mut self) -> Result<u64> {
-        time_once(
-            self.alloc,
-            self.clock,
-            self.work,
-            self.material,
-            &mut self.sum,
-        )
-    }
-}
-
-/// The median time of the work, in nanoseconds.
+/// The median time of the work, in nanoseconds. What it gives is mixed into `sum`, so that it is done.
 fn time_of<C: Clock>(
     alloc: Global,
     clock: &C,
@@ -61,55 +41,60 @@ fn time_of<C: Clock>(
     material: &Material,
     sum: &mut u64,
 ) -> Result<u64> {
-    let mut doing = Doing {
-        alloc,
-        clock,
-        work,
-        material,
-        sum: *sum,
-    };
-    let time = median_time(alloc, &mut doing)?;
-    *sum = doing.sum;
-    Ok(time)
+    let mut times = Vec::with_capacity(alloc, TIMES)?;
+    for _ in 0..TIMES {
+        times.push(time_once(alloc, clock, work, material, sum)?)?;
+    }
+    Ok(median(&mut times).unwrap_or(0))
 }
 
 fn report_shape<R: Print + Eprint + Clock + AllocGlobal>(
     rt: &R,
-    shape: Shape,
+    shape: &Shape,
     sum: &mut u64,
 ) -> Result<()> {
-    let alloc = rt.alloc();
-    let material = Material::of(alloc, shape)?;
-    let plain = time_of(alloc, rt, Work::Plain, &material, sum)?;
+    let material = Material::of(rt.alloc(), shape)?;
+    let plain = time_of(rt.alloc(), rt, Work::Plain, &material, sum)?;
     for work in works(shape) {
-        let time = time_of(alloc, rt, *work, &material, sum)?;
-        report_figure(rt, shape, *work, time, plain)?;
+        let time = time_of(rt.alloc(), rt, *work, &material, sum)?;
+        report_figure(rt, shape.name, *work, figure(*work, time, plain))?;
     }
     Ok(())
 }
 
+/// How long a piece of work of this median time took, where the plain loop took this.
+fn figure(work: Work, time: u64, plain: u64) -> Figure {
+    Figure {
+        count: count(work),
+        time,
+        plain,
+    }
+}
+
 /// Prints what was measured on standard output, the figures on standard error.
-fn report_figure<R: Print + Eprint>(
-    rt: &R,
-    shape: Shape,
-    work: Work,
-    time: u64,
-    plain: u64,
-) -> Result<()> {
-    let (count, what) = size(work);
-    let figure = Figure { count, time, plain };
-    println!(rt; "{work}, {shape}: {count} {what}")?;
+fn report_figure<R: Print + Eprint>(rt: &R, shape: &str, work: Work, figure: Figure) -> Result<()> {
+    let (count, things) = (figure.count, things(work));
+    println!(rt; "{work}, {shape}: {count} {things}")?;
     eprintln!(rt; "{work}, {shape}: {figure}")?;
     Ok(())
 }
 
-/// How many things are done at once, and which.
-fn size(work: Work) -> (u64, &'static str) {
+/// How many things are done at once.
+fn count(work: Work) -> u64 {
     let units = UNITS as u64;
     let activations = ACTIVATIONS as u64;
     match work {
-        Work::Plain | Work::Decode | Work::Verify => (units, "units"),
-        Work::Start => (activations, "activations"),
-        Work::Run => (activations * units, "steps"),
+        Work::Plain | Work::Decode | Work::Verify => units,
+        Work::Start => activations,
+        Work::Run => activations * units,
+    }
+}
+
+/// What these are.
+fn things(work: Work) -> &'static str {
+    match work {
+        Work::Plain | Work::Decode | Work::Verify => "units",
+        Work::Start => "activations",
+        Work::Run => "steps",
     }
 }

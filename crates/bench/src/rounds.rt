@@ -3,24 +3,30 @@ ghost use Rattle.std.specs.Prelude.{◌≡◌, ◌≤◌, suc, List, IfOk, lengt
 ghost use Rattle.round.specs.Letters.{Letter as LetterSeen};
 ghost use Rattle.round.specs.Told.{AreLettersOf, AreRoundsOf, WasTold};
 
-use crate::campaigns::played;
 use crate::median::median;
-use crate::texts::scenario_of;
 use crate::timing::{TIMES, nanoseconds, report_time};
+use crate::told::{Messages, freely, played, scenario_of};
 use anyhow::{Result, bail};
 use round::{Letter, Round, Scenario, Told, are_letters_of, are_rounds_of};
 use std::alloc::{AllocError, Global};
 use std::rt::Clock;
 use std::time::Instant;
+use world::Chronicle;
 
 /// Thirteen loyal generals, of whom each lieutenant relays 990 labels in the last round.
 const THIRTEEN: &str = "generals = 13\nbound = 4\ncommander = 0\norder = 1\n";
+
+/// Their chronicle.
+fn thirteen(alloc: Global) -> Result<Chronicle> {
+    let scenario = scenario_of(alloc, Messages::Oral, THIRTEEN)?;
+    Ok(played(alloc, &scenario, &freely(alloc))?)
+}
 
 /// Measures the last round of thirteen generals. What was measured is printed on standard output, the figures on
 /// standard error.
 pub fn report_rounds<R: Print + Eprint + Clock + AllocGlobal>(rt: &R) -> Result<()> {
     let alloc = rt.alloc();
-    let chronicle = played(alloc, scenario_of(alloc, THIRTEEN)?)?;
+    let chronicle = thirteen(alloc)?;
     let scenario = chronicle.scenario();
     let Some((last, before)) = chronicle.letters().split_last() else {
         bail!("a campaign has a round");
@@ -64,14 +70,22 @@ fn context_time<C: Clock>(alloc: Global, clock: &C, scenario: &Scenario, told: &
     requires told { (before : List (List LetterSeen)) × WasTold scenario.now before told.now }
     requires left { told.now.rounds ≤ scenario.now.bound }
 {
-    let general = scenario.generals() - 1;
     let mut times = Vec::with_capacity(alloc, TIMES)?;
     for _ in 0..TIMES {
-        let start = Instant::now(clock)?;
-        let _context = told.context(alloc, scenario, general)?;
-        times.push(nanoseconds(clock, start)?)?;
+        times.push(context_once(alloc, clock, scenario, told)?)?;
     }
     Ok(median(&mut times).unwrap_or(0))
+}
+
+/// The time of the context of the last general, in nanoseconds.
+fn context_once<C: Clock>(alloc: Global, clock: &C, scenario: &Scenario, told: &Told) -> Result<u64>
+    requires told { (before : List (List LetterSeen)) × WasTold scenario.now before told.now }
+    requires left { told.now.rounds ≤ scenario.now.bound }
+{
+    let general = scenario.generals() - 1;
+    let start = Instant::now(clock)?;
+    let _context = told.context(alloc, scenario, general)?;
+    nanoseconds(clock, start)
 }
 
 fn report_delivery<R: Print + Eprint + Clock + AllocGlobal>(

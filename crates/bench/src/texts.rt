@@ -1,8 +1,5 @@
 //! The texts of the campaigns that are timed.
 
-use anyhow::{Result, bail};
-use round::Scenario;
-use scenario::{Campaign, read, read_any};
 use std::alloc::{AllocError, Global};
 
 /// How many instructions a long program has before its exit.
@@ -133,27 +130,16 @@ fn with_program(
 ) -> Result<String, AllocError> {
     let mut text = String::from_str(alloc, keys)?;
     for general in generals {
-        text.push_str("[[traitor]]\ngeneral = ")?;
-        text.push_str(*general)?;
-        text.push_str("\nasm = '''\n")?;
-        text.push_str(program)?;
-        text.push_str("'''\n")?;
+        push_traitor(&mut text, *general, program)?;
     }
     Ok(text)
 }
 
-/// The scenario that a text tells.
-pub fn scenario_of(alloc: Global, text: &str) -> Result<Scenario> {
-    match read(alloc, text) {
-        Ok(scenario) => Ok(scenario),
-        Err(_) => bail!("a scenario is refused"),
-    }
-}
-
-/// The scenario of signed messages that a text tells.
-pub fn signed_scenario_of(alloc: Global, text: &str) -> Result<Scenario> {
-    match read_any(alloc, text) {
-        Ok(Campaign::Signed(scenario)) => Ok(scenario),
-        _ => bail!("a signed scenario is refused"),
-    }
+/// Adds a general who has this program.
+fn push_traitor(text: &mut String, general: &str, program: &str) -> Result<(), AllocError> {
+    text.push_str("[[traitor]]\ngeneral = ")?;
+    text.push_str(general)?;
+    text.push_str("\nasm = '''\n")?;
+    text.push_str(program)?;
+    text.push_str("'''\n")
 }

@@ -1,13 +1,14 @@
 //! Times ranks of labels, and the resolution of one tree and of twelve.
 
-use crate::median::median;
-use crate::timing::{TIMES, Timed, nanoseconds, report_time, report_work};
+use crate::task::{Task, report_task};
+use crate::timing::nanoseconds;
 use anyhow::{Result, bail};
 use combine::Rule;
 use label::{Label, Space, rank, unrank};
 use resolve::{resolve, resolve_all};
 use std::alloc::{AllocError, Global};
 use std::rt::Clock;
+use std::sync::Wait;
 use std::thread::Threads;
 use std::time::Instant;
 use tree::Tree;
@@ -56,142 +57,70 @@ fn filled(mut tree: Tree, state: &mut u64) -> Tree {
     tree
 }
 
-/// All labels are ranked. What is made is added up, so that it is done.
-#[derive(Drop)]
-struct Ranking<'a, C> {
-    clock: &'a C,
-    labels: &'a [Label],
-    sum: u64,
-}
-
-impl<C: Clock> Timed for Ranking<'_, C> {
-    fn once(&mut self) -> Result<u64> {
-        let start = Instant::now(self.clock)?;
-        for label in self.labels {
-            self.sum = self
-                .sum
-                .wrapping_add(rank(SPACE, label).map_or(0, u64::from));
-        }
-        nanoseconds(self.clock, start)
+/// How long it takes to rank all labels, in nanoseconds. The ranks are added up.
+pub fn rank_all<C: Clock>(clock: &C, labels: &[Label], sum: &mut u64) -> Result<u64> {
+    let start = Instant::now(clock)?;
+    for label in labels {
+        *sum = sum.wrapping_add(rank(SPACE, label).map_or(0, u64::from));
     }
+    nanoseconds(clock, start)
 }
 
-/// One tree after another is resolved, each by itself.
-#[derive(Drop)]
-struct Resolving<'a, C> {
-    clock: &'a C,
-    trees: &'a [Tree],
-    rule: Rule,
-    next: usize,
-    sum: u64,
+/// How long it takes to resolve the tree of this number, in nanoseconds. Its order is added up.
+pub fn resolve_one<C: Clock>(
+    clock: &C,
+    trees: &[Tree],
+    rule: &Rule,
+    nth: usize,
+    sum: &mut u64,
+) -> Result<u64> {
+    let Some(tree) = trees.get(nth % trees.len().max(1)) else {
+        bail!("a tree is wanted");
+    };
+    let start = Instant::now(clock)?;
+    *sum = sum.wrapping_add(u64::from(resolve(tree, rule)));
+    nanoseconds(clock, start)
 }
 
-impl<C: Clock> Timed for Resolving<'_, C> {
-    fn once(&mut self) -> Result<u64> {
-        let Some(tree) = self.trees.get(self.next % self.trees.len().max(1)) else {
-            bail!("a tree is wanted");
-        };
-        self.next = self.next.wrapping_add(1);
-        let start = Instant::now(self.clock)?;
-        self.sum = self.sum.wrapping_add(u64::from(resolve(tree, &self.rule)));
-        nanoseconds(self.clock, start)
+/// How long it takes to resolve all trees, one after another, in nanoseconds. Their orders are added up.
+pub fn resolve_in_turn<C: Clock>(clock: &C, trees: &[Tree], sum: &mut u64) -> Result<u64> {
+    let start = Instant::now(clock)?;
+    for tree in trees {
+        *sum = sum.wrapping_add(u64::from(resolve(tree, &Rule::Majority)));
     }
+    nanoseconds(clock, start)
 }
 
-/// All trees are resolved, one after another.
-#[derive(Drop)]
-struct Turning<'a, C> {
-    clock: &'a C,
-    trees: &'a [Tree],
-    sum: u64,
-}
-
-impl<C: Clock> Timed for Turning<'_, C> {
-    fn once(&mut self) -> Result<u64> {
-        let start = Instant::now(self.clock)?;
-        for tree in self.trees {
-            self.sum = self
-                .sum
-                .wrapping_add(u64::from(resolve(tree, &Rule::Majority)));
-        }
-        nanoseconds(self.clock, start)
-    }
-}
-
-/// How long it takes once to resolve all trees at once, in nanoseconds.
-fn halve_once<R: Clock + Threads + Sync + AllocGlobal>(rt: &R, trees: &[Tree]) -> Result<u64> {
+/// How long it takes to resolve all trees at once, in nanoseconds.
+pub fn resolve_at_once<R: Clock + Threads + Sync + AllocGlobal>(
+    rt: &R,
+    trees: &[Tree],
+) -> Result<u64> {
     let start = Instant::now(rt)?;
     let _decisions = resolve_all(rt, rt.alloc(), trees, &Rule::Majority)?;
     nanoseconds(rt, start)
 }
 
-/// Its median time, in nanoseconds.
-fn halves_time<R: Clock + Threads + Sync + AllocGlobal>(rt: &R, trees: &[Tree]) -> Result<u64> {
-    let mut times = Vec::with_capacity(rt.alloc(), TIMES)?;
-    for _ in 0..TIMES {
-        times.push(halve_once(rt, trees)?)?;
-    }
-    Ok(median(&mut times).unwrap_or(0))
-}
-
 /// Measures ranks and trees. Each call is timed by itself, and the trees differ.
-pub fn report_trees<R: Print + Eprint + Clock + Threads + Sync + AllocGlobal>(
+pub fn report_trees<R: Print + Eprint + Clock + Threads + Wait + Sync + AllocGlobal>(
     rt: &R,
 ) -> Result<()> {
     let labels = labels(rt.alloc())?;
-    report_ranks(rt, labels.as_slice())?;
+    let ranks = Task::Ranks(labels.as_slice());
+    report_task(rt, "rank, labels of five generals: 7920 labels", &ranks)?;
     let trees = trees(rt.alloc())?;
-    let what = "resolve, one tree, Majority: 9032 values";
-    report_rule(rt, trees.as_slice(), Rule::Majority, what)?;
-    let what = "resolve, one tree, Median: 9032 values";
-    report_rule(rt, trees.as_slice(), Rule::Median, what)?;
-    report_turns(rt, trees.as_slice())?;
-    report_time(
-        rt,
-        "resolve_all: 12 trees",
-        halves_time(rt, trees.as_slice())?,
-    )
+    report_resolution(rt, trees.as_slice())
 }
 
-fn report_ranks<R: Print + Eprint + Clock + AllocGlobal>(rt: &R, labels: &[Label]) -> Result<()> {
-    let mut work = Ranking {
-        clock: rt,
-        labels,
-        sum: 0,
-    };
-    report_work(rt, "rank, labels of five generals: 7920 labels", &mut work)?;
-    let sum = work.sum;
-    eprintln!(rt; "sum {sum}")?;
-    Ok(())
-}
-
-fn report_rule<R: Print + Eprint + Clock + AllocGlobal>(
+/// Measures the resolution of one tree by each rule, and of all trees.
+fn report_resolution<R: Print + Eprint + Clock + Threads + Wait + Sync + AllocGlobal>(
     rt: &R,
     trees: &[Tree],
-    rule: Rule,
-    what: &str,
 ) -> Result<()> {
-    let mut work = Resolving {
-        clock: rt,
-        trees,
-        rule,
-        next: 0,
-        sum: 0,
-    };
-    report_work(rt, what, &mut work)?;
-    let sum = work.sum;
-    eprintln!(rt; "sum {sum}")?;
-    Ok(())
-}
-
-fn report_turns<R: Print + Eprint + Clock + AllocGlobal>(rt: &R, trees: &[Tree]) -> Result<()> {
-    let mut work = Turning {
-        clock: rt,
-        trees,
-        sum: 0,
-    };
-    report_work(rt, "resolve, tree by tree: 12 trees", &mut work)?;
-    let sum = work.sum;
-    eprintln!(rt; "sum {sum}")?;
-    Ok(())
+    let what = "resolve, one tree, Majority: 9032 values";
+    report_task(rt, what, &Task::Tree(trees, Rule::Majority))?;
+    let what = "resolve, one tree, Median: 9032 values";
+    report_task(rt, what, &Task::Tree(trees, Rule::Median))?;
+    report_task(rt, "resolve, tree by tree: 12 trees", &Task::Turns(trees))?;
+    report_task(rt, "resolve_all: 12 trees", &Task::Halves(trees))
 }

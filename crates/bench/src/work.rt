@@ -31,7 +31,7 @@ const SHAPE: RelayShape = RelayShape {
 };
 
 /// What is timed.
-#[derive(Clone, Copy, Debug, PartialEq, Eq)]
+#[derive(Clone, Copy)]
 pub enum Work {
     /// The plain measure: a loop over the program's units.
     Plain,
@@ -66,7 +66,7 @@ pub struct Material {
 
 impl Material {
     /// That of a program of this shape.
-    pub fn of(alloc: Global, shape: Shape) -> Result<Material> {
+    pub fn of(alloc: Global, shape: &Shape) -> Result<Material> {
         let bytecode = bytecode(alloc, shape)?;
         let units = units_of(alloc, bytecode.as_slice())?;
         let verified = accepted(alloc, bytecode.as_slice())?;

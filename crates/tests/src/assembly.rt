@@ -1,8 +1,9 @@
 //! Assembly to programs, and back.
 
-use asm::{assemble, disassemble};
+use asm::{AsmError, assemble, disassemble};
+use insn::Program;
+use std::alloc::Global;
 use std::fmt::Display;
-use std::test::Fail;
 
 /// Texts, and their refusal: code and line; nothing for a program.
 const REFUSALS: &[(&str, &str)] = &[
@@ -30,30 +31,56 @@ const REFUSALS: &[(&str, &str)] = &[
     ("exit\r\n\ta_1:exit ; \u{e9}\r\n", ""),
 ];
 
+/// Whether a refusal is printed so.
+fn is_printed(alloc: Global, error: AsmError, expected: &str) -> bool {
+    match error.to_string(alloc) {
+        Ok(text) => text.as_str() == expected,
+        Err(_) => false,
+    }
+}
+
+/// Whether a text has this refusal.
+fn is_refused(alloc: Global, text: &str, refusal: &str) -> bool {
+    match assemble(alloc, text) {
+        Ok(_) => refusal.is_empty(),
+        Err(error) => is_printed(alloc, error, refusal),
+    }
+}
+
 /// The texts have these refusals: code and line; nothing for a program.
 #[test]
-fn refusals_have_their_code_and_line(rt: HostRuntime) -> Result<(), Fail> {
+fn refusals_have_their_code_and_line(rt: HostRuntime) {
     let alloc = rt.alloc();
     for &(text, refusal) in REFUSALS {
-        let told = match assemble(alloc, text) {
-            Ok(_) => String::new(alloc),
-            Err(error) => error.to_string(alloc)?,
-        };
-        assert_eq!(rt; told.as_str(), refusal, "{text}");
+        assert!(rt; is_refused(alloc, text, refusal), "{text}");
     }
-    Ok(())
+}
+
+/// A program in any form.
+const WRITTEN: &str =
+    "start: lddw r1, -1 ; wide\n\n mov.w r2 ,-1\nback:add r1, r2\nstxd [r10-8], r1\nstd [r10-0x10], 5\nldd r3,[r10]\njsgt.w r1, -3, end\nja back\ncall send\nend:exit\n";
+
+/// The same in the form of a disassembly.
+const PRINTED: &str =
+    "lddw r1, 18446744073709551615\nmov.w r2, -1\nadd r1, r2\nstxd [r10-8], r1\nstd [r10-16], 5\nldd r3, [r10+0]\njsgt.w r1, -3, +2\nja -6\ncall 6\nexit\n";
+
+/// Whether the program is disassembled to this text.
+fn is_disassembled(alloc: Global, program: &Program, expected: &str) -> bool {
+    match disassemble(alloc, program) {
+        Ok(text) => text.as_str() == expected,
+        Err(_) => false,
+    }
+}
+
+/// Whether the program of a text is disassembled to this one.
+fn is_printed_as(alloc: Global, text: &str, expected: &str) -> bool {
+    match assemble(alloc, text) {
+        Ok(program) => is_disassembled(alloc, &program, expected),
+        Err(_) => false,
+    }
 }
 
 #[test]
-fn programs_are_printed_in_one_form(rt: HostRuntime) -> Result<(), Fail> {
-    let a = rt.alloc();
-    let text =
-        "start: lddw r1, -1 ; wide\n\n mov.w r2 ,-1\nback:add r1, r2\nstxd [r10-8], r1\nstd [r10-0x10], 5\nldd r3,[r10]\njsgt.w r1, -3, end\nja back\ncall send\nend:exit\n";
-    let program = assemble(a, text).ok().ok_or("a program")?;
-    let printed = disassemble(a, &program)?;
-    assert_eq!(rt;
-        printed.as_str(),
-        "lddw r1, 18446744073709551615\nmov.w r2, -1\nadd r1, r2\nstxd [r10-8], r1\nstd [r10-16], 5\nldd r3, [r10+0]\njsgt.w r1, -3, +2\nja -6\ncall 6\nexit\n"
-    );
-    Ok(())
+fn programs_are_printed_in_one_form(rt: HostRuntime) {
+    assert!(rt; is_printed_as(rt.alloc(), WRITTEN, PRINTED));
 }

@@ -2,62 +2,61 @@
 
 use board::Board;
 use semantics::{Reply, Request, Slot, Span};
-use std::test::Fail;
+use std::alloc::Global;
 
-fn word(reply: Reply) -> Option<u64> {
-    match reply {
-        Reply::Word(word) => Some(word),
-        Reply::Words(_) => None,
+/// Whether a general's request is answered by this word.
+fn gets(board: &mut Board, general: u32, round: u32, request: Request, expected: u64) -> bool {
+    match board.apply(general, round, request) {
+        Ok(Reply::Word(word)) => word == expected,
+        _ => false,
     }
 }
 
+/// Whether five requests for a word are answered, each by what the word was.
+fn serves(board: &mut Board, slot: Slot) -> bool {
+    let wrong = Request::Cas {
+        slot,
+        expected: 4,
+        new: 7,
+    };
+    let right = Request::Cas {
+        slot,
+        expected: 5,
+        new: 9,
+    };
+    let less = Request::Add {
+        slot,
+        value: u64::MAX,
+    };
+    gets(board, 4, 1, Request::Swap { slot, value: 5 }, 0)
+        && gets(board, 4, 1, wrong, 5)
+        && gets(board, 0, 1, right, 5)
+        && gets(board, 0, 1, less, 9)
+        && gets(board, 0, 2, Request::Get { slot }, 8)
+}
+
+/// Whether the last four words are copied, and five from there are none.
+fn copies(board: &mut Board) -> bool {
+    let Some(span) = Span::new(60, 4) else {
+        return false;
+    };
+    Span::new(60, 5).is_none()
+        && matches!(
+            board.apply(0, 2, Request::Copy { span }),
+            Ok(Reply::Words(_))
+        )
+}
+
+/// Whether a board of zeros serves six accesses, and enters each.
+fn serves_and_enters(alloc: Global) -> bool {
+    let Some(slot) = Slot::new(0) else {
+        return false;
+    };
+    let mut board = Board::new(alloc, [0; 64]);
+    serves(&mut board, slot) && copies(&mut board) && board.ledger().len() == 6
+}
+
 #[test]
-fn serves_and_enters_each_access(rt: HostRuntime) -> Result<(), Fail> {
-    let slot = Slot::new(0).ok_or("slot")?;
-    let mut board = Board::new(rt.alloc(), [0; 64]);
-    assert_eq!(rt;
-        word(board.apply(4, 1, Request::Swap { slot, value: 5 })?),
-        Some(0)
-    );
-    assert_eq!(rt;
-        word(board.apply(
-            4,
-            1,
-            Request::Cas {
-                slot,
-                expected: 4,
-                new: 7
-            }
-        )?),
-        Some(5)
-    );
-    assert_eq!(rt;
-        word(board.apply(
-            0,
-            1,
-            Request::Cas {
-                slot,
-                expected: 5,
-                new: 9
-            }
-        )?),
-        Some(5)
-    );
-    assert_eq!(rt;
-        word(board.apply(
-            0,
-            1,
-            Request::Add {
-                slot,
-                value: u64::MAX
-            }
-        )?),
-        Some(9)
-    );
-    assert_eq!(rt; word(board.apply(0, 2, Request::Get { slot })?), Some(8));
-    let span = Span::new(60, 4).ok_or("span")?;
-    assert!(rt; word(board.apply(0, 2, Request::Copy { span })?).is_none());
-    assert!(rt; Span::new(60, 5).is_none());
-    assert_eq!(rt; board.ledger().len(), 6);
-    Ok(())
+fn serves_and_enters_each_access(rt: HostRuntime) {
+    assert!(rt; serves_and_enters(rt.alloc()));
 }

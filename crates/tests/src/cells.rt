@@ -26,28 +26,47 @@ const LOADS: &[(Size, Value, i16, Result<Value, MemoryFault>)] = &[
     (Size::Word, START, 4093, Err(MemoryFault::OutOfBounds)),
 ];
 
+/// Whether all loads are answered so.
+fn load_so(stack: &Stack, context: &Context) -> bool {
+    for &(size, base, distance, answer) in LOADS {
+        if load(stack, context, size, base, distance) != answer {
+            return false;
+        }
+    }
+    true
+}
+
+/// Whether the number's last byte is loaded with its sign.
+fn loads_a_sign(stack: &Stack, context: &Context) -> bool {
+    let sign = load_signed(stack, context, Narrow::Byte, FRAME, -1);
+    sign == Ok(Value::Number(0xffff_ffff_ffff_fffe))
+}
+
+/// Whether the context is not written to.
+fn is_not_written(stack: &mut Stack) -> bool {
+    store(stack, Size::Byte, START, 0, NUMBER) == Err(MemoryFault::ContextWrite)
+}
+
 #[test]
 fn stores_and_loads(rt: HostRuntime) {
     let bytes = [0x81; Context::BYTES];
     let context = Context::new(&bytes);
     let mut stack = Stack::new();
     assert!(rt; is_filled(&mut stack));
-    for &(size, base, distance, answer) in LOADS {
-        assert!(rt;
-            load(&stack, &context, size, base, distance) == answer,
-            "{distance}"
-        );
+    assert!(rt; load_so(&stack, &context) && loads_a_sign(&stack, &context));
+    assert!(rt; is_not_written(&mut stack));
+}
+
+/// Whether just these bytes are a context.
+fn is_context_of(bytes: &[u8]) -> bool {
+    match Context::try_new(bytes) {
+        Some(context) => context.bytes() == bytes,
+        None => false,
     }
-    let sign = load_signed(&stack, &context, Narrow::Byte, FRAME, -1);
-    assert!(rt; sign == Ok(Value::Number(0xffff_ffff_ffff_fffe)));
-    let written = store(&mut stack, Size::Byte, START, 0, NUMBER);
-    assert!(rt; written == Err(MemoryFault::ContextWrite));
 }
 
 #[test]
 fn a_context_has_4096_bytes(rt: HostRuntime) {
     let bytes = [0x81; Context::BYTES];
-    let context = Context::try_new(&bytes).expect(&rt, "4,096 bytes");
-    assert!(rt; context.bytes() == &bytes[..]);
-    assert!(rt; Context::try_new(&bytes[1..]).is_none());
+    assert!(rt; is_context_of(&bytes) && Context::try_new(&bytes[1..]).is_none());
 }

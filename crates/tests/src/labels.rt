@@ -16,22 +16,45 @@ const SMALL: Space = Space {
     general: 0,
 };
 
+/// Whether the label of thirteen generals has this rank.
+fn has_rank(label: &Label, expected: u32) -> bool {
+    match rank(WIDE, label) {
+        Ok(found) => found == expected,
+        Err(_) => false,
+    }
+}
+
+/// Whether two labels of thirteen generals have their ranks.
+fn have_ranks() -> bool {
+    let low = Label::of(0).with(2).with(1).with(3).with(4);
+    let high = Label::of(0).with(11).with(10).with(9).with(8);
+    has_rank(&low, 720) && has_rank(&high, 7919)
+}
+
+/// Whether a label of five generals has its rank, and one of the general who sees it has none.
+fn are_seen() -> bool {
+    matches!(rank(SMALL, &Label::of(2).with(3)), Ok(1))
+        && matches!(
+            rank(WIDE, &Label::of(0).with(12)),
+            Err(LabelError::NotALabel)
+        )
+}
+
 #[test]
 fn ranks(rt: HostRuntime) {
-    let low = Label::of(0).with(2).with(1).with(3).with(4);
-    assert!(rt; rank(WIDE, &low).ok() == Some(720));
-    let high = Label::of(0).with(11).with(10).with(9).with(8);
-    assert!(rt; rank(WIDE, &high).ok() == Some(7919));
-    assert!(rt; rank(SMALL, &Label::of(2).with(3)).ok() == Some(1));
-    assert!(rt; rank(WIDE, &Label::of(0).with(12)).err() == Some(LabelError::NotALabel));
+    assert!(rt; have_ranks() && are_seen());
+}
+
+/// Whether the label of thirteen generals of this rank, of five of them, is of these.
+fn is_label(place: u32, generals: &[u8]) -> bool {
+    match unrank(WIDE, 5, place) {
+        Ok(label) => label.generals() == generals,
+        Err(_) => false,
+    }
 }
 
 #[test]
 fn labels(rt: HostRuntime) {
-    assert_eq!(rt; count(WIDE, 5), 7920);
+    assert!(rt; count(WIDE, 5) == 7920 && is_label(720, b"\x00\x02\x01\x03\x04"));
     assert!(rt; matches!(unrank(WIDE, 5, 7920), Err(LabelError::Rank)));
-    let Ok(low) = unrank(WIDE, 5, 720) else {
-        return;
-    };
-    assert_eq!(rt; low.generals(), b"\x00\x02\x01\x03\x04".as_slice());
 }

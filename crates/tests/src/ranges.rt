@@ -568,12 +568,14 @@ fn operations_on_one(rt: HostRuntime) {
     }
 }
 
+/// Whether two ranges are joined to the one between their outer ends.
+fn are_joined() -> bool {
+    let both = Range { lo: 3, hi: 5 }.join(Range { lo: 9, hi: 12 });
+    both.lo == 3 && both.hi == 12 && both.contains(7) && !both.contains(13)
+}
+
 #[test]
 fn joins(rt: HostRuntime) {
-    let both = Range { lo: 3, hi: 5 }.join(Range { lo: 9, hi: 12 });
-    assert_eq!(rt; both, Range { lo: 3, hi: 12 });
-    assert!(rt; both.contains(7));
-    assert!(rt; !both.contains(13));
-    assert!(rt; Range::exactly(7).is_single());
-    assert!(rt; Range::full().contains(u64::MAX));
+    assert!(rt; are_joined());
+    assert!(rt; Range::exactly(7).is_single() && Range::full().contains(u64::MAX));
 }

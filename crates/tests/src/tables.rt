@@ -1,69 +1,123 @@
 //! Message tables, and what the lieutenants decide by them.
 
 use book::{Fault, TableError, decision, decisions, read_table};
-use std::alloc::{AllocError, Global};
+use std::alloc::Global;
 
-fn decides(alloc: Global, text: &str, orders: &[u32]) -> Result<bool, TableError> {
-    Ok(decisions(&read_table(alloc, text)?).as_slice() == orders)
-}
-
-fn refuses(alloc: Global, text: &str, fault: Fault, line: u64) -> bool {
-    read_table(alloc, text).err() == Some(TableError::At(fault, line))
-}
-
-#[test]
-fn one_traitor(rt: HostRuntime) -> Result<(), TableError> {
-    let two_of_three =
-        "generals 4 bound 1 commander 0\ntell 0 1 1\ntell 0 2 0\ntell 0 3 1\ntell 0.1 2 1\ntell 0.1 3 1\ntell 0.2 1 0\ntell 0.2 3 0\ntell 0.3 1 1\ntell 0.3 2 1\n";
-    assert!(rt; decides(rt.alloc(), two_of_three, &[1, 1, 1])?);
-    let one_silent =
-        "generals 4 bound 1 commander 0\ntell 0 1 1\ntell 0 2 0\ntell 0.1 2 1\ntell 0.1 3 1\ntell 0.2 1 0\ntell 0.2 3 0\ntell 0.3 1 0\ntell 0.3 2 0";
-    assert!(rt; decides(rt.alloc(), one_silent, &[0, 0, 0])?);
-    let all_different =
-        "generals 4 bound 1 commander 0\ntell 0 1 1\ntell 0 2 2\ntell 0 3 3\ntell 0.1 2 1\ntell 0.1 3 1\ntell 0.2 1 2\ntell 0.2 3 2\ntell 0.3 1 3\ntell 0.3 2 3\n";
-    assert!(rt; decides(rt.alloc(), all_different, &[0, 0, 0])?);
-    Ok(())
-}
-
-#[test]
-fn too_few_generals(rt: HostRuntime) -> Result<(), TableError> {
-    let table = read_table(
-        rt.alloc(),
-        "generals 3 bound 1 commander 0\ntell 0 1 1\ntell 0 2 1\ntell 0.1 2 1\ntell 0.2 1 0\n",
-    )?;
-    if table.generals() == 3 && table.commander() == 0 {
-        assert_eq!(rt; decision(&table, 1), 0);
+/// Whether the lieutenants of a table decide so.
+fn decides(alloc: Global, text: &str, orders: &[u32]) -> bool {
+    match read_table(alloc, text) {
+        Ok(table) => decisions(&table).as_slice() == orders,
+        Err(_) => false,
     }
-    Ok(())
 }
 
-#[test]
-fn messages_missing(rt: HostRuntime) -> Result<(), TableError> {
-    let pair = "generals 2 bound 0 commander 0\ntell 0 1 7\n";
-    assert!(rt; decides(rt.alloc(), pair, &[7])?);
-    let deep =
-        "generals 4 bound 2 commander 0\ntell 0 1 1\ntell 0 2 1\ntell 0 3 1\ntell 0.2 1 1\ntell 0.2.3 1 1\n";
-    assert!(rt; decides(rt.alloc(), deep, &[1, 0, 0])?);
-    let less = "generals 4 bound 2 commander 0\ntell 0 1 1\ntell 0 2 1\ntell 0 3 1\ntell 0.2 1 1\n";
-    assert!(rt; decides(rt.alloc(), less, &[0, 0, 0])?);
-    Ok(())
+/// Whether a table is refused for this, at this line.
+fn refuses(alloc: Global, text: &str, fault: Fault, line: u64) -> bool {
+    match read_table(alloc, text) {
+        Ok(_) => false,
+        Err(error) => error == TableError::At(fault, line),
+    }
 }
 
+/// A commander who tells two of three to attack, one who is silent to the last, and one who tells each another order:
+/// tables of four generals, and what is decided.
+const TRAITORS: &[(&str, &[u32])] = &[
+    (
+        "generals 4 bound 1 commander 0\ntell 0 1 1\ntell 0 2 0\ntell 0 3 1\ntell 0.1 2 1\ntell 0.1 3 1\ntell 0.2 1 0\ntell 0.2 3 0\ntell 0.3 1 1\ntell 0.3 2 1\n",
+        &[1, 1, 1],
+    ),
+    (
+        "generals 4 bound 1 commander 0\ntell 0 1 1\ntell 0 2 0\ntell 0.1 2 1\ntell 0.1 3 1\ntell 0.2 1 0\ntell 0.2 3 0\ntell 0.3 1 0\ntell 0.3 2 0",
+        &[0, 0, 0],
+    ),
+    (
+        "generals 4 bound 1 commander 0\ntell 0 1 1\ntell 0 2 2\ntell 0 3 3\ntell 0.1 2 1\ntell 0.1 3 1\ntell 0.2 1 2\ntell 0.2 3 2\ntell 0.3 1 3\ntell 0.3 2 3\n",
+        &[0, 0, 0],
+    ),
+];
+
 #[test]
-fn faults(rt: HostRuntime) -> Result<(), AllocError> {
+fn one_traitor(rt: HostRuntime) {
     let alloc = rt.alloc();
-    let small = "generals 3 bound 2 commander 0";
-    assert!(rt; refuses(alloc, small, Fault::Range, 1));
-    let receiver_on_label = "generals 4 bound 1 commander 0\ntell 0.1 1 5\n";
-    assert!(rt; refuses(alloc, receiver_on_label, Fault::Place, 2));
-    let twice = "generals 4 bound 1 commander 0\ntell 0 1 1\ntell 0 1 1\n";
-    assert!(rt; refuses(alloc, twice, Fault::Twice, 3));
-    let large = "generals 4 bound 1 commander 0\ntell 0 1 4294967296\n";
-    assert!(rt; refuses(alloc, large, Fault::Line, 2));
-    assert!(rt; refuses(alloc, "", Fault::Line, 1));
-    assert_eq!(rt;
-        TableError::At(Fault::Place, 2).to_string(alloc)?.as_str(),
-        "B3 line 2"
-    );
-    Ok(())
+    for (row, &(text, orders)) in TRAITORS.iter().enumerate() {
+        assert!(rt; decides(alloc, text, orders), "row {row}");
+    }
+}
+
+/// A table of three generals, of whom 2 tells 1 another order than he was told.
+const THREE: &str =
+    "generals 3 bound 1 commander 0\ntell 0 1 1\ntell 0 2 1\ntell 0.1 2 1\ntell 0.2 1 0\n";
+
+/// Whether 1 retreats there.
+fn retreats(alloc: Global) -> bool {
+    match read_table(alloc, THREE) {
+        Ok(table) => { table.generals() == 3 && table.commander() == 0 && decision(&table, 1) == 0 }
+        Err(_) => false,
+    }
+}
+
+#[test]
+fn too_few_generals(rt: HostRuntime) {
+    assert!(rt; retreats(rt.alloc()));
+}
+
+/// Tables in which messages are missing, and what is decided.
+const MISSING: &[(&str, &[u32])] = &[
+    ("generals 2 bound 0 commander 0\ntell 0 1 7\n", &[7]),
+    (
+        "generals 4 bound 2 commander 0\ntell 0 1 1\ntell 0 2 1\ntell 0 3 1\ntell 0.2 1 1\ntell 0.2.3 1 1\n",
+        &[1, 0, 0],
+    ),
+    (
+        "generals 4 bound 2 commander 0\ntell 0 1 1\ntell 0 2 1\ntell 0 3 1\ntell 0.2 1 1\n",
+        &[0, 0, 0],
+    ),
+];
+
+#[test]
+fn messages_missing(rt: HostRuntime) {
+    let alloc = rt.alloc();
+    for (row, &(text, orders)) in MISSING.iter().enumerate() {
+        assert!(rt; decides(alloc, text, orders), "row {row}");
+    }
+}
+
+/// Tables that are refused, for what, and at which line.
+const REFUSED: &[(&str, Fault, u64)] = &[
+    ("generals 3 bound 2 commander 0", Fault::Range, 1),
+    // the receiver is on the label
+    (
+        "generals 4 bound 1 commander 0\ntell 0.1 1 5\n",
+        Fault::Place,
+        2,
+    ),
+    (
+        "generals 4 bound 1 commander 0\ntell 0 1 1\ntell 0 1 1\n",
+        Fault::Twice,
+        3,
+    ),
+    // 2^32
+    (
+        "generals 4 bound 1 commander 0\ntell 0 1 4294967296\n",
+        Fault::Line,
+        2,
+    ),
+    ("", Fault::Line, 1),
+];
+
+/// Whether a refusal is printed so.
+fn is_printed(alloc: Global, error: TableError, expected: &str) -> bool {
+    match error.to_string(alloc) {
+        Ok(text) => text.as_str() == expected,
+        Err(_) => false,
+    }
+}
+
+#[test]
+fn faults(rt: HostRuntime) {
+    let alloc = rt.alloc();
+    for (row, &(text, fault, line)) in REFUSED.iter().enumerate() {
+        assert!(rt; refuses(alloc, text, fault, line), "row {row}");
+    }
+    assert!(rt; is_printed(alloc, TableError::At(Fault::Place, 2), "B3 line 2"));
 }

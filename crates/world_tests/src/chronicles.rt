@@ -4,7 +4,6 @@ use crate::scenarios::joined;
 use crate::texts::{COLLUDING, SEVEN};
 use scenario::{ScenarioError, read};
 use std::alloc::{AllocError, Global};
-use std::test::Fail;
 use trace::{Fault, TraceError, read_schedule};
 
 /// What each of five rounds begins with.
@@ -25,19 +24,28 @@ const PRINTED_FAULTS: &[(TraceError, &str)] = &[
 ];
 
 /// Whether a fault is printed so.
-fn is_printed(alloc: Global, fault: TraceError, expected: &str) -> Result<bool, AllocError> {
-    Ok(fault.to_string(alloc)?.as_str() == expected)
+fn is_printed(alloc: Global, fault: TraceError, expected: &str) -> bool {
+    match fault.to_string(alloc) {
+        Ok(text) => text.as_str() == expected,
+        Err(_) => false,
+    }
+}
+
+/// Whether a refusal of memory to a scenario is printed so.
+fn is_refused_memory_printed(alloc: Global, expected: &str) -> bool {
+    match ScenarioError::Memory.to_string(alloc) {
+        Ok(text) => text.as_str() == expected,
+        Err(_) => false,
+    }
 }
 
 #[test]
-fn faults_of_texts_are_printed(rt: HostRuntime) -> Result<(), Fail> {
+fn faults_of_texts_are_printed(rt: HostRuntime) {
     let alloc = rt.alloc();
     for &(fault, expected) in PRINTED_FAULTS {
-        assert!(rt; is_printed(alloc, fault, expected)?, "{expected}");
+        assert!(rt; is_printed(alloc, fault, expected), "{expected}");
     }
-    let memory = ScenarioError::Memory.to_string(alloc)?;
-    assert!(rt; memory.as_str() == "out of memory");
-    Ok(())
+    assert!(rt; is_refused_memory_printed(alloc, "out of memory"));
 }
 
 /// Whether the text tells a scenario. That memory was refused is an error.
@@ -86,16 +94,32 @@ fn refused_beginnings(alloc: Global, reading: Reading, text: &str) -> Result<u32
     Ok(refused)
 }
 
+/// Whether so many beginnings of the text are not taken.
+fn has_refused(alloc: Global, reading: Reading, text: &str, refused: u32) -> bool {
+    match refused_beginnings(alloc, reading, text) {
+        Ok(found) => found == refused,
+        Err(_) => false,
+    }
+}
+
+/// Whether the scenario of two colluders has 433 bytes, and so many of its beginnings are not taken.
+fn has_refused_of_scenario(alloc: Global, refused: u32) -> bool {
+    match joined(alloc, SEVEN, COLLUDING) {
+        Ok(scenario) => {
+            scenario.len() == 433
+                && has_refused(alloc, Reading::Scenario, scenario.as_str(), refused)
+        }
+        Err(_) => false,
+    }
+}
+
 /// A scenario has 434 beginnings: it is taken behind the four lines of the head, and behind each traitor, with the line
 /// feeds that follow.
 #[test]
-fn beginnings_of_texts(rt: HostRuntime) -> Result<(), Fail> {
+fn beginnings_of_texts(rt: HostRuntime) {
     let alloc = rt.alloc();
-    let scenario = joined(alloc, SEVEN, COLLUDING)?;
-    assert!(rt; scenario.len() == 433);
-    assert!(rt; refused_beginnings(alloc, Reading::Scenario, scenario.as_str())? == 426);
-    assert!(rt; refused_beginnings(alloc, Reading::Schedule, SCHEDULE)? == 10);
-    Ok(())
+    assert!(rt; has_refused_of_scenario(alloc, 426));
+    assert!(rt; has_refused(alloc, Reading::Schedule, SCHEDULE, 10));
 }
 
 /// The next number by a linear congruential generator, of which the upper bits are used.
@@ -133,45 +157,60 @@ fn changed(alloc: Global, text: &str, state: &mut u64) -> Result<Vec<u8>, AllocE
     Ok(bytes)
 }
 
-/// How many of so many changed texts are taken.
+/// Whether the text, changed, is taken.
+fn is_taken_changed(
+    alloc: Global,
+    reading: Reading,
+    text: &str,
+    state: &mut u64,
+) -> Result<bool, AllocError> {
+    let bytes = changed(alloc, text, state)?;
+    match std::str::from_utf8(bytes.as_slice()) {
+        Ok(changed) => is_taken(alloc, reading, changed),
+        Err(_) => Err(AllocError),
+    }
+}
+
+/// How many of so many changed texts are taken. That one is not answered is an error.
 fn taken_changed(
     alloc: Global,
     reading: Reading,
     text: &str,
     seed: u64,
     count: u32,
-) -> Result<u32, Fail> {
+) -> Result<u32, AllocError> {
     let mut state = seed;
     let mut taken = 0u32;
     for _ in 0..count {
-        let bytes = changed(alloc, text, &mut state)?;
-        let changed = std::str::from_utf8(bytes.as_slice())?;
-        if is_taken(alloc, reading, changed)? {
+        if is_taken_changed(alloc, reading, text, &mut state)? {
             taken = taken.wrapping_add(1);
         }
     }
     Ok(taken)
 }
 
-/// Seeds, and how many texts are made from each.
-const CHANGES: &[(Reading, u64, u32)] = &[
-    (Reading::Scenario, 1, 3000),
-    (Reading::Scenario, 2, 3000),
-    (Reading::Schedule, 3, 4000),
-];
-
-/// Each changed text is answered, some are taken and some are not.
-#[test]
-fn changed_texts(rt: HostRuntime) -> Result<(), Fail> {
-    let alloc = rt.alloc();
-    let scenario = joined(alloc, SEVEN, COLLUDING)?;
-    for &(reading, seed, count) in CHANGES {
-        let text = match reading {
-            Reading::Scenario => scenario.as_str(),
-            Reading::Schedule => SCHEDULE,
-        };
-        let taken = taken_changed(alloc, reading, text, seed, count)?;
-        assert!(rt; 0 < taken && taken < count, "{taken} are taken");
+/// Whether each of so many changed texts is answered, some are taken and some are not.
+fn are_some_taken(alloc: Global, reading: Reading, text: &str, seed: u64, count: u32) -> bool {
+    match taken_changed(alloc, reading, text, seed, count) {
+        Ok(taken) => 0 < taken && taken < count,
+        Err(_) => false,
     }
-    Ok(())
+}
+
+/// Whether that is so of 6,000 scenarios of two colluders, by two seeds.
+fn are_some_scenarios_taken(alloc: Global) -> bool {
+    match joined(alloc, SEVEN, COLLUDING) {
+        Ok(scenario) => {
+            are_some_taken(alloc, Reading::Scenario, scenario.as_str(), 1, 3000)
+                && are_some_taken(alloc, Reading::Scenario, scenario.as_str(), 2, 3000)
+        }
+        Err(_) => false,
+    }
+}
+
+#[test]
+fn changed_texts(rt: HostRuntime) {
+    let alloc = rt.alloc();
+    assert!(rt; are_some_scenarios_taken(alloc));
+    assert!(rt; are_some_taken(alloc, Reading::Schedule, SCHEDULE, 3, 4000));
 }

@@ -1,14 +1,13 @@
 //! What a gate is asked before each access, and that the generals of a muster act at once.
 
-use crate::scenarios::told;
 use crate::texts::{COLLUDING_AND_LOOKING, LOOKING, SETTING, SEVEN, SEVEN_AND_SIXTEEN_STEPS};
-use crate::threaded::{AGREED, all_adding, count, mustered, replays, word};
+use crate::threaded::{AGREED, count, mustered, replays, seven_adders, word};
 use board::Access;
+use round::Letter;
 use semantics::Request;
 use std::alloc::Global;
 use std::sync::Wait;
 use std::sync::atomic::{AtomicU32, Ordering};
-use std::test::Fail;
 use std::thread;
 use std::thread::Threads;
 use threads::Gate;
@@ -109,30 +108,48 @@ fn got_one(access: &Access) -> bool {
     matches!(access.request, Request::Get { .. }) && word(&access.reply) == Some(1)
 }
 
+/// Whether all of these accesses are of round 1.
+fn are_of_first_round(accesses: &[Access]) -> bool {
+    for access in accesses {
+        if access.round != 1 {
+            return false;
+        }
+    }
+    true
+}
+
+/// Whether by these two accesses, of 5 and of 6, both got a 1.
+fn both_got_one(third: &Access, fourth: &Access) -> bool {
+    let is_order = third.general == 5 && fourth.general == 6;
+    let is_other = third.general == 6 && fourth.general == 5;
+    (is_order || is_other) && got_one(third) && got_one(fourth)
+}
+
 /// Whether of the twelve accesses the first four are of round 1, and by the third and the fourth both generals got a 1.
 fn have_met(accesses: &[Access]) -> bool {
-    let [first, second, third, fourth, ..] = accesses else {
+    let Some(four) = accesses.get(..4) else {
         return false;
     };
-    let generals = (third.general, fourth.general);
-    accesses.len() == 12
-        && first.round == 1
-        && second.round == 1
-        && third.round == 1
-        && fourth.round == 1
-        && (generals == (5, 6) || generals == (6, 5))
-        && got_one(third)
-        && got_one(fourth)
+    let [_, _, third, fourth] = four else {
+        return false;
+    };
+    accesses.len() == 12 && are_of_first_round(four) && both_got_one(third, fourth)
+}
+
+/// Whether two generals who set a word each, and meet before they get the other's, both get what the other set.
+fn get_what_the_other_set<R: Threads + Wait + Sync>(rt: &R, alloc: Global) -> bool {
+    let gate = Meeting::of(1, 1, 2);
+    match mustered(rt, alloc, SEVEN, SETTING, &gate) {
+        Some(chronicle) => {
+            gate.is_met((2, 0, 0)) && have_met(chronicle.accesses()) && replays(alloc, &chronicle)
+        }
+        None => false,
+    }
 }
 
 #[test]
-fn two_generals_get_what_the_other_set(rt: HostRuntime) -> Result<(), Fail> {
-    let alloc = rt.alloc();
-    let gate = Meeting::of(1, 1, 2);
-    let chronicle = mustered(&rt, alloc, told(alloc, SEVEN, SETTING)?, &gate)?;
-    assert!(rt; gate.is_met((2, 0, 0)) && have_met(chronicle.accesses()));
-    assert!(rt; replays(alloc, &chronicle)?);
-    Ok(())
+fn two_generals_get_what_the_other_set(rt: HostRuntime) {
+    assert!(rt; get_what_the_other_set(&rt, rt.alloc()));
 }
 
 /// The verdict where all are traitors.
@@ -142,14 +159,31 @@ const BEYOND_BOUND: Verdict = Verdict {
     bound: false,
 };
 
-#[test]
-fn seven_traitors_come_to_the_board_together(rt: HostRuntime) -> Result<(), Fail> {
-    let alloc = rt.alloc();
+/// Whether seven generals with these tables, who meet before their first access of each round, add one after another.
+fn add_together<R: Threads + Wait + Sync>(rt: &R, alloc: Global, traitors: &str) -> bool {
     let gate = Meeting::of(0, 3, 7);
-    let chronicle = mustered(&rt, alloc, all_adding(alloc)?, &gate)?;
-    assert!(rt; gate.is_met((7, 7, 7)) && count(chronicle.accesses(), 21, 0));
-    assert!(rt; chronicle.verdict() == BEYOND_BOUND && replays(alloc, &chronicle)?);
-    Ok(())
+    match mustered(rt, alloc, SEVEN, traitors, &gate) {
+        Some(chronicle) => {
+            gate.is_met((7, 7, 7))
+                && count(chronicle.accesses(), 21, 0)
+                && chronicle.verdict() == BEYOND_BOUND
+                && replays(alloc, &chronicle)
+        }
+        None => false,
+    }
+}
+
+/// Whether that is so of seven who all add.
+fn seven_come_together<R: Threads + Wait + Sync>(rt: &R, alloc: Global) -> bool {
+    match seven_adders(alloc) {
+        Ok(traitors) => add_together(rt, alloc, traitors.as_str()),
+        Err(_) => false,
+    }
+}
+
+#[test]
+fn seven_traitors_come_to_the_board_together(rt: HostRuntime) {
+    assert!(rt; seven_come_together(&rt, rt.alloc()));
 }
 
 /// Holds general 0 at his first access of a round until general 4 has come to his second.
@@ -170,13 +204,18 @@ impl Gate for Reversing {
     }
 }
 
+/// Whether an addition that is the next behind so many is by 4 and 0 in turn, and got how many there were.
+fn is_in_turn(access: &Access, added: u64) -> bool {
+    let general = if added % 2 == 0 { 4 } else { 0 };
+    access.general == general && word(&access.reply) == Some(added)
+}
+
 /// Whether of the twelve accesses six are additions, by 4 and 0 in turn.
 fn are_reversed(accesses: &[Access]) -> bool {
     let mut added = 0u64;
     for access in accesses {
         if matches!(access.request, Request::Add { .. }) {
-            let general = if added % 2 == 0 { 4 } else { 0 };
-            if access.general != general || word(&access.reply) != Some(added) {
+            if !is_in_turn(access, added) {
                 return false;
             }
             added = added.wrapping_add(1);
@@ -185,11 +224,16 @@ fn are_reversed(accesses: &[Access]) -> bool {
     added == 6 && accesses.len() == 12
 }
 
+/// Whether a traitor's letter says so many steps.
+fn has_taken(letter: &Letter, steps: u32) -> bool {
+    letter.program.program().is_none() || letter.steps == steps
+}
+
 /// Whether each letter of a traitor says so many steps.
 fn have_taken(chronicle: &Chronicle, steps: u32) -> bool {
     for round in chronicle.letters() {
         for letter in round.letters() {
-            if letter.program.program().is_some() && letter.steps != steps {
+            if !has_taken(letter, steps) {
                 return false;
             }
         }
@@ -205,35 +249,34 @@ fn five_retreat(chronicle: &Chronicle) -> bool {
     chronicle.verdict() == AGREED
 }
 
-/// Whether with two colluders who get word 63 in the end the second adds before the first in each round, and each of
-/// their letters says so many steps.
-fn is_reversed<R: Threads + Wait + Sync>(
-    rt: &R,
-    alloc: Global,
-    keys: &str,
-    steps: u32,
-) -> Result<bool, Fail> {
+/// Whether the second colluder has added before the first in each round, and each of their letters says so many steps.
+fn is_reversed(alloc: Global, chronicle: &Chronicle, steps: u32) -> bool {
+    are_reversed(chronicle.accesses())
+        && have_taken(chronicle, steps)
+        && five_retreat(chronicle)
+        && replays(alloc, chronicle)
+}
+
+/// Whether that is so of two colluders with these keys who get word 63 in the end, where the first is held.
+fn adds_first<R: Threads + Wait + Sync>(rt: &R, alloc: Global, keys: &str, steps: u32) -> bool {
     let gate = Reversing {
         come: Counts::none(),
         missed: AtomicU32::new(0),
     };
-    let chronicle = mustered(rt, alloc, told(alloc, keys, COLLUDING_AND_LOOKING)?, &gate)?;
-    Ok(
-        gate.missed.load(Ordering::SeqCst) == 0
-            && are_reversed(chronicle.accesses())
-            && have_taken(&chronicle, steps)
-            && five_retreat(&chronicle)
-            && replays(alloc, &chronicle)?,
-    )
+    match mustered(rt, alloc, keys, COLLUDING_AND_LOOKING, &gate) {
+        Some(chronicle) => {
+            gate.missed.load(Ordering::SeqCst) == 0 && is_reversed(alloc, &chronicle, steps)
+        }
+        None => false,
+    }
 }
 
 /// With a patience of sixteen steps, of which each has seventeen, the last step is an access.
 #[test]
-fn the_second_colluder_adds_first(rt: HostRuntime) -> Result<(), Fail> {
+fn the_second_colluder_adds_first(rt: HostRuntime) {
     let alloc = rt.alloc();
-    assert!(rt; is_reversed(&rt, alloc, SEVEN, 17)?);
-    assert!(rt; is_reversed(&rt, alloc, SEVEN_AND_SIXTEEN_STEPS, 16)?);
-    Ok(())
+    assert!(rt; adds_first(&rt, alloc, SEVEN, 17));
+    assert!(rt; adds_first(&rt, alloc, SEVEN_AND_SIXTEEN_STEPS, 16));
 }
 
 /// Counts how often it is asked for a general's first, second and third access, and for a later one.
@@ -255,15 +298,23 @@ impl Gate for Counting {
     }
 }
 
-#[test]
-fn each_access_is_asked_for_once(rt: HostRuntime) -> Result<(), Fail> {
-    let alloc = rt.alloc();
+/// Whether of two who get three words in each of three rounds the gate is asked once for each of 18 accesses.
+fn is_asked_once<R: Threads + Wait + Sync>(rt: &R, alloc: Global) -> bool {
     let gate = Counting {
         asked: Counts::none(),
         beyond: AtomicU32::new(0),
     };
-    let chronicle = mustered(&rt, alloc, told(alloc, SEVEN, LOOKING)?, &gate)?;
-    assert!(rt; chronicle.accesses().len() == 18);
-    assert!(rt; gate.asked.are((6, 6, 6)) && gate.beyond.load(Ordering::SeqCst) == 0);
-    Ok(())
+    match mustered(rt, alloc, SEVEN, LOOKING, &gate) {
+        Some(chronicle) => {
+            chronicle.accesses().len() == 18
+                && gate.asked.are((6, 6, 6))
+                && gate.beyond.load(Ordering::SeqCst) == 0
+        }
+        None => false,
+    }
+}
+
+#[test]
+fn each_access_is_asked_for_once(rt: HostRuntime) {
+    assert!(rt; is_asked_once(&rt, rt.alloc()));
 }

@@ -1,20 +1,18 @@
 //! Which letters a ledger accounts for.
 
-use crate::scenarios::told;
 use crate::texts::{COLLUDING, SEVEN};
 use crate::threaded::{letters, mustered};
 use board::Access;
 use round::{Letter, Round};
 use std::alloc::{AllocError, Global};
 use std::sync::Wait;
-use std::test::Fail;
 use std::thread::Threads;
 use threads::{MusterError, Open, gather};
 use world::Chronicle;
 
 /// A chronicle of the two colluders among seven generals.
-fn colluded<R: Threads + Wait + Sync>(rt: &R, alloc: Global) -> Result<Chronicle, Fail> {
-    mustered(rt, alloc, told(alloc, SEVEN, COLLUDING)?, &Open)
+fn colluded<R: Threads + Wait + Sync>(rt: &R, alloc: Global) -> Option<Chronicle> {
+    mustered(rt, alloc, SEVEN, COLLUDING, &Open)
 }
 
 /// Whether the letters of two rounds are the same.
@@ -37,12 +35,27 @@ fn are_rounds(rounds: &[Round], chronicle: &Chronicle) -> bool {
     rounds.len() == 3 && chronicle.letters().len() == 3
 }
 
-/// Whether the chronicle's letters in reverse order are gathered into its rounds.
-fn are_gathered(alloc: Global, chronicle: &Chronicle) -> Result<bool, Fail> {
+/// The chronicle's letters in reverse order.
+fn reversed(alloc: Global, chronicle: &Chronicle) -> Result<Vec<Letter>, AllocError> {
     let mut all = letters(alloc, chronicle)?;
     all.reverse();
-    let rounds = gather(alloc, chronicle.scenario(), chronicle.accesses(), all)?;
-    Ok(are_rounds(rounds.as_slice(), chronicle))
+    Ok(all)
+}
+
+/// Whether these letters are gathered into the chronicle's rounds.
+fn gathers(alloc: Global, chronicle: &Chronicle, letters: Vec<Letter>) -> bool {
+    match gather(alloc, chronicle.scenario(), chronicle.accesses(), letters) {
+        Ok(rounds) => are_rounds(rounds.as_slice(), chronicle),
+        Err(_) => false,
+    }
+}
+
+/// Whether the chronicle's letters in reverse order are gathered into its rounds.
+fn are_gathered(alloc: Global, chronicle: &Chronicle) -> bool {
+    match reversed(alloc, chronicle) {
+        Ok(letters) => gathers(alloc, chronicle, letters),
+        Err(_) => false,
+    }
 }
 
 /// Whether the letters are not those that the ledger accounts for.
@@ -72,73 +85,102 @@ fn with(alloc: Global, chronicle: &Chronicle, place: usize) -> Result<Vec<Letter
     Ok(more)
 }
 
-/// Whether the ledger accounts neither for the chronicle's letters without the one at a place, nor for that one twice.
-fn is_wanted_once(alloc: Global, chronicle: &Chronicle, place: usize) -> Result<bool, AllocError> {
-    let ledger = chronicle.accesses();
-    let fewer = without(alloc, chronicle, place)?;
-    if !refuses(alloc, chronicle, ledger, fewer) {
-        return Ok(false);
+/// Whether the ledger does not account for the chronicle's letters without the one at a place.
+fn is_missed(alloc: Global, chronicle: &Chronicle, place: usize) -> bool {
+    match without(alloc, chronicle, place) {
+        Ok(fewer) => refuses(alloc, chronicle, chronicle.accesses(), fewer),
+        Err(_) => false,
     }
-    let more = with(alloc, chronicle, place)?;
-    Ok(refuses(alloc, chronicle, ledger, more))
+}
+
+/// Whether the ledger does not account for the chronicle's letters with the one at a place twice.
+fn is_wanted_once(alloc: Global, chronicle: &Chronicle, place: usize) -> bool {
+    match with(alloc, chronicle, place) {
+        Ok(more) => refuses(alloc, chronicle, chronicle.accesses(), more),
+        Err(_) => false,
+    }
+}
+
+/// Whether just the chronicle's 21 letters are gathered.
+fn are_just_these(alloc: Global, chronicle: &Chronicle) -> bool {
+    for place in 0..21 {
+        if !is_missed(alloc, chronicle, place) || !is_wanted_once(alloc, chronicle, place) {
+            return false;
+        }
+    }
+    are_gathered(alloc, chronicle)
+}
+
+/// Whether just the letters of two colluders' campaign are gathered.
+fn gathers_just_these<R: Threads + Wait + Sync>(rt: &R, alloc: Global) -> bool {
+    match colluded(rt, alloc) {
+        Some(chronicle) => are_just_these(alloc, &chronicle),
+        None => false,
+    }
 }
 
 #[test]
-fn just_the_letters_are_gathered(rt: HostRuntime) -> Result<(), Fail> {
-    let alloc = rt.alloc();
-    let chronicle = colluded(&rt, alloc)?;
-    assert!(rt; are_gathered(alloc, &chronicle)?);
-    for place in 0..21 {
-        assert!(rt; is_wanted_once(alloc, &chronicle, place)?, "letter {place}");
-    }
-    Ok(())
+fn just_the_letters_are_gathered(rt: HostRuntime) {
+    assert!(rt; gathers_just_these(&rt, rt.alloc()));
 }
 
-/// Copies of a ledger's entries, and the last one once more as a general's who is none.
-fn with_a_stranger(alloc: Global, ledger: &[Access]) -> Result<Vec<Access>, AllocError> {
+/// Copies of a ledger's entries.
+fn copied(alloc: Global, ledger: &[Access]) -> Result<Vec<Access>, AllocError> {
     let mut entries = Vec::new(alloc);
     for access in ledger {
         entries.push(access.copy(alloc)?)?;
     }
+    Ok(entries)
+}
+
+/// Copies of a ledger's entries, and the last one once more as a general's who is none.
+fn with_a_stranger(alloc: Global, ledger: &[Access]) -> Result<Vec<Access>, AllocError> {
+    let mut entries = copied(alloc, ledger)?;
     if let Some(last) = ledger.last() {
-        let Access {
-            round,
-            request,
-            reply,
-            ..
-        } = last.copy(alloc)?;
-        entries.push(Access {
-            general: 12,
-            round,
-            request,
-            reply,
-        })?;
+        let mut again = last.copy(alloc)?;
+        again.general = 12;
+        entries.push(again)?;
     }
     Ok(entries)
 }
 
-/// Whether neither a ledger of one entry less nor one of one more accounts for the chronicle's letters.
-fn is_wanted_whole(alloc: Global, chronicle: &Chronicle) -> Result<bool, AllocError> {
-    let Some((_, fewer)) = chronicle.accesses().split_last() else {
-        return Ok(false);
-    };
-    if !refuses(alloc, chronicle, fewer, letters(alloc, chronicle)?) {
-        return Ok(false);
+/// Whether this ledger does not account for the chronicle's letters.
+fn is_another(alloc: Global, chronicle: &Chronicle, ledger: &[Access]) -> bool {
+    match letters(alloc, chronicle) {
+        Ok(letters) => refuses(alloc, chronicle, ledger, letters),
+        Err(_) => false,
     }
-    let more = with_a_stranger(alloc, chronicle.accesses())?;
-    Ok(refuses(
-        alloc,
-        chronicle,
-        more.as_slice(),
-        letters(alloc, chronicle)?,
-    ))
+}
+
+/// Whether a ledger of one entry less does not account for the chronicle's letters.
+fn is_wanted_whole(alloc: Global, chronicle: &Chronicle) -> bool {
+    match chronicle.accesses().split_last() {
+        Some((_, fewer)) => is_another(alloc, chronicle, fewer),
+        None => false,
+    }
+}
+
+/// Whether a ledger of one entry more does not account for the chronicle's letters.
+fn is_wanted_alone(alloc: Global, chronicle: &Chronicle) -> bool {
+    match with_a_stranger(alloc, chronicle.accesses()) {
+        Ok(more) => is_another(alloc, chronicle, more.as_slice()),
+        Err(_) => false,
+    }
+}
+
+/// Whether the ledger of two colluders' campaign has six entries, and another accounts for nothing.
+fn has_its_ledger<R: Threads + Wait + Sync>(rt: &R, alloc: Global) -> bool {
+    match colluded(rt, alloc) {
+        Some(chronicle) => {
+            chronicle.accesses().len() == 6
+                && is_wanted_whole(alloc, &chronicle)
+                && is_wanted_alone(alloc, &chronicle)
+        }
+        None => false,
+    }
 }
 
 #[test]
-fn other_ledgers_account_for_nothing(rt: HostRuntime) -> Result<(), Fail> {
-    let alloc = rt.alloc();
-    let chronicle = colluded(&rt, alloc)?;
-    assert!(rt; chronicle.accesses().len() == 6);
-    assert!(rt; is_wanted_whole(alloc, &chronicle)?);
-    Ok(())
+fn other_ledgers_account_for_nothing(rt: HostRuntime) {
+    assert!(rt; has_its_ledger(&rt, rt.alloc()));
 }

@@ -1,13 +1,12 @@
 //! Activations from their start to their end, or to their patience.
 ghost use Rattle.std.specs.Prelude.{◌≡◌};
 
-use crate::scenarios::played;
+use crate::scenarios::{first_letters, played};
 use crate::texts::{COLLUDING, SEVEN, SPYING};
 use board::Access;
 use round::{Letter, Server, live};
 use semantics::{Reply, Request};
 use std::alloc::{AllocError, Global};
-use std::test::Fail;
 use world::Chronicle;
 
 /// A server whose replies are these words, one after another. It has no memory for more, nor for a copy.
@@ -105,54 +104,78 @@ fn words_of(alloc: Global, letter: &Letter) -> Result<Vec<u64>, AllocError> {
     Ok(words)
 }
 
-/// Whether the letter's program, with the replies that it had, lives again as it did, with one access.
-fn lives_again(alloc: Global, letter: &Letter) -> Result<bool, AllocError> {
-    let words = words_of(alloc, letter)?;
-    let mut server = Answers::new(alloc, words.as_slice());
-    let again = lived(alloc, &mut server, letter, None)?;
-    Ok(again.same(letter) && server.served.len() == 1)
+/// Whether the letter's program lives again as it did, with these replies, in one access.
+fn lives_with(alloc: Global, letter: &Letter, words: &[u64]) -> bool {
+    let mut server = Answers::new(alloc, words);
+    match lived(alloc, &mut server, letter, None) {
+        Ok(again) => again.same(letter) && server.served.len() == 1,
+        Err(_) => false,
+    }
 }
 
-/// The generals and rounds of the letters that programs wrote, where each of these lives again.
-fn lives(alloc: Global, chronicle: &Chronicle) -> Result<Vec<(u32, u32)>, Fail> {
-    let mut lives = Vec::new(alloc);
+/// Whether the letter's program, with the replies that it had, lives again as it did, with one access.
+fn lives_again(alloc: Global, letter: &Letter) -> bool {
+    match words_of(alloc, letter) {
+        Ok(words) => lives_with(alloc, letter, words.as_slice()),
+        Err(_) => false,
+    }
+}
+
+/// The generals and rounds of the letters that two colluders' programs write.
+const LIVES: &[(u32, u32)] = &[(0, 1), (4, 1), (0, 2), (4, 2), (0, 3), (4, 3)];
+
+/// Whether the letter at this place is the one of a general and a round, and lives again.
+fn is_life(alloc: Global, letter: &Letter, place: usize) -> bool {
+    match LIVES.get(place) {
+        Some(&(general, round)) => {
+            letter.general == general && letter.round == round && lives_again(alloc, letter)
+        }
+        None => false,
+    }
+}
+
+/// Whether the letters that programs wrote are those of `LIVES`, in this order, and each lives again.
+fn are_lives(alloc: Global, chronicle: &Chronicle) -> bool {
+    let mut place = 0usize;
     for round in chronicle.letters() {
         for letter in round.letters() {
             if letter.program.program().is_some() {
-                if !lives_again(alloc, letter)? {
-                    return Err("another life")?;
+                if !is_life(alloc, letter, place) {
+                    return false;
                 }
-                lives.push((letter.general, letter.round))?;
+                place = place.wrapping_add(1);
             }
         }
     }
-    Ok(lives)
+    place == LIVES.len()
+}
+
+/// Whether the two colluders live again, of whom 4 comes first in the first round.
+fn colluders_live_again(alloc: Global) -> bool {
+    match played(alloc, SEVEN, COLLUDING, "4*15") {
+        Some(chronicle) => are_lives(alloc, &chronicle),
+        None => false,
+    }
 }
 
 #[test]
-fn traitors_live_again(rt: HostRuntime) -> Result<(), Fail> {
-    let alloc = rt.alloc();
-    let chronicle = played(alloc, SEVEN, COLLUDING, "4*15")?;
-    let lives = lives(alloc, &chronicle)?;
-    assert!(rt; lives.as_slice() == [(0, 1), (4, 1), (0, 2), (4, 2), (0, 3), (4, 3)].as_slice());
-    Ok(())
+fn traitors_live_again(rt: HostRuntime) {
+    assert!(rt; colluders_live_again(rt.alloc()));
 }
 
 /// The first letter of general 5 of seven, who swaps word 5 and then gets word 6, in six steps.
 fn spy(chronicle: &Chronicle) -> Option<&Letter> {
-    let [first, ..] = chronicle.letters() else {
-        return None;
-    };
-    let letter = first.letters().get(5)?;
-    if letter.general == 5 {
-        Some(letter)
-    } else {
-        None
+    match first_letters(chronicle).get(5) {
+        Some(letter) if letter.general == 5 => Some(letter),
+        _ => None,
     }
 }
 
 /// A patience, and then the steps, the accesses, and whether the program exited.
-const PATIENCES: &[(Option<u32>, u32, usize, bool)] = &[
+type Patience = (Option<u32>, u32, usize, bool);
+
+/// What comes of the spy's program by its patience.
+const PATIENCES: &[Patience] = &[
     (None, 6, 2, true),
     (Some(4096), 6, 2, true),
     (Some(6), 6, 2, true),
@@ -163,40 +186,63 @@ const PATIENCES: &[(Option<u32>, u32, usize, bool)] = &[
     (Some(1), 1, 0, false),
 ];
 
+/// Whether a letter took so many steps, exited or not, and had so many of the replies 7, 9 and 11, one after another.
+fn has_taken(letter: &Letter, steps: u32, accesses: usize, exited: bool) -> bool {
+    letter.steps == steps
+        && letter.exited == exited
+        && letter.transcript.len() == accesses
+        && had(letter, &[7, 9, 11])
+}
+
 /// Whether this one's program, with the replies 7, 9 and 11, takes so many steps, exits or not, and makes so many
 /// accesses, which are served and no more.
-fn takes(
-    alloc: Global,
-    letter: &Letter,
-    patience: Option<u32>,
-    steps: u32,
-    accesses: usize,
-    exited: bool,
-) -> Result<bool, AllocError> {
+fn takes(alloc: Global, letter: &Letter, row: &Patience) -> bool {
+    let (patience, steps, accesses, exited) = *row;
     let mut server = Answers::new(alloc, &[7, 9, 11]);
-    let again = lived(alloc, &mut server, letter, patience)?;
-    Ok(
-        again.steps == steps
-            && again.exited == exited
-            && again.transcript.len() == accesses
-            && server.served.len() == accesses
-            && had(&again, &[7, 9, 11]),
-    )
+    match lived(alloc, &mut server, letter, patience) {
+        Ok(again) => {
+            has_taken(&again, steps, accesses, exited) && server.served.len() == accesses
+        }
+        Err(_) => false,
+    }
+}
+
+/// Whether all rows of `PATIENCES` hold of this one's program.
+fn takes_all(alloc: Global, letter: &Letter) -> bool {
+    for row in PATIENCES {
+        if !takes(alloc, letter, row) {
+            return false;
+        }
+    }
+    true
+}
+
+/// The chronicle of seven generals of whom 5 spies.
+fn spied(alloc: Global) -> Option<Chronicle> {
+    played(alloc, SEVEN, SPYING, "")
+}
+
+/// Whether all rows of `PATIENCES` hold of the spy's first letter.
+fn spies_by_patience(alloc: Global) -> bool {
+    let Some(chronicle) = spied(alloc) else {
+        return false;
+    };
+    match spy(&chronicle) {
+        Some(letter) => takes_all(alloc, letter),
+        None => false,
+    }
 }
 
 #[test]
-fn the_last_permitted_request_is_served(rt: HostRuntime) -> Result<(), Fail> {
-    let alloc = rt.alloc();
-    let chronicle = played(alloc, SEVEN, SPYING, "")?;
-    let letter = spy(&chronicle).ok_or("a letter of 5")?;
-    for &(patience, steps, accesses, exited) in PATIENCES {
-        assert!(rt; takes(alloc, letter, patience, steps, accesses, exited)?);
-    }
-    Ok(())
+fn the_last_permitted_request_is_served(rt: HostRuntime) {
+    assert!(rt; spies_by_patience(rt.alloc()));
 }
 
 /// The words that a server has, the patience, and how many accesses a letter has; none where one reply is too few.
-const SCARCE: &[(&[u64], Option<u32>, Option<usize>)] = &[
+type Scarcity = (&'static [u64], Option<u32>, Option<usize>);
+
+/// What comes of the spy's program where a server has few words.
+const SCARCE: &[Scarcity] = &[
     (&[], None, None),
     (&[], Some(3), None),
     (&[7], None, None),
@@ -204,30 +250,50 @@ const SCARCE: &[(&[u64], Option<u32>, Option<usize>)] = &[
     (&[7], Some(4), Some(1)),
 ];
 
+/// How many accesses the program of this one makes with a server; none where memory is refused.
+fn accesses_with(
+    alloc: Global,
+    server: &mut Answers<'_>,
+    letter: &Letter,
+    patience: Option<u32>,
+) -> Option<usize> {
+    match lived(alloc, server, letter, patience) {
+        Ok(again) => Some(again.transcript.len()),
+        Err(_) => None,
+    }
+}
+
 /// Whether with a server of these words the program comes to a letter of so many accesses, or to none, and each word is
 /// served.
-fn comes_to(
-    alloc: Global,
-    letter: &Letter,
-    words: &[u64],
-    patience: Option<u32>,
-    accesses: Option<usize>,
-) -> bool {
+fn comes_to(alloc: Global, letter: &Letter, row: &Scarcity) -> bool {
+    let (words, patience, accesses) = *row;
     let mut server = Answers::new(alloc, words);
-    let made = match lived(alloc, &mut server, letter, patience) {
-        Ok(letter) => Some(letter.transcript.len()),
-        Err(_) => None,
+    accesses_with(alloc, &mut server, letter, patience) == accesses
+        && server.served.len() == words.len()
+}
+
+/// Whether all rows of `SCARCE` hold of this one's program.
+fn comes_to_all(alloc: Global, letter: &Letter) -> bool {
+    for row in SCARCE {
+        if !comes_to(alloc, letter, row) {
+            return false;
+        }
+    }
+    true
+}
+
+/// Whether all rows of `SCARCE` hold of the spy's first letter.
+fn spies_in_scarcity(alloc: Global) -> bool {
+    let Some(chronicle) = spied(alloc) else {
+        return false;
     };
-    made == accesses && server.served.len() == words.len()
+    match spy(&chronicle) {
+        Some(letter) => comes_to_all(alloc, letter),
+        None => false,
+    }
 }
 
 #[test]
-fn want_of_memory_at_an_access_ends_it(rt: HostRuntime) -> Result<(), Fail> {
-    let alloc = rt.alloc();
-    let chronicle = played(alloc, SEVEN, SPYING, "")?;
-    let letter = spy(&chronicle).ok_or("a letter of 5")?;
-    for &(words, patience, accesses) in SCARCE {
-        assert!(rt; comes_to(alloc, letter, words, patience, accesses));
-    }
-    Ok(())
+fn want_of_memory_at_an_access_ends_it(rt: HostRuntime) {
+    assert!(rt; spies_in_scarcity(rt.alloc()));
 }

@@ -1,15 +1,13 @@
 //! The post: letter by letter, and between threads.
-ghost use Rattle.std.specs.Prelude.{◌≡◌, IfOk};
+ghost use Rattle.std.specs.Prelude.{◌≡◌, IfSome};
 
-use crate::scenarios::played;
-use crate::threaded::letters;
+use crate::scenarios::{first_letters, played};
 use post::{Collector, Post, Poster};
 use round::Letter;
-use std::alloc::Global;
+use std::alloc::{AllocError, Global};
 use std::process::Abort;
 use std::sync::Wait;
 use std::sync::atomic::{AtomicU32, Ordering};
-use std::test::Fail;
 use std::thread;
 use std::thread::Threads;
 
@@ -19,32 +17,86 @@ const ORDERS: u32 = 50;
 /// How often each of them is posted: a general posts 1,000 letters.
 const TIMES: u32 = 20;
 
-/// A general's first letter, where he commands three generals and his order is this number.
-fn numbered(alloc: Global, general: u32, number: u32) -> Result<Letter, Fail>
-    ensures { IfOk result (λ letter. letter.general ≡ general) }
+/// The keys of three generals, of whom this one commands, and his order is this number.
+fn keys(alloc: Global, general: u32, number: u32) -> Result<String, AllocError> {
+    format!(in alloc; "generals = 3\nbound = 0\ncommander = {general}\norder = {number}\n")
+}
+
+/// A copy of the letter, where it is this general's.
+fn own(alloc: Global, letter: &Letter, general: u32) -> Option<Letter>
+    ensures { IfSome result (λ letter. letter.general ≡ general) }
 {
-    let keys = format!(in alloc;
-        "generals = 3\nbound = 0\ncommander = {general}\norder = {number}\n"
-    )?;
-    let chronicle = played(alloc, keys.as_str(), "", "")?;
-    for letter in letters(alloc, &chronicle)? {
-        if letter.general == general {
-            return Ok(letter);
-        }
+    if letter.general != general {
+        return None;
     }
-    Err("a general without a letter")?
+    match letter.copy(alloc) {
+        Ok(copy) => Some(copy),
+        Err(_) => None,
+    }
+}
+
+/// A general's first letter, where he commands three generals and his order is this number.
+fn numbered(alloc: Global, general: u32, number: u32) -> Option<Letter>
+    ensures { IfSome result (λ letter. letter.general ≡ general) }
+{
+    let Ok(keys) = keys(alloc, general, number) else {
+        return None;
+    };
+    let Some(chronicle) = played(alloc, keys.as_str(), "", "") else {
+        return None;
+    };
+    match first_letters(&chronicle).get(general as usize) {
+        Some(letter) => own(alloc, letter, general),
+        None => None,
+    }
+}
+
+/// Two letters of general 1, and one of general 2.
+#[derive(Drop)]
+struct Letters {
+    first: Letter,
+    second: Letter,
+    other: Letter,
+}
+
+/// The letters of the orders 1 and 2 of general 1, and that of the order 1 of general 2.
+fn three_letters(alloc: Global) -> Option<Letters>
+    ensures first { IfSome result (λ letters. letters.first.general ≡ 1) }
+    ensures second { IfSome result (λ letters. letters.second.general ≡ 1) }
+    ensures other { IfSome result (λ letters. letters.other.general ≡ 2) }
+{
+    let Some(first) = numbered(alloc, 1, 1) else {
+        return None;
+    };
+    let Some(second) = numbered(alloc, 1, 2) else {
+        return None;
+    };
+    let Some(other) = numbered(alloc, 2, 1) else {
+        return None;
+    };
+    Some(Letters {
+        first,
+        second,
+        other,
+    })
 }
 
 /// A post of three generals with room for two letters, the posters of generals 1 and 2, and the collector.
-fn post_of_three(alloc: Global) -> Result<(Post, Poster, Poster, Collector), Fail>
-    ensures first { IfOk result (λ r. (r.1.table ≡ r.0.table) × (r.1.general ≡ 1)) }
-    ensures second { IfOk result (λ r. (r.2.table ≡ r.0.table) × (r.2.general ≡ 2)) }
-    ensures collector { IfOk result (λ r. r.3.table ≡ r.0.table) }
+fn post_of_three(alloc: Global) -> Option<(Post, (Poster, Poster, Collector))>
+    ensures first { IfSome result (λ r. (r.1.0.table ≡ r.0.table) × (r.1.0.general ≡ 1)) }
+    ensures second { IfSome result (λ r. (r.1.1.table ≡ r.0.table) × (r.1.1.general ≡ 2)) }
+    ensures collector { IfSome result (λ r. r.1.2.table ≡ r.0.table) }
 {
-    let (post, mut posters, collector) = Post::new(alloc, 3, 2)?;
-    let second = posters.pop().ok_or("a poster")?;
-    let first = posters.pop().ok_or("a poster")?;
-    Ok((post, first, second, collector))
+    let Ok((post, mut posters, collector)) = Post::new(alloc, 3, 2) else {
+        return None;
+    };
+    let Some(second) = posters.pop() else {
+        return None;
+    };
+    let Some(first) = posters.pop() else {
+        return None;
+    };
+    Some((post, (first, second, collector)))
 }
 
 /// There is room for the letter.
@@ -59,23 +111,37 @@ fn goes_in<R: Wait + Abort>(rt: &R, post: &Post, poster: Poster, letter: Letter)
     poster
 }
 
-/// There is no room for the letter, which comes back.
+/// There is no room for the letter, which comes back, the same as this one.
 fn comes_back<R: Wait + Abort>(
     rt: &R,
-    alloc: Global,
     post: &Post,
     poster: Poster,
     letter: Letter,
-) -> Result<Poster, Fail>
+    same: &Letter,
+) -> (Poster, Letter)
     requires post { poster.table ≡ post.now.table }
     requires general { letter.general ≡ poster.general }
-    ensures post { IfOk result (λ poster'. poster'.table ≡ poster.table) }
-    ensures general { IfOk result (λ poster'. poster'.general ≡ poster.general) }
+    ensures post { result.0.table ≡ poster.table }
+    ensures general { result.0.general ≡ poster.general }
+    ensures letter { result.1.general ≡ letter.general }
 {
-    let same = letter.copy(alloc)?;
     let (poster, sent) = post.post(rt, poster, letter);
-    assert!(rt; sent.err().ok_or("there was room")?.same(&same));
-    Ok(poster)
+    match sent {
+        Err(back) => {
+            assert!(rt; back.same(same));
+            (poster, back)
+        }
+        Ok(()) => panic!(rt; "there was room"),
+    }
+}
+
+/// Whether what was taken is this letter, or none.
+fn is_taken(taken: &Option<Letter>, expected: Option<&Letter>) -> bool {
+    match (taken, expected) {
+        (Some(letter), Some(expected)) => letter.same(expected),
+        (None, None) => true,
+        _ => false,
+    }
 }
 
 /// What is taken next is this letter, or none.
@@ -83,95 +149,151 @@ fn comes_next<R: Wait + Abort>(
     rt: &R,
     post: &Post,
     collector: Collector,
-    expected: Option<Letter>,
+    expected: Option<&Letter>,
 ) -> Collector
     requires { collector.table ≡ post.now.table }
     ensures { result.table ≡ collector.table }
 {
     let (collector, taken) = post.take(rt, collector);
-    match (&taken, &expected) {
-        (Some(letter), Some(expected)) => assert!(rt; letter.same(expected)),
-        _ => assert!(rt; taken.is_none() && expected.is_none()),
-    }
+    assert!(rt; is_taken(&taken, expected));
     collector
 }
 
 /// General 1 posts, general 2 posts, general 1's second letter comes back, his first is taken, and he posts the second.
 fn exchange<R: Wait + Abort>(
     rt: &R,
-    alloc: Global,
     post: &Post,
-    first: Poster,
-    second: Poster,
-    collector: Collector,
-) -> Result<(Poster, Poster, Collector), Fail>
-    requires first { (first.table ≡ post.now.table) × (first.general ≡ 1) }
-    requires second { (second.table ≡ post.now.table) × (second.general ≡ 2) }
-    requires collector { collector.table ≡ post.now.table }
-    ensures { IfOk result (λ r. (r.0.table ≡ post.now.table) × (r.1.table ≡ post.now.table)
-        × (r.2.table ≡ post.now.table)) }
+    ends: (Poster, Poster, Collector),
+    letters: Letters,
+    same: &Letters,
+) -> (Poster, Poster, Collector)
+    requires one { (ends.0.table ≡ post.now.table) × (ends.0.general ≡ 1) }
+    requires other { (ends.1.table ≡ post.now.table) × (ends.1.general ≡ 2) }
+    requires collector { ends.2.table ≡ post.now.table }
+    requires first { letters.first.general ≡ 1 }
+    requires second { letters.second.general ≡ 1 }
+    requires third { letters.other.general ≡ 2 }
+    ensures one { result.0.table ≡ post.now.table }
+    ensures other { result.1.table ≡ post.now.table }
+    ensures collector { result.2.table ≡ post.now.table }
 {
-    let first = goes_in(rt, post, first, numbered(alloc, 1, 1)?);
-    let second = goes_in(rt, post, second, numbered(alloc, 2, 1)?);
-    let first = comes_back(rt, alloc, post, first, numbered(alloc, 1, 2)?)?;
-    let collector = comes_next(rt, post, collector, Some(numbered(alloc, 1, 1)?));
-    let first = goes_in(rt, post, first, numbered(alloc, 1, 2)?);
-    Ok((first, second, collector))
+    let (one, other, collector) = ends;
+    let Letters {
+        first,
+        second,
+        other: third,
+    } = letters;
+    let one = goes_in(rt, post, one, first);
+    let other = goes_in(rt, post, other, third);
+    let (one, back) = comes_back(rt, post, one, second, &same.second);
+    let collector = comes_next(rt, post, collector, Some(&same.first));
+    let one = goes_in(rt, post, one, back);
+    (one, other, collector)
 }
 
-/// The letters that the post still has are these.
-fn leaves<R: Wait + Abort>(
+/// A post in which that has been done.
+fn exchanged<R: Wait + Abort>(
+    rt: &R,
+    alloc: Global,
+    same: &Letters,
+) -> (Post, (Poster, Poster, Collector))
+    ensures one { result.1.0.table ≡ result.0.table }
+    ensures other { result.1.1.table ≡ result.0.table }
+    ensures collector { result.1.2.table ≡ result.0.table }
+{
+    let Some(letters) = three_letters(alloc) else {
+        panic!(rt; "letters")
+    };
+    let Some((post, ends)) = post_of_three(alloc) else {
+        panic!(rt; "a post")
+    };
+    let ends = exchange(rt, &post, ends, letters, same);
+    (post, ends)
+}
+
+/// The letters that the post still has.
+fn left_in<R: Wait + Abort>(
     rt: &R,
     alloc: Global,
     post: Post,
-    posters: (Poster, Poster),
-    collector: Collector,
-    expected: &[Letter],
-) -> Result<(), Fail>
-    requires first { posters.0.table ≡ post.table }
-    requires second { posters.1.table ≡ post.table }
-    requires collector { collector.table ≡ post.table }
+    ends: (Poster, Poster, Collector),
+) -> Vec<Letter>
+    requires one { ends.0.table ≡ post.table }
+    requires other { ends.1.table ≡ post.table }
+    requires collector { ends.2.table ≡ post.table }
 {
-    let posters = Vec::from_array(alloc, [posters.0, posters.1])?;
-    let left = post.settle(rt, posters, collector)?;
-    assert_eq!(rt; left.len(), expected.len());
-    for (letter, expected) in left.iter().zip(expected) {
-        assert!(rt; letter.same(expected));
+    let (one, other, collector) = ends;
+    let Ok(posters) = Vec::from_array(alloc, [one, other]) else {
+        panic!(rt; "posters")
+    };
+    match post.settle(rt, posters, collector) {
+        Ok(left) => left,
+        Err(_) => panic!(rt; "letters"),
     }
-    Ok(())
+}
+
+/// Whether these two letters are left, and no other.
+fn are_left(left: &[Letter], first: &Letter, second: &Letter) -> bool {
+    match left {
+        [one, other] => one.same(first) && other.same(second),
+        _ => false,
+    }
+}
+
+/// General 2's letter is taken, then general 1's second, and then there is none.
+fn others_come<R: Wait + Abort>(
+    rt: &R,
+    post: &Post,
+    collector: Collector,
+    letters: &Letters,
+) -> Collector
+    requires { collector.table ≡ post.now.table }
+    ensures { result.table ≡ collector.table }
+{
+    let collector = comes_next(rt, post, collector, Some(&letters.other));
+    let collector = comes_next(rt, post, collector, Some(&letters.second));
+    comes_next(rt, post, collector, None)
 }
 
 #[test]
-fn letters_are_taken_in_the_order_of_their_posting(rt: HostRuntime) -> Result<(), Fail> {
+fn letters_are_taken_in_the_order_of_their_posting(rt: HostRuntime) {
     let alloc = rt.alloc();
-    let (post, first, second, collector) = post_of_three(alloc)?;
-    let (first, second, collector) = exchange(&rt, alloc, &post, first, second, collector)?;
-    let collector = comes_next(&rt, &post, collector, Some(numbered(alloc, 2, 1)?));
-    let collector = comes_next(&rt, &post, collector, Some(numbered(alloc, 1, 2)?));
-    let collector = comes_next(&rt, &post, collector, None);
-    leaves(&rt, alloc, post, (first, second), collector, &[])
+    let Some(letters) = three_letters(alloc) else {
+        panic!(rt; "letters")
+    };
+    let (post, (one, other, collector)) = exchanged(&rt, alloc, &letters);
+    let collector = others_come(&rt, &post, collector, &letters);
+    let left = left_in(&rt, alloc, post, (one, other, collector));
+    assert!(rt; left.is_empty());
 }
 
 #[test]
-fn letters_are_left_in_the_order_of_their_posting(rt: HostRuntime) -> Result<(), Fail> {
+fn letters_are_left_in_the_order_of_their_posting(rt: HostRuntime) {
     let alloc = rt.alloc();
-    let (post, first, second, collector) = post_of_three(alloc)?;
-    let (first, second, collector) = exchange(&rt, alloc, &post, first, second, collector)?;
-    let expected = [numbered(alloc, 2, 1)?, numbered(alloc, 1, 2)?];
-    leaves(&rt, alloc, post, (first, second), collector, &expected)
+    let Some(letters) = three_letters(alloc) else {
+        panic!(rt; "letters")
+    };
+    let (post, ends) = exchanged(&rt, alloc, &letters);
+    let left = left_in(&rt, alloc, post, ends);
+    assert!(rt; are_left(left.as_slice(), &letters.other, &letters.second));
 }
 
 /// Letters of a general that differ, by their numbers.
-fn originals(alloc: Global, general: u32) -> Result<Vec<Letter>, Fail> {
+fn originals(alloc: Global, general: u32) -> Option<Vec<Letter>> {
     let mut letters = Vec::new(alloc);
     for number in 0..ORDERS {
-        letters.push(numbered(alloc, general, number)?)?;
+        let Some(letter) = numbered(alloc, general, number) else {
+            return None;
+        };
+        if letters.push(letter).is_err() {
+            return None;
+        }
     }
-    Ok(letters)
+    Some(letters)
 }
 
 /// These letters, over and over.
-fn repeated(alloc: Global, originals: &[Letter]) -> Result<Vec<Letter>, Fail> {
+fn repeated(alloc: Global, originals: &[Letter]) -> Result<Vec<Letter>, AllocError> {
     let mut letters = Vec::new(alloc);
     for _ in 0..TIMES {
         for letter in originals {
@@ -179,6 +301,17 @@ fn repeated(alloc: Global, originals: &[Letter]) -> Result<Vec<Letter>, Fail> {
         }
     }
     Ok(letters)
+}
+
+/// A general's 1,000 letters.
+fn letters_of(alloc: Global, general: u32) -> Option<Vec<Letter>> {
+    let Some(originals) = originals(alloc, general) else {
+        return None;
+    };
+    match repeated(alloc, originals.as_slice()) {
+        Ok(letters) => Some(letters),
+        Err(_) => None,
+    }
 }
 
 /// Posts a letter, as soon as there is room.
@@ -200,28 +333,81 @@ fn send<R: Wait>(rt: &R, post: &Post, mut poster: Poster, mut letter: Letter) ->
     unreachable!()
 }
 
-/// Posts a general's letters, and says whether they are his.
+/// Posts copies of a general's letters, and says whether all are his, and all were posted.
 fn send_all<R: Wait>(
     rt: &R,
+    alloc: Global,
     post: &Post,
     mut poster: Poster,
     general: u32,
-    letters: Vec<Letter>,
+    letters: &[Letter],
+) -> bool
+    requires post { poster.table ≡ post.now.table }
+    requires general { poster.general ≡ general }
+{
+    for letter in letters {
+        let Some(copy) = own(alloc, letter, general) else {
+            return false;
+        };
+        poster = send(rt, post, poster, copy);
+    }
+    true
+}
+
+/// The same, and then counts that it has ended.
+fn send_and_end<R: Wait>(
+    rt: &R,
+    alloc: Global,
+    post: &Post,
+    poster: Poster,
+    general: u32,
+    letters: &[Letter],
     ended: &AtomicU32,
 ) -> bool
     requires post { poster.table ≡ post.now.table }
     requires general { poster.general ≡ general }
 {
-    let mut own = true;
-    for letter in letters {
-        if letter.general == general {
-            poster = send(rt, post, poster, letter);
-        } else {
-            own = false;
+    let sent = send_all(rt, alloc, post, poster, general, letters);
+    ended.fetch_add(1, Ordering::SeqCst);
+    sent
+}
+
+/// A general's letters, and how many of them have come.
+#[derive(Drop)]
+struct Course<'a> {
+    letters: &'a [Letter],
+    come: usize,
+}
+
+impl<'a> Course<'a> {
+    fn of(letters: &'a [Letter]) -> Course<'a> {
+        Course { letters, come: 0 }
+    }
+
+    /// Whether the letter is the next one. If so, it is counted.
+    fn goes_on(&mut self, letter: &Letter) -> bool {
+        match self.letters.get(self.come) {
+            Some(wanted) => {
+                self.come = self.come.wrapping_add(1);
+                wanted.same(letter)
+            }
+            None => false,
         }
     }
-    ended.fetch_add(1, Ordering::SeqCst);
-    own
+
+    /// Whether all have come.
+    fn is_over(&self) -> bool {
+        self.come == self.letters.len()
+    }
+}
+
+/// Whether the letter is the next one of its general, 0 or 1. If so, it is counted.
+fn is_next(first: &mut Course<'_>, second: &mut Course<'_>, letter: &Letter) -> bool {
+    match letter.general {
+        0 => first.goes_on(letter),
+        1 => second.goes_on(letter),
+        _ => false,
+    }
 }
 
 /// Takes letters until both generals have posted theirs and none is left, and says whether each general's have come in
@@ -230,54 +416,67 @@ fn receive<R: Wait>(
     rt: &R,
     post: &Post,
     mut collector: Collector,
-    expected: &[Vec<Letter>; 2],
+    mut first: Course<'_>,
+    mut second: Course<'_>,
     ended: &AtomicU32,
 ) -> bool
     requires { collector.table ≡ post.now.table }
 {
-    let mut next = [0; 2];
     let mut in_order = true;
     for _ in rt.forever() {
         let over = ended.load(Ordering::SeqCst) == 2;
         let (again, taken) = post.take(rt, collector);
         collector = again;
         match taken {
-            Some(letter) => in_order = is_next(expected, &mut next, &letter) && in_order,
+            Some(letter) => in_order = is_next(&mut first, &mut second, &letter) && in_order,
             None if over => break,
             None => thread::yield_now(),
         }
     }
-    in_order && next == [expected[0].len(), expected[1].len()]
+    in_order && first.is_over() && second.is_over()
 }
 
-/// Whether the letter is the next one of its general. If so, it is counted.
-fn is_next(expected: &[Vec<Letter>; 2], next: &mut [usize; 2], letter: &Letter) -> bool {
-    let general = letter.general as usize;
-    if general >= 2 {
-        return false;
-    }
-    let Some(wanted) = expected[general].get(next[general]) else {
-        return false;
-    };
-    next[general] += 1;
-    wanted.same(letter)
+/// Whether generals 0 and 1 post their letters, both at once.
+fn both_send<R: Threads + Wait + Sync>(
+    rt: &R,
+    alloc: Global,
+    post: &Post,
+    posters: (Poster, Poster),
+    firsts: &[Letter],
+    seconds: &[Letter],
+    ended: &AtomicU32,
+) -> bool
+    requires first { (posters.0.table ≡ post.now.table) × (posters.0.general ≡ 0) }
+    requires second { (posters.1.table ≡ post.now.table) × (posters.1.general ≡ 1) }
+{
+    let (first, second) = posters;
+    let (one, other) = thread::join(
+        rt,
+        move || -> bool
+            requires { (first.table ≡ post.now.table) × (first.general ≡ 0) }
+        { send_and_end(rt, alloc, post, first, 0, firsts, ended) },
+        move || -> bool
+            requires { (second.table ≡ post.now.table) × (second.general ≡ 1) }
+        { send_and_end(rt, alloc, post, second, 1, seconds, ended) },
+    );
+    one && other
 }
 
 /// Whether two generals' letters come in order, where both post at once and a third thread takes them.
 fn come_in_order<R: Threads + Wait + Sync>(
     rt: &R,
+    alloc: Global,
     post: &Post,
     posters: (Poster, Poster),
     collector: Collector,
-    sent: (Vec<Letter>, Vec<Letter>),
-    expected: &[Vec<Letter>; 2],
+    firsts: &[Letter],
+    seconds: &[Letter],
 ) -> bool
     requires first { (posters.0.table ≡ post.now.table) × (posters.0.general ≡ 0) }
     requires second { (posters.1.table ≡ post.now.table) × (posters.1.general ≡ 1) }
     requires collector { collector.table ≡ post.now.table }
 {
     let (first, second) = posters;
-    let (firsts, seconds) = sent;
     let ended = AtomicU32::new(0);
     let count = &ended;
     let (sent, received) = thread::join(
@@ -285,41 +484,70 @@ fn come_in_order<R: Threads + Wait + Sync>(
         move || -> bool
             requires { (first.table ≡ post.now.table) × (first.general ≡ 0) × (second.table ≡ post.now.table)
                 × (second.general ≡ 1) }
-        {
-            let (one, other) = thread::join(
-                rt,
-                move || -> bool
-                    requires { (first.table ≡ post.now.table) × (first.general ≡ 0) }
-                { send_all(rt, post, first, 0, firsts, count) },
-                move || -> bool
-                    requires { (second.table ≡ post.now.table) × (second.general ≡ 1) }
-                { send_all(rt, post, second, 1, seconds, count) },
-            );
-            one && other
-        },
+        { both_send(rt, alloc, post, (first, second), firsts, seconds, count) },
         move || -> bool
             requires { collector.table ≡ post.now.table }
-        { receive(rt, post, collector, expected, count) },
+        {
+            receive(
+                rt,
+                post,
+                collector,
+                Course::of(firsts),
+                Course::of(seconds),
+                count,
+            )
+        },
     );
     sent && received
 }
 
+/// A post of two generals with room for four letters, their posters, and the collector.
+fn post_of_two(alloc: Global) -> Option<(Post, (Poster, Poster), Collector)>
+    ensures first { IfSome result (λ r. (r.1.0.table ≡ r.0.table) × (r.1.0.general ≡ 0)) }
+    ensures second { IfSome result (λ r. (r.1.1.table ≡ r.0.table) × (r.1.1.general ≡ 1)) }
+    ensures collector { IfSome result (λ r. r.2.table ≡ r.0.table) }
+{
+    let Ok((post, mut posters, collector)) = Post::new(alloc, 2, 4) else {
+        return None;
+    };
+    let Some(second) = posters.pop() else {
+        return None;
+    };
+    let Some(first) = posters.pop() else {
+        return None;
+    };
+    Some((post, (first, second), collector))
+}
+
+/// Whether these letters of two generals, who both post at once, come in order.
+fn come_between_threads<R: Threads + Wait + Sync>(
+    rt: &R,
+    alloc: Global,
+    firsts: &[Letter],
+    seconds: &[Letter],
+) -> bool {
+    match post_of_two(alloc) {
+        Some((post, posters, collector)) => {
+            come_in_order(rt, alloc, &post, posters, collector, firsts, seconds)
+        }
+        None => false,
+    }
+}
+
+/// Whether the 1,000 letters of each of two generals, who both post at once, come in order.
+fn thousands_come<R: Threads + Wait + Sync>(rt: &R, alloc: Global) -> bool {
+    let Some(firsts) = letters_of(alloc, 0) else {
+        return false;
+    };
+    let Some(seconds) = letters_of(alloc, 1) else {
+        return false;
+    };
+    firsts.len() == 1000
+        && seconds.len() == 1000
+        && come_between_threads(rt, alloc, firsts.as_slice(), seconds.as_slice())
+}
+
 #[test]
-fn letters_of_two_threads_come_in_order(rt: HostRuntime) -> Result<(), Fail> {
-    let alloc = rt.alloc();
-    let (firsts, seconds) = (originals(alloc, 0)?, originals(alloc, 1)?);
-    let sent = (
-        repeated(alloc, firsts.as_slice())?,
-        repeated(alloc, seconds.as_slice())?,
-    );
-    let expected = [
-        repeated(alloc, firsts.as_slice())?,
-        repeated(alloc, seconds.as_slice())?,
-    ];
-    assert_eq!(rt; expected[0].len(), 1000);
-    let (post, mut posters, collector) = Post::new(alloc, 2, 4)?;
-    let second = posters.pop().ok_or("a poster")?;
-    let first = posters.pop().ok_or("a poster")?;
-    assert!(rt; come_in_order(&rt, &post, (first, second), collector, sent, &expected));
-    Ok(())
+fn letters_of_two_threads_come_in_order(rt: HostRuntime) {
+    assert!(rt; thousands_come(&rt, rt.alloc()));
 }

@@ -2,7 +2,7 @@
 ghost use Rattle.std.specs.Prelude.{◌≡◌, ◌<◌, IsTrue};
 ghost use Rattle.round.specs.Told.{AreDue};
 
-use crate::scenarios::played;
+use crate::scenarios::{first_letters, played};
 use crate::texts::{
     FIVE, FOUR, FOUR_AND_THREE_STEPS, FOUR_AND_TWO_STEPS, FOUR_OF_BYTES, NINE_FOR_FOUR,
     SEVEN_FOR_ONE, SWAYING,
@@ -10,24 +10,21 @@ use crate::texts::{
 use label::Label;
 use round::{Letter, Round, Scenario, are_rounds_of, context_for, deliver, loyal_letter};
 use std::alloc::{AllocError, Global};
-use std::test::Fail;
 use tree::Tree;
 use world::Chronicle;
 
-/// The context of a general behind these rounds.
-fn context(
-    alloc: Global,
-    scenario: &Scenario,
-    general: u8,
-    before: &[Round],
-) -> Result<Vec<u8>, Fail> {
+/// The context of a general behind these rounds, where they are the campaign's and he is one of its generals.
+fn context(alloc: Global, scenario: &Scenario, general: u8, before: &[Round]) -> Option<Vec<u8>> {
     if before.len() > usize::from(scenario.bound()) || general >= scenario.generals() {
-        return Err("no such round or general")?;
+        return None;
     }
     if !are_rounds_of(scenario, before) {
-        return Err("rounds of another campaign")?;
+        return None;
     }
-    Ok(context_for(alloc, scenario, general, before)?)
+    match context_for(alloc, scenario, general, before) {
+        Ok(context) => Some(context),
+        Err(_) => None,
+    }
 }
 
 /// The context of a general behind so many rounds of a campaign.
@@ -37,11 +34,13 @@ fn context_behind(
     traitors: &str,
     general: u8,
     behind: usize,
-) -> Result<Vec<u8>, Fail> {
-    let chronicle = played(alloc, keys, traitors, "")?;
+) -> Option<Vec<u8>> {
+    let Some(chronicle) = played(alloc, keys, traitors, "") else {
+        return None;
+    };
     match chronicle.letters().get(..behind) {
         Some(before) => context(alloc, chronicle.scenario(), general, before),
-        None => Err("so many rounds")?,
+        None => None,
     }
 }
 
@@ -97,45 +96,70 @@ const CONTEXTS: &[Row] = &[
 ];
 
 /// Whether a row's context has its numbers.
-fn tells(alloc: Global, row: &Row) -> Result<bool, Fail> {
+fn tells(alloc: Global, row: &Row) -> bool {
     let (keys, traitors, general, behind, numbers) = *row;
-    let bytes = context_behind(alloc, keys, traitors, general, behind)?;
-    let expected = spelt(alloc, numbers)?;
-    Ok(bytes.as_slice() == expected.as_slice())
+    let Some(bytes) = context_behind(alloc, keys, traitors, general, behind) else {
+        return false;
+    };
+    let Ok(expected) = spelt(alloc, numbers) else {
+        return false;
+    };
+    bytes.as_slice() == expected.as_slice()
 }
 
 #[test]
-fn contexts_tell_what_was_told(rt: HostRuntime) -> Result<(), Fail> {
+fn contexts_tell_what_was_told(rt: HostRuntime) {
     let alloc = rt.alloc();
     for (place, row) in CONTEXTS.iter().enumerate() {
-        assert!(rt; tells(alloc, row)?, "row {place}");
+        assert!(rt; tells(alloc, row), "row {place}");
     }
-    Ok(())
 }
 
 /// The bytes that the first context of `CONTEXTS` begins with.
 const BYTES: &[u8] =
     b"\x04\0\0\0\x01\0\0\0\0\0\0\0\0\0\0\0\x01\0\0\0\x01\0\0\0\x03\0\0\0\0\0\0\0\x04\x03\x02\x01\0";
 
-#[test]
-fn context_begins_with_its_bytes(rt: HostRuntime) -> Result<(), Fail> {
-    let bytes = context_behind(rt.alloc(), FOUR_OF_BYTES, "", 0, 0)?;
-    assert!(rt; bytes.as_slice().starts_with(BYTES) && bytes.len() == 4096);
-    Ok(())
+/// Whether that context has 4,096 bytes, and these first.
+fn begins_with_its_bytes(alloc: Global) -> bool {
+    match context_behind(alloc, FOUR_OF_BYTES, "", 0, 0) {
+        Some(bytes) => bytes.as_slice().starts_with(BYTES) && bytes.len() == 4096,
+        None => false,
+    }
 }
 
-/// Whether the letter is the one that a loyal general writes who is told what the writer of this one was.
-fn is_faithful(alloc: Global, letter: &Letter) -> Result<bool, AllocError> {
+#[test]
+fn context_begins_with_its_bytes(rt: HostRuntime) {
+    assert!(rt; begins_with_its_bytes(rt.alloc()));
+}
+
+/// The letter that a loyal general writes who is told what the writer of this one was.
+fn faithful(alloc: Global, letter: &Letter) -> Option<Letter> {
     letter.recall();
     let _shape = letter.outbox.shape();
-    let context = Vec::from_slice(alloc, letter.context.as_slice())?;
-    let faithful = loyal_letter(alloc, letter.general, letter.round, context)?;
-    Ok(faithful.same(letter))
+    let Ok(context) = Vec::from_slice(alloc, letter.context.as_slice()) else {
+        return None;
+    };
+    match loyal_letter(alloc, letter.general, letter.round, context) {
+        Ok(faithful) => Some(faithful),
+        Err(_) => None,
+    }
+}
+
+/// Whether the letter is faithful where its writer is loyal, and not otherwise.
+fn is_faithful_if_loyal(alloc: Global, letter: &Letter) -> bool {
+    let is_loyal = letter.program.program().is_none();
+    match faithful(alloc, letter) {
+        Some(faithful) => faithful.same(letter) == is_loyal,
+        None => false,
+    }
 }
 
 /// Whether a copy of the letter is the same.
-fn is_copied(alloc: Global, letter: &Letter) -> Result<bool, AllocError> {
-    Ok(letter.copy(alloc)?.same(letter))
+fn is_copied(alloc: Global, letter: &Letter) -> bool {
+    match letter.copy(alloc) {
+        Ok(copy) => copy.same(letter),
+        Err(_) => false,
+    }
 }
 
 /// Whether of the chronicle's letters just this one has its round and general, and no other is the same.
@@ -151,22 +175,33 @@ fn is_its_own(chronicle: &Chronicle, letter: &Letter) -> bool {
     true
 }
 
-/// Whether the letter is faithful where its writer is loyal, and not otherwise, and its copy is the same.
-fn is_right(alloc: Global, letter: &Letter) -> Result<bool, AllocError> {
-    let is_loyal = letter.program.program().is_none();
-    Ok(is_copied(alloc, letter)? && is_faithful(alloc, letter)? == is_loyal)
+/// Whether each letter of the chronicle is faithful where its writer is loyal, and not otherwise, its copy is the same,
+/// and no other letter is.
+fn are_right(alloc: Global, chronicle: &Chronicle) -> bool {
+    for round in chronicle.letters() {
+        for letter in round.letters() {
+            let is_right = is_copied(alloc, letter)
+                && is_faithful_if_loyal(alloc, letter)
+                && is_its_own(chronicle, letter);
+            if !is_right {
+                return false;
+            }
+        }
+    }
+    true
+}
+
+/// Whether those are that four generals write, of whom one sways.
+fn follow_from_their_contexts(alloc: Global) -> bool {
+    match played(alloc, FOUR, SWAYING, "") {
+        Some(chronicle) => are_right(alloc, &chronicle),
+        None => false,
+    }
 }
 
 #[test]
-fn letters_follow_from_their_contexts(rt: HostRuntime) -> Result<(), Fail> {
-    let alloc = rt.alloc();
-    let chronicle = played(alloc, FOUR, SWAYING, "")?;
-    for round in chronicle.letters() {
-        for letter in round.letters() {
-            assert!(rt; is_right(alloc, letter)? && is_its_own(&chronicle, letter));
-        }
-    }
-    Ok(())
+fn letters_follow_from_their_contexts(rt: HostRuntime) {
+    assert!(rt; follow_from_their_contexts(rt.alloc()));
 }
 
 /// Whether of these letters of four generals those of 3 alone differ.
@@ -179,22 +214,21 @@ fn last_differs(letters: &[Letter], others: &[Letter]) -> bool {
     letters.len() == 4 && others.len() == 4
 }
 
-/// The letters of a chronicle's first round.
-fn first_letters(chronicle: &Chronicle) -> &[Letter] {
-    match chronicle.letters() {
-        [first, ..] => first.letters(),
-        [] => &[],
-    }
+/// Whether of the first letters under a patience of two and of three steps those of 3 alone differ.
+fn differ_by_their_steps(alloc: Global) -> bool {
+    let Some(short) = played(alloc, FOUR_AND_TWO_STEPS, SWAYING, "") else {
+        return false;
+    };
+    let Some(long) = played(alloc, FOUR_AND_THREE_STEPS, SWAYING, "") else {
+        return false;
+    };
+    last_differs(first_letters(&short), first_letters(&long))
 }
 
 /// In the first round he relays nothing, so that only the number of steps tells two cut-offs apart.
 #[test]
-fn letters_differ_by_their_steps(rt: HostRuntime) -> Result<(), Fail> {
-    let alloc = rt.alloc();
-    let short = played(alloc, FOUR_AND_TWO_STEPS, SWAYING, "")?;
-    let long = played(alloc, FOUR_AND_THREE_STEPS, SWAYING, "")?;
-    assert!(rt; last_differs(first_letters(&short), first_letters(&long)));
-    Ok(())
+fn letters_differ_by_their_steps(rt: HostRuntime) {
+    assert!(rt; differ_by_their_steps(rt.alloc()));
 }
 
 /// Whether the letter is of this round of the tree's campaign.
@@ -262,11 +296,18 @@ fn are_filled_in(tree: &mut Tree, chronicle: &Chronicle) -> bool {
     }
 }
 
+/// Whether those of four generals, of whom 3 sways, fill in the tree of 1.
+fn fill_a_tree(alloc: Global) -> bool {
+    let Ok(mut tree) = Tree::new(alloc, 4, 1, 0, 1) else {
+        return false;
+    };
+    let Some(chronicle) = played(alloc, FOUR, SWAYING, "") else {
+        return false;
+    };
+    are_filled_in(&mut tree, &chronicle)
+}
+
 #[test]
-fn letters_fill_a_tree(rt: HostRuntime) -> Result<(), Fail> {
-    let alloc = rt.alloc();
-    let mut tree = Tree::new(alloc, 4, 1, 0, 1)?;
-    let chronicle = played(alloc, FOUR, SWAYING, "")?;
-    assert!(rt; are_filled_in(&mut tree, &chronicle));
-    Ok(())
+fn letters_fill_a_tree(rt: HostRuntime) {
+    assert!(rt; fill_a_tree(rt.alloc()));
 }

@@ -1,9 +1,8 @@
-//! Campaigns told by texts.
+//! Campaigns told by texts. Where memory is refused, there is none.
 
-use round::Scenario;
+use round::{Letter, Scenario};
 use scenario::read;
 use std::alloc::{AllocError, Global};
-use std::test::Fail;
 use trace::{Latch, read_schedule, write_chronicle};
 use world::{Chronicle, play, replay};
 
@@ -15,8 +14,14 @@ pub(crate) fn joined(alloc: Global, keys: &str, traitors: &str) -> Result<String
 }
 
 /// The campaign with these keys and traitors.
-pub(crate) fn told(alloc: Global, keys: &str, traitors: &str) -> Result<Scenario, Fail> {
-    Ok(read(alloc, joined(alloc, keys, traitors)?.as_str())?)
+pub(crate) fn told(alloc: Global, keys: &str, traitors: &str) -> Option<Scenario> {
+    let Ok(text) = joined(alloc, keys, traitors) else {
+        return None;
+    };
+    match read(alloc, text.as_str()) {
+        Ok(scenario) => Some(scenario),
+        Err(_) => None,
+    }
 }
 
 /// The chronicle of a campaign by a schedule.
@@ -25,9 +30,25 @@ pub(crate) fn played(
     keys: &str,
     traitors: &str,
     schedule: &str,
-) -> Result<Chronicle, Fail> {
-    let schedule = read_schedule(alloc, schedule)?;
-    Ok(play(alloc, told(alloc, keys, traitors)?, &schedule)?)
+) -> Option<Chronicle> {
+    let Ok(schedule) = read_schedule(alloc, schedule) else {
+        return None;
+    };
+    let Some(scenario) = told(alloc, keys, traitors) else {
+        return None;
+    };
+    match play(alloc, scenario, &schedule) {
+        Ok(chronicle) => Some(chronicle),
+        Err(_) => None,
+    }
+}
+
+/// The letters of a chronicle's first round.
+pub(crate) fn first_letters(chronicle: &Chronicle) -> &[Letter] {
+    match chronicle.letters() {
+        [first, ..] => first.letters(),
+        [] => &[],
+    }
 }
 
 /// The names of generals, by round.
@@ -45,14 +66,35 @@ pub(crate) fn replayed(
     keys: &str,
     traitors: &str,
     names: &[&[u8]],
-) -> Result<Chronicle, Fail> {
-    let names = named(alloc, names)?;
-    Ok(replay(alloc, told(alloc, keys, traitors)?, names.as_slice())?)
+) -> Option<Chronicle> {
+    let Ok(names) = named(alloc, names) else {
+        return None;
+    };
+    let Some(scenario) = told(alloc, keys, traitors) else {
+        return None;
+    };
+    match replay(alloc, scenario, names.as_slice()) {
+        Ok(chronicle) => Some(chronicle),
+        Err(_) => None,
+    }
 }
 
 /// The text of a chronicle.
-pub(crate) fn text(alloc: Global, chronicle: &Chronicle) -> Result<Vec<u8>, Fail> {
+fn text(alloc: Global, chronicle: &Chronicle) -> Option<Vec<u8>> {
     let mut sink = Latch::new(Vec::new(alloc));
-    write_chronicle(chronicle, &mut sink)?;
-    Ok(sink.into_writer())
+    match write_chronicle(chronicle, &mut sink) {
+        Ok(()) => Some(sink.into_writer()),
+        Err(_) => None,
+    }
+}
+
+/// Whether two chronicles have one text.
+pub(crate) fn are_told_alike(alloc: Global, chronicle: &Chronicle, other: &Chronicle) -> bool {
+    let Some(told) = text(alloc, chronicle) else {
+        return false;
+    };
+    let Some(other) = text(alloc, other) else {
+        return false;
+    };
+    told.as_slice() == other.as_slice()
 }

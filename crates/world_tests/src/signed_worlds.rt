@@ -6,14 +6,27 @@ use round::Scenario;
 use scenario::{Campaign, read_any};
 use signed::{Chain, SignedChronicle, SignedWorld};
 use std::alloc::Global;
-use std::test::Fail;
 use world::{Event, EventError, Verdict};
 
 /// The campaign of three generals with these traitors' tables.
-fn three(alloc: Global, traitors: &str) -> Result<Scenario, Fail> {
-    match read_any(alloc, joined(alloc, THREE_SIGNED, traitors)?.as_str()) {
-        Ok(Campaign::Signed(scenario)) => Ok(scenario),
-        _ => Err("no signed campaign")?,
+fn three(alloc: Global, traitors: &str) -> Option<Scenario> {
+    let Ok(text) = joined(alloc, THREE_SIGNED, traitors) else {
+        return None;
+    };
+    match read_any(alloc, text.as_str()) {
+        Ok(Campaign::Signed(scenario)) => Some(scenario),
+        _ => None,
+    }
+}
+
+/// The world of that campaign.
+fn opened(alloc: Global, traitors: &str) -> Option<SignedWorld> {
+    let Some(scenario) = three(alloc, traitors) else {
+        return None;
+    };
+    match SignedWorld::open(alloc, scenario) {
+        Ok(world) => Some(world),
+        Err(_) => None,
     }
 }
 
@@ -88,24 +101,39 @@ const WITH_STRANGERS: &[Step] = &[
     ),
 ];
 
+/// Whether the event is done.
+fn is_done(world: &mut SignedWorld, event: Event) -> bool {
+    world.apply(event).is_ok()
+}
+
 /// Whether each of these events is done.
 fn are_done(world: &mut SignedWorld, events: &[Event]) -> bool {
     for event in events {
-        if world.apply(*event).is_err() {
+        if !is_done(world, *event) {
             return false;
         }
     }
     true
 }
 
+/// Whether the event is refused for this reason.
+fn is_refused(world: &mut SignedWorld, event: Event, reason: EventError) -> bool {
+    match world.apply(event) {
+        Ok(()) => false,
+        Err(found) => found == reason,
+    }
+}
+
+/// Whether these are the decisions.
+fn has_decided(world: &SignedWorld, orders: &[u32]) -> bool {
+    world.decisions().as_slice() == orders
+}
+
 /// Whether each of these events is refused for this reason, and the decisions stay.
 fn are_refused(world: &mut SignedWorld, events: &[Event], reason: EventError) -> bool {
     let before = world.decisions();
     for event in events {
-        if world.apply(*event) != Err(reason) {
-            return false;
-        }
-        if world.decisions().as_slice() != before.as_slice() {
+        if !is_refused(world, *event, reason) || !has_decided(world, before.as_slice()) {
             return false;
         }
     }
@@ -118,7 +146,7 @@ fn goes(world: &mut SignedWorld, step: Step) -> bool {
         Step::Done(events) => are_done(world, events),
         Step::Refused(events, reason) => are_refused(world, events, reason),
         Step::Full(full) => world.full() == full,
-        Step::Decided(orders) => world.decisions().as_slice() == orders,
+        Step::Decided(orders) => has_decided(world, orders),
     }
 }
 
@@ -156,34 +184,59 @@ const OBEYED: Verdict = Verdict {
     bound: true,
 };
 
-#[test]
-fn three_generals_agree_beside_one_who_passes_on(rt: HostRuntime) -> Result<(), Fail> {
-    let alloc = rt.alloc();
-    let mut world = SignedWorld::open(alloc, three(alloc, PASSING)?)?;
-    assert!(rt; go(&mut world, BESIDE_ONE_WHO_PASSES_ON));
-    let chronicle = world.chronicle().ok_or("no chronicle")?;
-    assert!(rt; is_passed_on(&chronicle) && chronicle.verdict() == OBEYED);
-    Ok(())
+/// The chronicle of a world of these traitors, where all steps go as they say.
+fn led(alloc: Global, traitors: &str, steps: &[Step]) -> Option<SignedChronicle> {
+    let Some(mut world) = opened(alloc, traitors) else {
+        return None;
+    };
+    if !go(&mut world, steps) {
+        return None;
+    }
+    world.chronicle()
+}
+
+/// Whether three generals agree beside one who passes on.
+fn agree_beside_one_who_passes_on(alloc: Global) -> bool {
+    match led(alloc, PASSING, BESIDE_ONE_WHO_PASSES_ON) {
+        Some(chronicle) => is_passed_on(&chronicle) && chronicle.verdict() == OBEYED,
+        None => false,
+    }
 }
 
 #[test]
-fn three_generals_agree_under_a_commander_who_signs_two_orders(
-    rt: HostRuntime,
-) -> Result<(), Fail> {
-    let alloc = rt.alloc();
-    let mut world = SignedWorld::open(alloc, three(alloc, SIGNING_TWICE)?)?;
-    assert!(rt; go(&mut world, UNDER_TWO_ORDERS));
-    let chronicle = world.chronicle().ok_or("no chronicle")?;
-    assert!(rt; chronicle.sent(0, 1).len() == 2 && chronicle.sent(1, 2).len() == 1);
-    assert!(rt; chronicle.verdict().obeyed.is_none());
-    Ok(())
+fn three_generals_agree_beside_one_who_passes_on(rt: HostRuntime) {
+    assert!(rt; agree_beside_one_who_passes_on(rt.alloc()));
+}
+
+/// Whether the commander sent two chains in the first round, 1 one in the second, and nobody had to obey.
+fn are_sent_two_orders(chronicle: &SignedChronicle) -> bool {
+    chronicle.sent(0, 1).len() == 2
+        && chronicle.sent(1, 2).len() == 1
+        && chronicle.verdict().obeyed.is_none()
+}
+
+/// Whether three generals agree under a commander who signs two orders.
+fn agree_under_two_orders(alloc: Global) -> bool {
+    match led(alloc, SIGNING_TWICE, UNDER_TWO_ORDERS) {
+        Some(chronicle) => are_sent_two_orders(&chronicle),
+        None => false,
+    }
 }
 
 #[test]
-fn signed_events_of_nobody_are_refused(rt: HostRuntime) -> Result<(), Fail> {
-    let alloc = rt.alloc();
-    let mut world = SignedWorld::open(alloc, three(alloc, PASSING)?)?;
-    assert!(rt; go(&mut world, WITH_STRANGERS));
-    assert!(rt; world.chronicle().is_none());
-    Ok(())
+fn three_generals_agree_under_a_commander_who_signs_two_orders(rt: HostRuntime) {
+    assert!(rt; agree_under_two_orders(rt.alloc()));
+}
+
+/// Whether all steps of strangers go as they say, and the world has no chronicle then.
+fn refuses_strangers(alloc: Global) -> bool {
+    let Some(mut world) = opened(alloc, PASSING) else {
+        return false;
+    };
+    go(&mut world, WITH_STRANGERS) && world.chronicle().is_none()
+}
+
+#[test]
+fn signed_events_of_nobody_are_refused(rt: HostRuntime) {
+    assert!(rt; refuses_strangers(rt.alloc()));
 }

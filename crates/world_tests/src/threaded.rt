@@ -1,14 +1,11 @@
 //! Campaigns whose generals act in threads.
 
-use crate::scenarios::text;
-use crate::texts::SEVEN;
+use crate::scenarios::{are_told_alike, told};
 use board::Access;
-use round::{Letter, Scenario};
-use scenario::read;
+use round::Letter;
 use semantics::Reply;
 use std::alloc::{AllocError, Global};
 use std::sync::Wait;
-use std::test::Fail;
 use std::thread::Threads;
 use threads::{Gate, muster};
 use world::{Chronicle, Verdict, replay};
@@ -51,9 +48,9 @@ const ALL: &[&str] = &[
     "[[traitor]]\ngeneral = 6\n",
 ];
 
-/// The text of seven generals, all of whom add.
-fn seven_adders(alloc: Global) -> Result<String, AllocError> {
-    let mut text = String::from_str(alloc, SEVEN)?;
+/// The tables of seven traitors, all of whom add.
+pub(crate) fn seven_adders(alloc: Global) -> Result<String, AllocError> {
+    let mut text = String::new(alloc);
     for head in ALL {
         text.push_str(*head)?;
         text.push_str(ADDER)?;
@@ -61,30 +58,21 @@ fn seven_adders(alloc: Global) -> Result<String, AllocError> {
     Ok(text)
 }
 
-/// The campaign of seven generals, all of whom add.
-pub(crate) fn all_adding(alloc: Global) -> Result<Scenario, Fail> {
-    Ok(read(alloc, seven_adders(alloc)?.as_str())?)
-}
-
-/// The chronicle of a campaign whose generals act in threads.
+/// The chronicle of a campaign whose generals act in threads; none where it is not mustered.
 pub(crate) fn mustered<R: Threads + Wait + Sync, G: Gate + Sync>(
     rt: &R,
     alloc: Global,
-    scenario: Scenario,
+    keys: &str,
+    traitors: &str,
     gate: &G,
-) -> Result<Chronicle, Fail> {
-    Ok(muster(rt, alloc, scenario, gate)?)
-}
-
-/// Whether two chronicles have one text.
-pub(crate) fn are_told_alike(
-    alloc: Global,
-    chronicle: &Chronicle,
-    other: &Chronicle,
-) -> Result<bool, Fail> {
-    let told = text(alloc, chronicle)?;
-    let other = text(alloc, other)?;
-    Ok(told.as_slice() == other.as_slice())
+) -> Option<Chronicle> {
+    let Some(scenario) = told(alloc, keys, traitors) else {
+        return None;
+    };
+    match muster(rt, alloc, scenario, gate) {
+        Ok(chronicle) => Some(chronicle),
+        Err(_) => None,
+    }
 }
 
 /// The names of those who made a round's accesses.
@@ -114,9 +102,11 @@ fn replayed(alloc: Global, chronicle: &Chronicle) -> Result<Chronicle, AllocErro
 }
 
 /// Whether the replay of the accesses that a chronicle tells has its text.
-pub(crate) fn replays(alloc: Global, chronicle: &Chronicle) -> Result<bool, Fail> {
-    let again = replayed(alloc, chronicle)?;
-    are_told_alike(alloc, chronicle, &again)
+pub(crate) fn replays(alloc: Global, chronicle: &Chronicle) -> bool {
+    match replayed(alloc, chronicle) {
+        Ok(again) => are_told_alike(alloc, chronicle, &again),
+        Err(_) => false,
+    }
 }
 
 /// The word of a reply.

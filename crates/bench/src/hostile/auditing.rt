@@ -2,73 +2,113 @@
 use crate::hostile::campaign::Campaign;
 use crate::hostile::changes::{next, with_byte};
 use crate::hostile::marks::{back, ready};
-use crate::hostile::outcome::{Outcome, compared};
-use crate::hostile::playing::{play_by, played, text};
-use crate::hostile::signing;
+use crate::hostile::outcome::{Outcome, Told, compared};
+use crate::told::{Messages, audited, told, told_freely};
 use anyhow::{Result, bail};
 use round::Scenario;
 use std::alloc::{AllocError, Global};
 use std::str;
-use trace::{TraceError, check, check_signed};
-use world::{Schedule, Verdict};
+use trace::TraceError;
+use world::Verdict;
 
 /// The text of the campaign's chronicle by its schedule.
-fn scheduled(alloc: Global, scenario: &Scenario, schedule: &Schedule) -> Result<Vec<u8>> {
-    text(alloc, &play_by(alloc, scenario, schedule)?)
+fn scheduled(alloc: Global, messages: Messages, campaign: Campaign) -> Result<Vec<u8>> {
+    let schedule = campaign.schedule(alloc)?;
+    told(
+        alloc,
+        messages,
+        campaign.scenario(alloc, messages)?,
+        &schedule,
+    )
 }
 
-/// `check` of the chronicle by the campaign's schedule.
-pub fn checks<R: Print + AllocGlobal>(rt: &R, campaign: Campaign) -> Result<Outcome> {
-    let alloc = rt.alloc();
-    let scenario = campaign.scenario(alloc)?;
-    let told = scheduled(alloc, &scenario, &campaign.schedule(alloc)?)?;
-    let told = str::from_utf8(told.as_slice())?;
+/// `check` of the chronicle by the campaign's schedule, or `check_signed`.
+pub fn checks<R: Print + AllocGlobal>(
+    rt: &R,
+    messages: Messages,
+    campaign: Campaign,
+) -> Result<Outcome> {
+    let scenario = campaign.scenario(rt.alloc(), messages)?;
+    let text = scheduled(rt.alloc(), messages, campaign)?;
+    checks_text(rt, messages, &scenario, str::from_utf8(text.as_slice())?)
+}
+
+/// The same of this text.
+fn checks_text<R: Print + AllocGlobal>(
+    rt: &R,
+    messages: Messages,
+    scenario: &Scenario,
+    text: &str,
+) -> Result<Outcome> {
     ready(rt);
-    let first = check(alloc, &scenario, told);
+    let first = audited(rt.alloc(), messages, scenario, text);
     back(rt);
-    let first = signing::judged(alloc, first)?;
-    compared(
-        first,
-        signing::judged(alloc, check(alloc, &scenario, told))?,
-    )
+    let again = audited(rt.alloc(), messages, scenario, text);
+    let first = judged(rt.alloc(), first)?;
+    compared(first, judged(rt.alloc(), again)?)
+}
+
+/// What an audit tells: its verdict.
+fn judged(alloc: Global, answer: Result<Verdict, TraceError>) -> Result<Told> {
+    match answer {
+        Ok(verdict) => Ok(Told::Bytes(verdict_bytes(alloc, verdict)?)),
+        Err(TraceError::Memory) => Ok(Told::Memory),
+        Err(_) => bail!("a chronicle is not sound"),
+    }
+}
+
+/// A verdict in three bytes.
+fn verdict_bytes(alloc: Global, verdict: Verdict) -> Result<Vec<u8>, AllocError> {
+    let obeyed = match verdict.obeyed {
+        Some(true) => b'y',
+        Some(false) => b'n',
+        None => b'-',
+    };
+    let bytes = [u8::from(verdict.alike), obeyed, u8::from(verdict.bound)];
+    Vec::from_slice(alloc, &bytes)
 }
 
 /// How often each byte of the chronicle is changed.
 const TIMES: u32 = 9;
 
-/// Whose chronicle it is that is damaged.
-#[derive(Clone, Copy)]
-enum Messages {
-    Oral,
-    Signed,
-}
-
 /// Audits each proper beginning of the chronicle of seven generals, and the chronicle with one byte changed; then those
 /// of the same generals with signed messages.
 pub fn report<R: Print + AllocGlobal>(rt: &R) -> Result<()> {
-    let alloc = rt.alloc();
-    let scenario = Campaign::Seven.scenario(alloc)?;
-    let chronicle = played(alloc, Campaign::Seven)?;
-    damage(rt, Messages::Oral, &scenario, chronicle.as_slice())?;
-    let scenario = Campaign::Seven.signed_scenario(alloc)?;
-    let chronicle = signing::played(alloc, Campaign::Seven)?;
-    damage(rt, Messages::Signed, &scenario, chronicle.as_slice())
+    damage(rt, Messages::Oral)?;
+    damage(rt, Messages::Signed)
 }
 
-/// Audits each proper beginning of the campaign's chronicle, and the chronicle with one byte changed.
-fn damage<R: Print + AllocGlobal>(
+/// The same of those of one kind of messages.
+fn damage<R: Print + AllocGlobal>(rt: &R, messages: Messages) -> Result<()> {
+    let scenario = Campaign::Seven.scenario(rt.alloc(), messages)?;
+    let chronicle = told_freely(rt.alloc(), messages, scenario.copy(rt.alloc())?)?;
+    cut_off(rt, messages, &scenario, chronicle.as_slice())?;
+    change(rt, messages, &scenario, chronicle.as_slice())
+}
+
+/// Audits each proper beginning.
+fn cut_off<R: Print + AllocGlobal>(
     rt: &R,
     messages: Messages,
     scenario: &Scenario,
     bytes: &[u8],
 ) -> Result<()> {
-    let alloc = rt.alloc();
     let length = bytes.len();
-    if !are_beginnings_refused(alloc, messages, scenario, bytes)? {
+    if !are_beginnings_refused(rt.alloc(), messages, scenario, bytes)? {
         bail!("a beginning is not refused");
     }
     println!(rt; "a chronicle of {length} bytes: each beginning refused")?;
-    if !are_changes_refused(alloc, messages, scenario, bytes)? {
+    Ok(())
+}
+
+/// Audits the chronicle with one byte changed.
+fn change<R: Print + AllocGlobal>(
+    rt: &R,
+    messages: Messages,
+    scenario: &Scenario,
+    bytes: &[u8],
+) -> Result<()> {
+    if !are_changes_refused(rt.alloc(), messages, scenario, bytes)? {
         bail!("a changed chronicle is not refused");
     }
     println!(rt; "with another byte at each place, {TIMES} times: each refused")?;
@@ -100,9 +140,8 @@ fn are_changes_refused(
     let mut state = 1;
     for place in 0..bytes.len() {
         for _ in 0..TIMES {
-            let byte = bytes[place].wrapping_add(change(&mut state));
-            let changed = with_byte(alloc, bytes, place, byte)?;
-            if !is_refused(alloc, messages, scenario, changed.as_slice())? {
+            let byte = bytes[place].wrapping_add(difference(&mut state));
+            if !is_refused_with(alloc, messages, scenario, bytes, place, byte)? {
                 return Ok(false);
             }
         }
@@ -110,8 +149,21 @@ fn are_changes_refused(
     Ok(true)
 }
 
+/// Whether the chronicle is refused with this byte at a place.
+fn is_refused_with(
+    alloc: Global,
+    messages: Messages,
+    scenario: &Scenario,
+    bytes: &[u8],
+    place: usize,
+    byte: u8,
+) -> Result<bool, AllocError> {
+    let changed = with_byte(alloc, bytes, place, byte)?;
+    is_refused(alloc, messages, scenario, changed.as_slice())
+}
+
 /// By how much a byte is changed: not by 0.
-fn change(state: &mut u64) -> u8 {
+fn difference(state: &mut u64) -> u8 {
     let [.., more] = next(state).to_be_bytes();
     if more == 0 { 1 } else { more }
 }
@@ -131,18 +183,5 @@ fn is_refused(
         Ok(_) => Ok(false),
         Err(TraceError::At(..)) => Ok(true),
         Err(_) => Err(AllocError),
-    }
-}
-
-/// The audit of a text.
-fn audited(
-    alloc: Global,
-    messages: Messages,
-    scenario: &Scenario,
-    text: &str,
-) -> Result<Verdict, TraceError> {
-    match messages {
-        Messages::Oral => check(alloc, scenario, text),
-        Messages::Signed => check_signed(alloc, scenario, text),
     }
 }

@@ -1,3 +1,5 @@
+use crate::told::Messages;
+
 /// A call that takes memory.
 #[derive(Clone, Copy)]
 pub enum Call {
@@ -7,74 +9,48 @@ pub enum Call {
     Disassemble,
     Verify,
     BoardApply,
-    Open,
-    WorldApply,
-    Play,
+    /// `World::open`, or `SignedWorld::open`.
+    Open(Messages),
+    /// The same of `apply`.
+    WorldApply(Messages),
+    /// `play` or `play_signed`.
+    Play(Messages),
     ResolveAll,
     Muster,
     Read,
     ReadSchedule,
-    Check,
-    OpenSigned,
-    SignedApply,
-    PlaySigned,
-    CheckSigned,
+    /// `check` or `check_signed`.
+    Check(Messages),
 }
 
-/// All of them.
-pub const CALLS: &[Call] = &[
-    Call::Decode,
-    Call::Encode,
-    Call::Assemble,
-    Call::Disassemble,
-    Call::Verify,
-    Call::BoardApply,
-    Call::Open,
-    Call::WorldApply,
-    Call::Play,
-    Call::ResolveAll,
-    Call::Muster,
-    Call::Read,
-    Call::ReadSchedule,
-    Call::Check,
-    Call::OpenSigned,
-    Call::SignedApply,
-    Call::PlaySigned,
-    Call::CheckSigned,
+/// All of them, each with its name among the words.
+pub const CALLS: &[(&str, Call)] = &[
+    ("decode", Call::Decode),
+    ("encode", Call::Encode),
+    ("assemble", Call::Assemble),
+    ("disassemble", Call::Disassemble),
+    ("verify", Call::Verify),
+    ("board_apply", Call::BoardApply),
+    ("open", Call::Open(Messages::Oral)),
+    ("world_apply", Call::WorldApply(Messages::Oral)),
+    ("play", Call::Play(Messages::Oral)),
+    ("resolve_all", Call::ResolveAll),
+    ("muster", Call::Muster),
+    ("read", Call::Read),
+    ("read_schedule", Call::ReadSchedule),
+    ("check", Call::Check(Messages::Oral)),
+    ("open_signed", Call::Open(Messages::Signed)),
+    ("signed_apply", Call::WorldApply(Messages::Signed)),
+    ("play_signed", Call::Play(Messages::Signed)),
+    ("check_signed", Call::Check(Messages::Signed)),
 ];
 
-impl Call {
-    /// Its name among the words.
-    pub fn name(self) -> &'static str {
-        match self {
-            Call::Decode => "decode",
-            Call::Encode => "encode",
-            Call::Assemble => "assemble",
-            Call::Disassemble => "disassemble",
-            Call::Verify => "verify",
-            Call::BoardApply => "board_apply",
-            Call::Open => "open",
-            Call::WorldApply => "world_apply",
-            Call::Play => "play",
-            Call::ResolveAll => "resolve_all",
-            Call::Muster => "muster",
-            Call::Read => "read",
-            Call::ReadSchedule => "read_schedule",
-            Call::Check => "check",
-            Call::OpenSigned => "open_signed",
-            Call::SignedApply => "signed_apply",
-            Call::PlaySigned => "play_signed",
-            Call::CheckSigned => "check_signed",
+/// The call of this name.
+pub fn named(name: &str) -> Option<Call> {
+    for &(own, call) in CALLS {
+        if own == name {
+            return Some(call);
         }
     }
-
-    /// The call of this name.
-    pub fn named(name: &str) -> Option<Call> {
-        for call in CALLS {
-            if call.name() == name {
-                return Some(*call);
-            }
-        }
-        None
-    }
+    None
 }

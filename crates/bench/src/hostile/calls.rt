@@ -2,18 +2,19 @@
 use crate::hostile::call::Call;
 use crate::hostile::campaign::Campaign;
 use crate::hostile::outcome::Outcome;
-use crate::hostile::{auditing, coding, deciding, playing, reading, serving, signing};
+use crate::hostile::{auditing, coding, deciding, playing, reading, serving};
 use anyhow::Result;
 use std::sync::Wait;
 use std::thread::Threads;
 
-/// Makes the call, and prints what it came to.
+/// Makes the call of this name, and prints what it came to.
 pub fn report<R: Print + Threads + Wait + Sync + AllocGlobal>(
     rt: &R,
+    name: &str,
     call: Call,
     campaign: Campaign,
 ) -> Result<()> {
-    let (name, of) = (call.name(), campaign.name());
+    let of = campaign.name();
     println!(rt; "{name} {of}")?;
     let outcome = made(rt, call, campaign)?;
     println!(rt; "{outcome}")?;
@@ -32,17 +33,13 @@ fn made<R: Print + Threads + Wait + Sync + AllocGlobal>(
         Call::Disassemble => coding::disassembles(rt, campaign),
         Call::Verify => coding::verifies(rt, campaign),
         Call::BoardApply => serving::applies(rt),
-        Call::Open => playing::opens(rt, campaign),
-        Call::WorldApply => playing::happens(rt, campaign),
-        Call::Play => playing::plays(rt, campaign),
+        Call::Open(messages) => playing::opens(rt, messages, campaign),
+        Call::WorldApply(messages) => playing::happens(rt, messages, campaign),
+        Call::Play(messages) => playing::plays(rt, messages, campaign),
         Call::ResolveAll => deciding::resolves(rt, campaign),
         Call::Muster => playing::musters(rt, campaign),
         Call::Read => reading::reads(rt, campaign),
         Call::ReadSchedule => reading::reads_schedule(rt, campaign),
-        Call::Check => auditing::checks(rt, campaign),
-        Call::OpenSigned => signing::opens(rt, campaign),
-        Call::SignedApply => signing::happens(rt, campaign),
-        Call::PlaySigned => signing::plays(rt, campaign),
-        Call::CheckSigned => signing::checks(rt, campaign),
+        Call::Check(messages) => auditing::checks(rt, messages, campaign),
     }
 }

@@ -1,10 +1,11 @@
 //! The campaigns on which the calls are made.
+use crate::told::{Messages, scenario_of};
 use anyhow::{Result, bail};
 use asm::assemble;
 use codec::encode;
 use insn::Program;
 use round::Scenario;
-use std::alloc::Global;
+use std::alloc::{AllocError, Global};
 use trace::read_schedule;
 use world::{Event, Schedule};
 
@@ -338,19 +339,11 @@ impl Campaign {
         }
     }
 
-    /// Its scenario.
-    pub fn scenario(self, alloc: Global) -> Result<Scenario> {
-        match scenario::read(alloc, self.text()) {
-            Ok(scenario) => Ok(scenario),
-            Err(_) => bail!("a scenario is refused"),
-        }
-    }
-
-    /// The scenario in which the same generals sign their orders.
-    pub fn signed_scenario(self, alloc: Global) -> Result<Scenario> {
-        match scenario::read_any(alloc, self.signed_text()) {
-            Ok(scenario::Campaign::Signed(scenario)) => Ok(scenario),
-            _ => bail!("a signed scenario is refused"),
+    /// Its scenario; of signed messages the one in which the same generals sign their orders.
+    pub fn scenario(self, alloc: Global, messages: Messages) -> Result<Scenario> {
+        match messages {
+            Messages::Oral => scenario_of(alloc, messages, self.text()),
+            Messages::Signed => scenario_of(alloc, messages, self.signed_text()),
         }
     }
 
@@ -384,16 +377,22 @@ impl Campaign {
     }
 
     /// Its events without a schedule, one after another.
-    pub fn events(self, alloc: Global) -> Result<Vec<Event>> {
+    pub fn events(self, alloc: Global) -> Result<Vec<Event>, AllocError> {
         let mut events = Vec::new(alloc);
         let (turns, rounds) = self.turns();
         for _ in 0..rounds {
-            for (event, times) in turns {
-                for _ in 0..*times {
-                    events.push(*event)?;
-                }
-            }
+            push_turns(&mut events, turns)?;
         }
         Ok(events)
     }
+}
+
+/// Adds a round's events.
+fn push_turns(events: &mut Vec<Event>, turns: Turns) -> Result<(), AllocError> {
+    for (event, times) in turns {
+        for _ in 0..*times {
+            events.push(*event)?;
+        }
+    }
+    Ok(())
 }

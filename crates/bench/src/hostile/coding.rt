@@ -11,13 +11,21 @@ use verify::{Refused, Verified, VerifyError, verify};
 
 /// `decode` of the bytecode.
 pub fn decodes<R: Print + AllocGlobal>(rt: &R, campaign: Campaign) -> Result<Outcome> {
-    let alloc = rt.alloc();
-    let bytes = campaign.bytecode(alloc)?;
+    let bytes = campaign.bytecode(rt.alloc())?;
     ready(rt);
-    let first = decode(alloc, bytes.as_slice());
+    let first = decode(rt.alloc(), bytes.as_slice());
     back(rt);
+    decodes_again(rt.alloc(), first, bytes.as_slice())
+}
+
+/// What comes of it, and of the same call again.
+fn decodes_again(
+    alloc: Global,
+    first: Result<Program, CodecError>,
+    bytes: &[u8],
+) -> Result<Outcome> {
     let first = decoded(alloc, first)?;
-    compared(first, decoded(alloc, decode(alloc, bytes.as_slice()))?)
+    compared(first, decoded(alloc, decode(alloc, bytes))?)
 }
 
 /// What `decode` tells.
@@ -31,12 +39,11 @@ fn decoded(alloc: Global, answer: Result<Program, CodecError>) -> Result<Told> {
 
 /// `encode` of the program.
 pub fn encodes<R: Print + AllocGlobal>(rt: &R, campaign: Campaign) -> Result<Outcome> {
-    let alloc = rt.alloc();
-    let program = campaign.program(alloc)?;
+    let program = campaign.program(rt.alloc())?;
     ready(rt);
-    let first = encode(alloc, &program);
+    let first = encode(rt.alloc(), &program);
     back(rt);
-    compared(encoded(first), encoded(encode(alloc, &program)))
+    compared(encoded(first), encoded(encode(rt.alloc(), &program)))
 }
 
 /// What `encode` tells.
@@ -49,15 +56,20 @@ fn encoded(answer: Result<Vec<u8>, AllocError>) -> Told {
 
 /// `assemble` of the assembly.
 pub fn assembles<R: Print + AllocGlobal>(rt: &R, campaign: Campaign) -> Result<Outcome> {
-    let alloc = rt.alloc();
     ready(rt);
-    let first = assemble(alloc, campaign.assembly());
+    let first = assemble(rt.alloc(), campaign.assembly());
     back(rt);
+    assembles_again(rt.alloc(), first, campaign.assembly())
+}
+
+/// What comes of it, and of the same call again.
+fn assembles_again(
+    alloc: Global,
+    first: Result<Program, AsmError>,
+    assembly: &str,
+) -> Result<Outcome> {
     let first = assembled(alloc, first)?;
-    compared(
-        first,
-        assembled(alloc, assemble(alloc, campaign.assembly()))?,
-    )
+    compared(first, assembled(alloc, assemble(alloc, assembly))?)
 }
 
 /// What `assemble` tells.
@@ -71,14 +83,13 @@ fn assembled(alloc: Global, answer: Result<Program, AsmError>) -> Result<Told> {
 
 /// `disassemble` of the program.
 pub fn disassembles<R: Print + AllocGlobal>(rt: &R, campaign: Campaign) -> Result<Outcome> {
-    let alloc = rt.alloc();
-    let program = campaign.program(alloc)?;
+    let program = campaign.program(rt.alloc())?;
     ready(rt);
-    let first = disassemble(alloc, &program);
+    let first = disassemble(rt.alloc(), &program);
     back(rt);
     compared(
         disassembled(first),
-        disassembled(disassemble(alloc, &program)),
+        disassembled(disassemble(rt.alloc(), &program)),
     )
 }
 
@@ -92,30 +103,39 @@ fn disassembled(answer: Result<String, AllocError>) -> Told {
 
 /// `verify` of the program. Where memory is refused, the program that it hands back is given to it again.
 pub fn verifies<R: Print + AllocGlobal>(rt: &R, campaign: Campaign) -> Result<Outcome> {
-    let alloc = rt.alloc();
-    let program = campaign.program(alloc)?;
+    let program = campaign.program(rt.alloc())?;
     ready(rt);
-    let first = verify(alloc, program);
+    let first = verify(rt.alloc(), program);
     back(rt);
-    let (first, is_refused) = judged(alloc, first)?;
-    let outcome = compared(first, ample(alloc, campaign)?)?;
+    verifies_again(rt.alloc(), first, campaign)
+}
+
+/// What comes of it, and of the same call with ample memory.
+fn verifies_again(
+    alloc: Global,
+    first: Result<Verified, Refused>,
+    campaign: Campaign,
+) -> Result<Outcome> {
+    let is_refused = first.is_err();
+    let first = judged(alloc, first)?;
+    let outcome = compared(first, accepted(alloc, campaign.program(alloc)?)?)?;
     Ok(if is_refused { Outcome::Memory } else { outcome })
 }
 
-/// What `verify` tells, at last, and whether memory was refused first: then the program came back, and was given again.
-fn judged(alloc: Global, answer: Result<Verified, Refused>) -> Result<(Told, bool)> {
+/// What `verify` tells, at last: where memory was refused first, the program came back, and was given again.
+fn judged(alloc: Global, answer: Result<Verified, Refused>) -> Result<Told> {
     match answer {
-        Ok(verified) => Ok((told_program(alloc, verified.program())?, false)),
-        Err(Refused { program, fault }) => match fault {
-            VerifyError::Memory => Ok((accepted(alloc, program)?, true)),
-            _ => bail!("a program is refused that is to be accepted"),
-        },
+        Ok(verified) => told_program(alloc, verified.program()),
+        Err(Refused { program, fault }) => given_again(alloc, program, fault),
     }
 }
 
-/// What `verify` tells with ample memory.
-fn ample(alloc: Global, campaign: Campaign) -> Result<Told> {
-    accepted(alloc, campaign.program(alloc)?)
+/// What it tells when it is given the program again, which came back since memory was refused.
+fn given_again(alloc: Global, program: Program, fault: VerifyError) -> Result<Told> {
+    match fault {
+        VerifyError::Memory => accepted(alloc, program),
+        _ => bail!("a program is refused that is to be accepted"),
+    }
 }
 
 /// What `verify` tells of a program that is accepted.

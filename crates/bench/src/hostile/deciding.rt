@@ -15,17 +15,30 @@ pub fn resolves<R: Print + Threads + Sync + AllocGlobal>(
     rt: &R,
     campaign: Campaign,
 ) -> Result<Outcome> {
-    let alloc = rt.alloc();
-    let rule = match campaign {
+    let rule = rule_of(campaign);
+    let trees = trees(rt.alloc(), campaign)?;
+    ready(rt);
+    let first = resolve_all(rt, rt.alloc(), trees.as_slice(), &rule);
+    back(rt);
+    let again = resolve_all(rt, rt.alloc(), trees.as_slice(), &rule);
+    resolved(rt.alloc(), first, again)
+}
+
+/// The rule of the campaign.
+fn rule_of(campaign: Campaign) -> Rule {
+    match campaign {
         Campaign::Four | Campaign::Seven => Rule::Majority,
         Campaign::Copying => Rule::Median,
-    };
-    let trees = trees(alloc, campaign)?;
-    ready(rt);
-    let first = resolve_all(rt, alloc, trees.as_slice(), &rule);
-    back(rt);
+    }
+}
+
+/// What comes of these answers.
+fn resolved(
+    alloc: Global,
+    first: Result<Vec<u32>, AllocError>,
+    again: Result<Vec<u32>, AllocError>,
+) -> Result<Outcome> {
     let first = decided(alloc, first)?;
-    let again = resolve_all(rt, alloc, trees.as_slice(), &rule);
     compared(first, decided(alloc, again)?)
 }
 

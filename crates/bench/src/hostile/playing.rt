@@ -2,6 +2,8 @@
 use crate::hostile::campaign::Campaign;
 use crate::hostile::marks::{back, ready};
 use crate::hostile::outcome::{Outcome, Told, compared, led};
+use crate::hostile::worlds::{Led, Made};
+use crate::told::{Messages, text, told_freely};
 use anyhow::{Result, bail};
 use round::Scenario;
 use std::alloc::{AllocError, Global};
@@ -9,89 +11,82 @@ use std::str;
 use std::sync::Wait;
 use std::thread::Threads;
 use threads::{MusterError, Open, muster};
-use trace::{Latch, check, write_chronicle};
-use world::{Chronicle, Event, EventError, Schedule, World, play};
+use trace::check;
+use world::{Chronicle, Event, EventError, Schedule};
 
-/// The text of a chronicle.
-pub fn text(alloc: Global, chronicle: &Chronicle) -> Result<Vec<u8>> {
-    let mut sink = Latch::new(Vec::new(alloc));
-    match write_chronicle(chronicle, &mut sink) {
-        Ok(()) => Ok(sink.into_writer()),
-        Err(_) => bail!("a chronicle is not written"),
-    }
-}
-
-/// The scenario's chronicle by a schedule.
-pub fn play_by(
-    alloc: Global,
-    scenario: &Scenario,
-    schedule: &Schedule,
-) -> Result<Chronicle, AllocError> {
-    play(alloc, scenario.copy(alloc)?, schedule)
-}
-
-/// The scenario's chronicle without a schedule.
-pub fn play_freely(alloc: Global, scenario: &Scenario) -> Result<Chronicle, AllocError> {
-    let empty = Schedule {
-        lines: Vec::new(alloc),
-    };
-    play_by(alloc, scenario, &empty)
-}
-
-/// The text of the campaign's chronicle without a schedule.
-pub fn played(alloc: Global, campaign: Campaign) -> Result<Vec<u8>> {
-    text(alloc, &play_freely(alloc, &campaign.scenario(alloc)?)?)
-}
-
-/// The text of a world's chronicle.
-fn told(alloc: Global, world: World) -> Result<Vec<u8>> {
-    match world.chronicle() {
-        Some(chronicle) => text(alloc, &chronicle),
-        None => bail!("the campaign is not over"),
-    }
-}
-
-/// `World::open`.
-pub fn opens<R: Print + AllocGlobal>(rt: &R, campaign: Campaign) -> Result<Outcome> {
-    let alloc = rt.alloc();
-    let scenario = campaign.scenario(alloc)?;
+/// `World::open`, or `SignedWorld::open`.
+pub fn opens<R: Print + AllocGlobal>(
+    rt: &R,
+    messages: Messages,
+    campaign: Campaign,
+) -> Result<Outcome> {
+    let scenario = campaign.scenario(rt.alloc(), messages)?;
     ready(rt);
-    let first = World::open(alloc, scenario);
+    let first = Led::open(rt.alloc(), messages, scenario);
     back(rt);
+    opens_again(rt.alloc(), messages, campaign, first)
+}
+
+/// What comes of it, and of the same call again.
+fn opens_again(
+    alloc: Global,
+    messages: Messages,
+    campaign: Campaign,
+    first: Result<Led, AllocError>,
+) -> Result<Outcome> {
     let first = opened(alloc, first, campaign)?;
-    let again = World::open(alloc, campaign.scenario(alloc)?);
+    let again = Led::open(alloc, messages, campaign.scenario(alloc, messages)?);
     compared(first, opened(alloc, again, campaign)?)
 }
 
-/// What `World::open` tells: the text of the chronicle to which the campaign's events lead the world.
-fn opened(alloc: Global, answer: Result<World, AllocError>, campaign: Campaign) -> Result<Told> {
+/// What it tells: the text of the chronicle to which the campaign's events lead the world.
+fn opened(alloc: Global, answer: Result<Led, AllocError>, campaign: Campaign) -> Result<Told> {
     match answer {
-        Ok(mut world) => {
-            let _is_refused = happen(&mut world, campaign.events(alloc)?.as_slice())?;
-            Ok(Told::Bytes(told(alloc, world)?))
-        }
+        Ok(world) => Ok(Told::Bytes(led_on(alloc, world, campaign)?)),
         Err(_) => Ok(Told::Memory),
     }
 }
 
-/// `World::apply` of each of the campaign's events. In the end the world has the chronicle of ample memory.
-pub fn happens<R: Print + AllocGlobal>(rt: &R, campaign: Campaign) -> Result<Outcome> {
-    let alloc = rt.alloc();
+/// The text of the chronicle to which the campaign's events lead the world.
+fn led_on(alloc: Global, mut world: Led, campaign: Campaign) -> Result<Vec<u8>> {
     let events = campaign.events(alloc)?;
-    let mut world = World::open(alloc, campaign.scenario(alloc)?)?;
+    let _is_refused = happen(&mut world, events.as_slice())?;
+    world.text(alloc)
+}
+
+/// `apply` of each of the campaign's events. In the end the world has the chronicle of ample memory.
+pub fn happens<R: Print + AllocGlobal>(
+    rt: &R,
+    messages: Messages,
+    campaign: Campaign,
+) -> Result<Outcome> {
+    let events = campaign.events(rt.alloc())?;
+    let mut world = Led::open(
+        rt.alloc(),
+        messages,
+        campaign.scenario(rt.alloc(), messages)?,
+    )?;
     ready(rt);
     let happened = happen(&mut world, events.as_slice());
     back(rt);
-    let first = told(alloc, world)?;
-    led(
-        happened?,
-        first.as_slice(),
-        played(alloc, campaign)?.as_slice(),
-    )
+    ended(rt.alloc(), happened?, world, messages, campaign)
+}
+
+/// What comes of a world that its events have led to its end.
+fn ended(
+    alloc: Global,
+    is_refused: bool,
+    world: Led,
+    messages: Messages,
+    campaign: Campaign,
+) -> Result<Outcome> {
+    let first = world.text(alloc)?;
+    let ample = told_freely(alloc, messages, campaign.scenario(alloc, messages)?)?;
+    led(is_refused, first.as_slice(), ample.as_slice())
 }
 
 /// Lets the events happen. The answer is whether memory was refused to any of them.
-fn happen(world: &mut World, events: &[Event]) -> Result<bool> {
+fn happen(world: &mut Led, events: &[Event]) -> Result<bool> {
     let mut is_refused = false;
     for event in events {
         if is_refused_first(world, *event)? {
@@ -103,14 +98,18 @@ fn happen(world: &mut World, events: &[Event]) -> Result<bool> {
 
 /// Lets the event happen. The answer is whether memory was refused first: then the decisions were as before, and the
 /// event was given again.
-fn is_refused_first(world: &mut World, event: Event) -> Result<bool> {
+fn is_refused_first(world: &mut Led, event: Event) -> Result<bool> {
     let before = world.decisions();
     match world.apply(event) {
-        Ok(()) => return Ok(false),
-        Err(EventError::Memory) => {}
+        Ok(()) => Ok(false),
+        Err(EventError::Memory) => happens_again(world, event, before.as_slice()),
         Err(_) => bail!("an event is refused"),
     }
-    if world.decisions().as_slice() != before.as_slice() {
+}
+
+/// Lets an event happen to which memory was refused, where the decisions were these.
+fn happens_again(world: &mut Led, event: Event, before: &[u32]) -> Result<bool> {
+    if world.decisions().as_slice() != before {
         bail!("a refused event changed the decisions");
     }
     if world.apply(event).is_err() {
@@ -119,23 +118,38 @@ fn is_refused_first(world: &mut World, event: Event) -> Result<bool> {
     Ok(true)
 }
 
-/// `play` by the campaign's schedule.
-pub fn plays<R: Print + AllocGlobal>(rt: &R, campaign: Campaign) -> Result<Outcome> {
-    let alloc = rt.alloc();
-    let schedule = campaign.schedule(alloc)?;
-    let scenario = campaign.scenario(alloc)?;
+/// `play` by the campaign's schedule, or `play_signed`.
+pub fn plays<R: Print + AllocGlobal>(
+    rt: &R,
+    messages: Messages,
+    campaign: Campaign,
+) -> Result<Outcome> {
+    let schedule = campaign.schedule(rt.alloc())?;
+    let scenario = campaign.scenario(rt.alloc(), messages)?;
     ready(rt);
-    let first = play(alloc, scenario, &schedule);
+    let first = Made::play(rt.alloc(), messages, scenario, &schedule);
     back(rt);
+    plays_again(rt.alloc(), messages, campaign, &schedule, first)
+}
+
+/// What comes of it, and of the same call again.
+fn plays_again(
+    alloc: Global,
+    messages: Messages,
+    campaign: Campaign,
+    schedule: &Schedule,
+    first: Result<Made, AllocError>,
+) -> Result<Outcome> {
     let first = chronicled(alloc, first)?;
-    let again = play(alloc, campaign.scenario(alloc)?, &schedule);
+    let scenario = campaign.scenario(alloc, messages)?;
+    let again = Made::play(alloc, messages, scenario, schedule);
     compared(first, chronicled(alloc, again)?)
 }
 
-/// What `play` tells: the text of its chronicle.
-fn chronicled(alloc: Global, answer: Result<Chronicle, AllocError>) -> Result<Told> {
+/// What it tells: the text of its chronicle.
+fn chronicled(alloc: Global, answer: Result<Made, AllocError>) -> Result<Told> {
     match answer {
-        Ok(chronicle) => Ok(Told::Bytes(text(alloc, &chronicle)?)),
+        Ok(chronicle) => Ok(Told::Bytes(chronicle.text(alloc)?)),
         Err(_) => Ok(Told::Memory),
     }
 }
@@ -145,39 +159,45 @@ pub fn musters<R: Print + Threads + Wait + Sync + AllocGlobal>(
     rt: &R,
     campaign: Campaign,
 ) -> Result<Outcome> {
-    let alloc = rt.alloc();
-    let scenario = campaign.scenario(alloc)?;
+    let scenario = campaign.scenario(rt.alloc(), Messages::Oral)?;
     ready(rt);
-    let first = muster(rt, alloc, scenario, &Open);
+    let first = muster(rt, rt.alloc(), scenario, &Open);
     back(rt);
-    let first = audited(alloc, first, campaign)?;
-    let again = muster(rt, alloc, campaign.scenario(alloc)?, &Open);
-    compared(first, audited(alloc, again, campaign)?)
+    musters_again(rt, campaign, first)
+}
+
+/// What comes of it, and of the same call again.
+fn musters_again<R: Threads + Wait + Sync + AllocGlobal>(
+    rt: &R,
+    campaign: Campaign,
+    first: Result<Chronicle, MusterError>,
+) -> Result<Outcome> {
+    let scenario = campaign.scenario(rt.alloc(), Messages::Oral)?;
+    let first = audited(rt.alloc(), first, &scenario)?;
+    let again = muster(rt, rt.alloc(), scenario.copy(rt.alloc())?, &Open);
+    compared(first, audited(rt.alloc(), again, &scenario)?)
 }
 
 /// What `muster` tells: no more than that its chronicle is sound.
 fn audited(
     alloc: Global,
     answer: Result<Chronicle, MusterError>,
-    campaign: Campaign,
+    scenario: &Scenario,
 ) -> Result<Told> {
     match answer {
+        Ok(chronicle) => audit(alloc, scenario, &chronicle),
         Err(MusterError::Memory) => Ok(Told::Memory),
         Err(MusterError::Spawn) => Ok(Told::NoThread),
         Err(_) => bail!("the muster is refused"),
-        Ok(chronicle) => {
-            audit(alloc, &campaign.scenario(alloc)?, &chronicle)?;
-            Ok(Told::Bytes(Vec::new(alloc)))
-        }
     }
 }
 
 /// Audits the chronicle, which is to be sound.
-fn audit(alloc: Global, scenario: &Scenario, chronicle: &Chronicle) -> Result<()> {
+fn audit(alloc: Global, scenario: &Scenario, chronicle: &Chronicle) -> Result<Told> {
     let text = text(alloc, chronicle)?;
     let told = str::from_utf8(text.as_slice())?;
-    if check(alloc, scenario, told).is_err() {
-        bail!("a chronicle is not sound");
+    match check(alloc, scenario, told) {
+        Ok(_) => Ok(Told::Bytes(Vec::new(alloc))),
+        Err(_) => bail!("a chronicle is not sound"),
     }
-    Ok(())
 }

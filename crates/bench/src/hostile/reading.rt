@@ -3,7 +3,7 @@ use crate::hostile::campaign::Campaign;
 use crate::hostile::changes::next;
 use crate::hostile::marks::{back, ready};
 use crate::hostile::outcome::{Outcome, Told, compared};
-use crate::hostile::playing::{play_by, play_freely, text};
+use crate::told::{Messages, played, told, told_freely};
 use anyhow::{Result, bail};
 use round::Scenario;
 use scenario::{ScenarioError, read};
@@ -13,58 +13,50 @@ use world::Schedule;
 
 /// `read` of the scenario's text.
 pub fn reads<R: Print + AllocGlobal>(rt: &R, campaign: Campaign) -> Result<Outcome> {
-    let alloc = rt.alloc();
     ready(rt);
-    let first = read(alloc, campaign.text());
+    let first = read(rt.alloc(), campaign.text());
     back(rt);
-    let first = told(alloc, first)?;
-    compared(first, told(alloc, read(alloc, campaign.text()))?)
+    let again = read(rt.alloc(), campaign.text());
+    let first = read_as(rt.alloc(), first)?;
+    compared(first, read_as(rt.alloc(), again)?)
 }
 
-/// What `read` tells: the text of the scenario's chronicle.
-fn told(alloc: Global, answer: Result<Scenario, ScenarioError>) -> Result<Told> {
+/// What `read` tells: the text of the scenario's chronicle without a schedule.
+fn read_as(alloc: Global, answer: Result<Scenario, ScenarioError>) -> Result<Told> {
     match answer {
-        Ok(scenario) => played(alloc, &scenario),
+        Ok(scenario) => Ok(Told::Bytes(told_freely(alloc, Messages::Oral, scenario)?)),
         Err(ScenarioError::Memory) => Ok(Told::Memory),
         Err(_) => bail!("a scenario is refused"),
     }
 }
 
-/// The text of the scenario's chronicle without a schedule.
-fn played(alloc: Global, scenario: &Scenario) -> Result<Told> {
-    let chronicle = play_freely(alloc, scenario)?;
-    Ok(Told::Bytes(text(alloc, &chronicle)?))
-}
-
 /// `read_schedule` of the schedule's text.
 pub fn reads_schedule<R: Print + AllocGlobal>(rt: &R, campaign: Campaign) -> Result<Outcome> {
-    let alloc = rt.alloc();
-    let scenario = campaign.scenario(alloc)?;
     ready(rt);
-    let first = read_schedule(alloc, campaign.schedule_text());
+    let first = read_schedule(rt.alloc(), campaign.schedule_text());
     back(rt);
-    let first = told_by(alloc, &scenario, first)?;
-    let again = read_schedule(alloc, campaign.schedule_text());
-    compared(first, told_by(alloc, &scenario, again)?)
+    let again = read_schedule(rt.alloc(), campaign.schedule_text());
+    let first = told_by(rt.alloc(), campaign, first)?;
+    compared(first, told_by(rt.alloc(), campaign, again)?)
 }
 
-/// What `read_schedule` tells: the text of the scenario's chronicle by the schedule.
+/// What `read_schedule` tells: the text of the campaign's chronicle by the schedule.
 fn told_by(
     alloc: Global,
-    scenario: &Scenario,
+    campaign: Campaign,
     answer: Result<Schedule, TraceError>,
 ) -> Result<Told> {
     match answer {
-        Ok(schedule) => scheduled(alloc, scenario, &schedule),
+        Ok(schedule) => scheduled(alloc, campaign, &schedule),
         Err(TraceError::Memory) => Ok(Told::Memory),
         Err(_) => bail!("a schedule is refused"),
     }
 }
 
-/// The text of the scenario's chronicle by a schedule.
-fn scheduled(alloc: Global, scenario: &Scenario, schedule: &Schedule) -> Result<Told> {
-    let chronicle = play_by(alloc, scenario, schedule)?;
-    Ok(Told::Bytes(text(alloc, &chronicle)?))
+/// The text of the campaign's chronicle by a schedule.
+fn scheduled(alloc: Global, campaign: Campaign, schedule: &Schedule) -> Result<Told> {
+    let scenario = campaign.scenario(alloc, Messages::Oral)?;
+    Ok(Told::Bytes(told(alloc, Messages::Oral, scenario, schedule)?))
 }
 
 /// What a schedule is made of by chance.
@@ -78,7 +70,7 @@ const SCHEDULES: u32 = 10_000;
 /// Reads schedules that chance has made, and plays those that are told.
 pub fn report<R: Print + AllocGlobal>(rt: &R) -> Result<()> {
     let alloc = rt.alloc();
-    let scenario = Campaign::Seven.scenario(alloc)?;
+    let scenario = Campaign::Seven.scenario(alloc, Messages::Oral)?;
     if !are_answered(alloc, &scenario)? {
         bail!("a schedule is not answered as it should be");
     }
@@ -102,7 +94,7 @@ fn are_answered(alloc: Global, scenario: &Scenario) -> Result<bool, AllocError> 
 fn is_answered(alloc: Global, scenario: &Scenario, text: &str) -> Result<bool, AllocError> {
     match read_schedule(alloc, text) {
         Ok(schedule) => {
-            let _chronicle = play_by(alloc, scenario, &schedule)?;
+            let _chronicle = played(alloc, scenario, &schedule)?;
             Ok(true)
         }
         Err(TraceError::At(Fault::Line, 1..=6)) => Ok(true),

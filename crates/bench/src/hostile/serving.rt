@@ -13,13 +13,15 @@ const ROUND: u32 = 1;
 
 /// Six requests, two of them copies.
 fn requests() -> Option<[Request; 6]> {
-    let slot = Slot::new(0)?;
-    let last = Slot::new(63)?;
+    let (Some(slot), Some(last)) = (Slot::new(0), Slot::new(63)) else {
+        return None;
+    };
+    let (Some(all), Some(four)) = (Span::new(0, 64), Span::new(60, 4)) else {
+        return None;
+    };
     Some([
         Request::Swap { slot, value: 5 },
-        Request::Copy {
-            span: Span::new(0, 64)?,
-        },
+        Request::Copy { span: all },
         Request::Cas {
             slot,
             expected: 5,
@@ -29,9 +31,7 @@ fn requests() -> Option<[Request; 6]> {
             slot: last,
             value: u64::MAX,
         },
-        Request::Copy {
-            span: Span::new(60, 4)?,
-        },
+        Request::Copy { span: four },
         Request::Get { slot },
     ])
 }
@@ -39,21 +39,21 @@ fn requests() -> Option<[Request; 6]> {
 /// `Board::apply` of six requests. Where memory is refused, the words and the ledger are as before, and the request is
 /// made again.
 pub fn applies<R: Print + AllocGlobal>(rt: &R) -> Result<Outcome> {
-    let alloc = rt.alloc();
     let Some(requests) = requests() else {
         bail!("the requests");
     };
-    let mut board = Board::new(alloc, [0; 64]);
+    let mut board = Board::new(rt.alloc(), [0; 64]);
     ready(rt);
     let served = serve(&mut board, requests.as_slice());
     back(rt);
-    let is_refused = served?;
+    ended(rt.alloc(), served?, &board, requests.as_slice())
+}
+
+/// What comes of a board that has served these requests.
+fn ended(alloc: Global, is_refused: bool, board: &Board, requests: &[Request]) -> Result<Outcome> {
     let first = ledger_bytes(alloc, board.ledger())?;
-    led(
-        is_refused,
-        first.as_slice(),
-        ample(alloc, requests.as_slice())?.as_slice(),
-    )
+    let ample = ample(alloc, requests)?;
+    led(is_refused, first.as_slice(), ample.as_slice())
 }
 
 /// The replies with ample memory.
@@ -105,12 +105,15 @@ fn ledger_bytes(alloc: Global, ledger: &[Access]) -> Result<Vec<u8>, AllocError>
 /// Adds the words of a reply.
 fn push_reply(bytes: &mut Vec<u8>, reply: &Reply) -> Result<(), AllocError> {
     match reply {
-        Reply::Word(word) => bytes.extend_from_slice(&word.to_le_bytes())?,
-        Reply::Words(words) => {
-            for word in words.as_slice() {
-                bytes.extend_from_slice(&word.to_le_bytes())?;
-            }
-        }
+        Reply::Word(word) => bytes.extend_from_slice(&word.to_le_bytes()),
+        Reply::Words(words) => push_words(bytes, words.as_slice()),
+    }
+}
+
+/// Adds words.
+fn push_words(bytes: &mut Vec<u8>, words: &[u64]) -> Result<(), AllocError> {
+    for word in words {
+        bytes.extend_from_slice(&word.to_le_bytes())?;
     }
     Ok(())
 }

@@ -1,12 +1,12 @@
 //! Writers that fail, and what they have taken then.
 use crate::hostile::campaign::Campaign;
-use crate::hostile::playing::{play_by, text};
-use crate::hostile::signing;
 use crate::hostile::writer::Writer;
+use crate::told::{Messages, freely, signed_text, text};
 use anyhow::{Result, bail};
-use signed::SignedChronicle;
+use signed::{SignedChronicle, play_signed};
+use std::alloc::Global;
 use trace::{Latch, TraceError, write_chronicle, write_signed};
-use world::Chronicle;
+use world::{Chronicle, play};
 
 /// How many bytes a call the writers take at most.
 const SIZES: &[usize] = &[1, 7, 4096];
@@ -41,7 +41,7 @@ pub fn report<R: Print + AllocGlobal>(rt: &R) -> Result<()> {
 
 /// Writes them so many bytes a call.
 fn report_size<R: Print + AllocGlobal>(rt: &R, size: usize) -> Result<()> {
-    if !are_told(rt, size)? || !are_signed_told(rt, size)? {
+    if !are_told(rt.alloc(), size)? || !are_signed_told(rt.alloc(), size)? {
         bail!("a failure is not told");
     }
     println!(rt; "{size} bytes a write: each failure told, behind a beginning")?;
@@ -49,20 +49,20 @@ fn report_size<R: Print + AllocGlobal>(rt: &R, size: usize) -> Result<()> {
 }
 
 /// Whether each failure is told of the chronicle of oral messages.
-fn are_told<R: AllocGlobal>(rt: &R, size: usize) -> Result<bool> {
-    let alloc = rt.alloc();
+fn are_told(alloc: Global, size: usize) -> Result<bool> {
     let schedule = Campaign::Seven.schedule(alloc)?;
-    let chronicle = play_by(alloc, &Campaign::Seven.scenario(alloc)?, &schedule)?;
+    let scenario = Campaign::Seven.scenario(alloc, Messages::Oral)?;
+    let chronicle = play(alloc, scenario, &schedule)?;
     let whole = text(alloc, &chronicle)?;
-    Ok(fails_at_each_write(rt, Told::Oral(&chronicle), whole.as_slice(), size))
+    Ok(fails_at_each_write(alloc, Told::Oral(&chronicle), whole.as_slice(), size))
 }
 
 /// Whether each failure is told of that of signed messages.
-fn are_signed_told<R: AllocGlobal>(rt: &R, size: usize) -> Result<bool> {
-    let alloc = rt.alloc();
-    let chronicle = signing::play_freely(alloc, Campaign::Seven)?;
-    let whole = signing::text(alloc, &chronicle)?;
-    Ok(fails_at_each_write(rt, Told::Signed(&chronicle), whole.as_slice(), size))
+fn are_signed_told(alloc: Global, size: usize) -> Result<bool> {
+    let scenario = Campaign::Seven.scenario(alloc, Messages::Signed)?;
+    let chronicle = play_signed(alloc, scenario, &freely(alloc))?;
+    let whole = signed_text(alloc, &chronicle)?;
+    Ok(fails_at_each_write(alloc, Told::Signed(&chronicle), whole.as_slice(), size))
 }
 
 /// What comes of a text that is written to a writer which fails at one of its writes.
@@ -78,14 +78,9 @@ enum End {
 
 /// Writes the chronicle to writers that fail at their first write, at their second, and so on, until one takes all of
 /// it. The answer is whether one does, and each failure is told before.
-fn fails_at_each_write<R: AllocGlobal>(
-    rt: &R,
-    chronicle: Told<'_>,
-    whole: &[u8],
-    size: usize,
-) -> bool {
+fn fails_at_each_write(alloc: Global, chronicle: Told<'_>, whole: &[u8], size: usize) -> bool {
     for nth in 1..MOST_WRITES {
-        let writer = Writer::new(rt.alloc(), size, nth);
+        let writer = Writer::new(alloc, size, nth);
         match written(chronicle, whole, writer) {
             End::Whole => return true,
             End::Told => {}

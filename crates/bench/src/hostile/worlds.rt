@@ -1,0 +1,103 @@
+//! Worlds and chronicles of oral or of signed messages.
+use crate::told::{Messages, signed_text, text};
+use anyhow::{Result, bail};
+use arrayvec::ArrayVec;
+use round::Scenario;
+use signed::{SignedChronicle, SignedWorld, play_signed};
+use std::alloc::{AllocError, Global};
+use world::{Chronicle, Event, EventError, Schedule, World, play};
+
+/// A world.
+#[derive(Drop)]
+pub enum Led {
+    Oral(World),
+    Signed(SignedWorld),
+}
+
+impl Led {
+    /// `World::open`, or `SignedWorld::open`.
+    pub fn open(alloc: Global, messages: Messages, scenario: Scenario) -> Result<Led, AllocError> {
+        match messages {
+            Messages::Oral => Ok(Led::Oral(World::open(alloc, scenario)?)),
+            Messages::Signed => Ok(Led::Signed(SignedWorld::open(alloc, scenario)?)),
+        }
+    }
+
+    /// Lets an event happen.
+    pub fn apply(&mut self, event: Event) -> Result<(), EventError> {
+        match self {
+            Led::Oral(world) => world.apply(event),
+            Led::Signed(world) => world.apply(event),
+        }
+    }
+
+    /// The decisions.
+    pub fn decisions(&self) -> ArrayVec<u32, 12> {
+        match self {
+            Led::Oral(world) => world.decisions(),
+            Led::Signed(world) => world.decisions(),
+        }
+    }
+
+    /// Its chronicle.
+    fn chronicle(self) -> Option<Made> {
+        match self {
+            Led::Oral(world) => oral_chronicle(world),
+            Led::Signed(world) => signed_chronicle(world),
+        }
+    }
+
+    /// The text of its chronicle.
+    pub fn text(self, alloc: Global) -> Result<Vec<u8>> {
+        match self.chronicle() {
+            Some(chronicle) => chronicle.text(alloc),
+            None => bail!("the campaign is not over"),
+        }
+    }
+}
+
+/// The chronicle of a world of oral messages.
+fn oral_chronicle(world: World) -> Option<Made> {
+    match world.chronicle() {
+        Some(chronicle) => Some(Made::Oral(chronicle)),
+        None => None,
+    }
+}
+
+/// The chronicle of a world of signed messages.
+fn signed_chronicle(world: SignedWorld) -> Option<Made> {
+    match world.chronicle() {
+        Some(chronicle) => Some(Made::Signed(chronicle)),
+        None => None,
+    }
+}
+
+/// A chronicle.
+#[derive(Drop)]
+pub enum Made {
+    Oral(Chronicle),
+    Signed(SignedChronicle),
+}
+
+impl Made {
+    /// `play`, or `play_signed`.
+    pub fn play(
+        alloc: Global,
+        messages: Messages,
+        scenario: Scenario,
+        schedule: &Schedule,
+    ) -> Result<Made, AllocError> {
+        match messages {
+            Messages::Oral => Ok(Made::Oral(play(alloc, scenario, schedule)?)),
+            Messages::Signed => Ok(Made::Signed(play_signed(alloc, scenario, schedule)?)),
+        }
+    }
+
+    /// Its text.
+    pub fn text(&self, alloc: Global) -> Result<Vec<u8>> {
+        match self {
+            Made::Oral(chronicle) => text(alloc, chronicle),
+            Made::Signed(chronicle) => signed_text(alloc, chronicle),
+        }
+    }
+}
