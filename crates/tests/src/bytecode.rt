@@ -51,7 +51,7 @@ fn taken(is_spelt: bool) -> Answer {
 }
 
 /// What comes of a unit.
-fn answer(alloc: Global, unit: &[u8]) -> Answer {
+fn answered(alloc: Global, unit: &[u8]) -> Answer {
     match decode(alloc, unit) {
         Ok(program) => taken(is_spelt(alloc, &program, unit)),
         Err(CodecError::At(Fault::LeftOut, _)) => Answer::LeftOut,
@@ -64,7 +64,7 @@ fn answer(alloc: Global, unit: &[u8]) -> Answer {
 fn count(alloc: Global, wanted: Answer) -> u32 {
     let mut found = 0u32;
     for opcode in 0..=255u8 {
-        if answer(alloc, &[opcode, 0, 0, 0, 0, 0, 0, 0]) == wanted {
+        if answered(alloc, &[opcode, 0, 0, 0, 0, 0, 0, 0]) == wanted {
             found = found.wrapping_add(1);
         }
     }

@@ -1,27 +1,39 @@
 //! Programs by their units.
 
 use insn::{Insn, Operand, Program, Reg};
-use std::alloc::Global;
+use std::alloc::{AllocError, Global};
 use word::{Operation, Width};
 
-/// Whether a wide instruction, a narrow one and the exit take the program's 4 units, of which the second starts
+/// An instruction that takes two units.
+fn wide(dst: Reg) -> Option<Insn> {
+    Some(Insn::LoadImmediate { dst, number: 7 })
+}
+
+/// An instruction that takes one.
+fn narrow(dst: Reg) -> Option<Insn> {
+    Some(Insn::Arithmetic {
+        width: Width::W64,
+        operation: Operation::Move,
+        dst,
+        operand: Operand::Immediate(42),
+    })
+}
+
+/// Whether the wide instruction, the narrow one and the exit take the program's 4 units, of which the second starts
 /// nothing.
-fn is_laid_out(program: &Program, wide: Insn, narrow: Insn) -> bool {
+fn is_laid_out(program: &Program, dst: Reg) -> bool {
     program.len() == 3
         && program.units() == 4
         && program.instructions().len() == 3
-        && program.at(0) == Some(wide)
+        && program.at(0) == wide(dst)
         && program.at(1).is_none()
-        && program.at(2) == Some(narrow)
+        && program.at(2) == narrow(dst)
         && program.at(3) == Some(Insn::Exit)
         && program.at(4).is_none()
 }
 
-/// Whether a program of a wide instruction, a narrow one and the exit is laid out in 4 units.
-fn takes_two_units(alloc: Global) -> bool {
-    let Some(dst) = Reg::new(1) else {
-        return false;
-    };
+/// The program of the wide instruction, the narrow one and the exit.
+fn program(alloc: Global, dst: Reg) -> Result<Program, AllocError> {
     let wide = Insn::LoadImmediate { dst, number: 7 };
     let narrow = Insn::Arithmetic {
         width: Width::W64,
@@ -29,11 +41,16 @@ fn takes_two_units(alloc: Global) -> bool {
         dst,
         operand: Operand::Immediate(42),
     };
-    let Ok(instructions) = [wide, narrow, Insn::Exit].to_vec(alloc) else {
+    Program::new(alloc, [wide, narrow, Insn::Exit].to_vec(alloc)?)
+}
+
+/// Whether it is laid out in 4 units.
+fn takes_two_units(alloc: Global) -> bool {
+    let Some(dst) = Reg::new(1) else {
         return false;
     };
-    match Program::new(alloc, instructions) {
-        Ok(program) => is_laid_out(&program, wide, narrow),
+    match program(alloc, dst) {
+        Ok(program) => is_laid_out(&program, dst),
         Err(_) => false,
     }
 }
