@@ -27,6 +27,13 @@ shape usage = record (new_shape usage.name) { rules = map place_rule usage.place
 abbrev pub leaf : Usage → App
 leaf usage = record { top = shape usage; subs = [] }
 
+-- what help says of the program, and what `--version` says
+abbrev pub lab_about : Text
+lab_about = codes "A laboratory for the Byzantine generals problem; a hyphen as a file is standard input"
+
+abbrev pub lab_version : Text
+lab_version = codes "1.0.0, proved with Rattle, logic dac8208d650f15bf"
+
 -- the program before its subcommands
 abbrev pub app_before : App
 app_before = record {

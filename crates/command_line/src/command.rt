@@ -1,6 +1,7 @@
-ghost use Rattle.std.specs.Prelude.{◌≡◌, IfOk};
+ghost use Rattle.std.specs.Prelude.{◌≡◌, IfOk, IsSomeAnd, Some, codes, option_map, string_bytes};
 ghost use Rattle.clap.specs.Words.{app_of, with_subcommand};
-ghost use Rattle.command_line.specs.Lab.{app_before, lab_app};
+ghost use Rattle.clap.specs.declared.builder.command.Command.TheViews.{out-Command};
+ghost use Rattle.command_line.specs.Lab.{app_before, lab_about, lab_app, lab_version};
 ghost use Rattle.command_line.specs.Subcommand.{shape_for, with_subcommands};
 
 use crate::subcommand::Subcommand;
@@ -46,7 +47,10 @@ fn with_subcommand<'a>(
 
 /// The program without its subcommands.
 fn bare_command<'a>(alloc: Global) -> Result<Command<'a>, AllocError>
-    ensures { IfOk result (λ c. app_of c ≡ app_before) }
+    ensures shape { IfOk result (λ c. app_of c ≡ app_before) }
+    ensures about { IfOk result (λ c. option_map (λ text. text.now) (out-Command c).about ≡ Some lab_about) }
+    ensures version { IfOk result (λ c. option_map (λ text. text.now) (out-Command c).version ≡ Some lab_version) }
+    ensures name { IfOk result (λ c. IsSomeAnd (out-Command c).bin_name (λ name. string_bytes name ≡ codes "byzlab")) }
 {
     Command::new(alloc, "byzlab")
         .about(
