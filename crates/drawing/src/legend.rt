@@ -53,9 +53,15 @@ fn any_dashes(nodes: &[Node]) -> bool
 fn dashed_shape(nodes: &[Node]) -> Mark
     ensures { result ≡ dashed_shape nodes.now }
 {
-    if nodes.iter().any(|node| has_dashes(node) && has_circle(node)) {
+    if nodes
+        .iter()
+        .any(|node| has_dashes(node) && has_circle(node))
+    {
         Mark::Honest
-    } else if nodes.iter().any(|node| has_dashes(node) && has_square(node)) {
+    } else if nodes
+        .iter()
+        .any(|node| has_dashes(node) && has_square(node))
+    {
         Mark::Traitor
     } else {
         Mark::Lie(0, 0)
@@ -115,7 +121,12 @@ pub(crate) fn put_legend(out: &mut String, nodes: &[Node]) -> Result<(), AllocEr
     ensures { OnOk result (string_bytes out.new ≡ string_bytes out.old ++ legend nodes.now) }
 {
     put_rule(out, nodes.len() as u128)?;
-    put_meanings(out, marks(nodes), dashed_shape(nodes), nodes.len() as u128 + 1)
+    put_meanings(
+        out,
+        marks(nodes),
+        dashed_shape(nodes),
+        nodes.len() as u128 + 1,
+    )
 }
 
 /// Adds a line with this place.
@@ -137,12 +148,7 @@ fn rule() -> &'static str
 }
 
 /// Adds what these marks mean, a row for each, the first with this place; dashes at a shape that has them.
-fn put_meanings(
-    out: &mut String,
-    marks: Marks,
-    dashed: Mark,
-    place: u128,
-) -> Result<(), AllocError>
+fn put_meanings(out: &mut String, marks: Marks, dashed: Mark, place: u128) -> Result<(), AllocError>
     requires { place < 2 ^ 99 }
     ensures { OnOk result (string_bytes out.new ≡ string_bytes out.old ++ meanings marks dashed place) }
 {
