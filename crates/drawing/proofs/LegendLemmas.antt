@@ -9,6 +9,9 @@ use Rattle.drawing.specs.Legend.{meaning_if, meanings, one_if}
 regrouped : (s a b c d : List ℕ) → (((s ++ a) ++ b) ++ c) ++ d ≡ s ++ (((a ++ b) ++ c) ++ d)
 regrouped s a b c d = simp append_assoc
 
+pub four_parts : (start a b c d one two three four : List ℕ) → one ≡ start ++ a → two ≡ one ++ b → three ≡ two ++ c → four ≡ three ++ d → four ≡ start ++ (((a ++ b) ++ c) ++ d)
+four_parts start a b c d one two three four e1 e2 e3 e4 = rw (e4, e3, e2, e1) (regrouped start a b c d)
+
 pub four_meanings : (marks : Marks) (dashed : Mark) (place a b c : ℕ) (start one two three four : List ℕ) → a ≡ one_if marks.circle → b ≡ one_if marks.square → c ≡ one_if marks.diamond
     → one ≡ start ++ meaning_if marks.circle place Honest None (codes "no lie is known")
     → two ≡ one ++ meaning_if marks.square (place + a) Traitor None (codes "a named commander, his word")

@@ -24,7 +24,7 @@ use Rattle.drawing.specs.Legend.{dashed_shape, legend, marks_of, meaning, meanin
 use Rattle.drawing.specs.Places.{branch_at}
 use Rattle.drawing.specs.Rows.{branch_way, branch_ways, kind, lines_end, lines_start, outcome_class, outline, row, row_end, row_start, rows_from, shape, stub, way, word_text}
 use Rattle.drawing.specs.Shown.{nodes_of}
-use Rattle.drawing.specs.Svg.{breadth, circle_words, head, heading, inside, key, key_start, look, picture, said_if, size, start, svg_text, tallness, title, view_box}
+use Rattle.drawing.specs.Svg.{breadth, head, heading, inside, key, key_start, look, picture, said_if, shape_words, size, start, svg_text, tallness, title, view_box}
 use Rattle.drawing.specs.Words.{counted_words, extent_words, mark_words, outcome_words, said, told_words, words}
 
 -- ---- words
@@ -343,40 +343,33 @@ abbrev rows_words : List ℕ
 rows_words = codes "Each row is a label, below the label that it goes on from, with what he was told of it."
 
 said_if_text : (stands : Bool) (words : List ℕ) → IsText words → IsText (said_if stands words)
+unfolding said_if
 said_if_text true words t = t
 said_if_text false words t = no_text
 
-circle_text : IsText circle_words
-unfolding circle_words
-circle_text = bare_text _ refl
-
-abbrev key_words : Marks → List ℕ
-key_words marks =
-    rows_words
-    ++ (said_if marks.circle circle_words
-    ++ (said_if marks.square (codes " Square: the word of a commander who is named.")
-    ++ (said_if marks.diamond (codes " Diamond: a lie.") ++ said_if marks.dashes (codes " Dashes: no order has a majority."))))
-
-key_text : (marks : Marks) → IsText (key_words marks)
-key_text marks =
+shape_words_text : (marks : Marks) → IsText (shape_words marks)
+shape_words_text marks =
+    let circle : List ℕ = said_if marks.circle (codes " Circle: the word of a general who is not named as a traitor, or tells what he took.") in
     let square : List ℕ = said_if marks.square (codes " Square: the word of a commander who is named.") in
     let diamond : List ℕ = said_if marks.diamond (codes " Diamond: a lie.") in
-    let dashes : List ℕ = said_if marks.dashes (codes " Dashes: no order has a majority.") in
-    many rows_words (said_if marks.circle circle_words ++ (square ++ (diamond ++ dashes))) (bare_text rows_words refl)
-    (many (said_if marks.circle circle_words) (square ++ (diamond ++ dashes)) (said_if_text marks.circle circle_words circle_text)
-    (many square (diamond ++ dashes) (said_if_text marks.square (codes " Square: the word of a commander who is named.") (bare_text _ refl))
-    (many diamond dashes (said_if_text marks.diamond (codes " Diamond: a lie.") (bare_text _ refl))
-    (said_if_text marks.dashes (codes " Dashes: no order has a majority.") (bare_text _ refl)))))
+    many (circle ++ square ++ diamond) (said_if marks.dashes (codes " Dashes: no order has a majority."))
+    (many (circle ++ square) diamond
+    (many circle square (said_if_text marks.circle (codes " Circle: the word of a general who is not named as a traitor, or tells what he took.") (bare_text _ refl)) (said_if_text marks.square (codes " Square: the word of a commander who is named.") (bare_text _ refl)))
+    (said_if_text marks.diamond (codes " Diamond: a lie.") (bare_text _ refl)))
+    (said_if_text marks.dashes (codes " Dashes: no order has a majority.") (bare_text _ refl))
 
-key_parts : (open_tag rows circle square diamond dashes end feed : List ℕ)
-    → (open_tag ++ rows) ++ circle ++ square ++ diamond ++ dashes ++ (end ++ feed) ≡ (open_tag ++ ((rows ++ (circle ++ (square ++ (diamond ++ dashes)))) ++ end)) ++ feed
-key_parts open_tag rows circle square diamond dashes end feed = simp append_assoc
+abbrev key_words : Marks → List ℕ
+key_words marks = rows_words ++ shape_words marks
+
+key_text : (marks : Marks) → IsText (key_words marks)
+key_text marks = many rows_words (shape_words marks) (bare_text rows_words refl) (shape_words_text marks)
+
+key_parts : (first rows shapes end feed : List ℕ) → (first ++ rows) ++ shapes ++ (end ++ feed) ≡ (first ++ ((rows ++ shapes) ++ end)) ++ feed
+key_parts first rows shapes end feed = simp append_assoc
 
 key_whole : (marks : Marks) → key marks ≡ element (codes "desc") [] (key_words marks) ++ codes "\n"
 unfolding key_start
-key_whole marks =
-    key_parts (codes "<desc>") rows_words (said_if marks.circle circle_words) (said_if marks.square (codes " Square: the word of a commander who is named.")) (said_if marks.diamond (codes " Diamond: a lie."))
-    (said_if marks.dashes (codes " Dashes: no order has a majority.")) (codes "</desc>") (codes "\n")
+key_whole marks = key_parts (codes "<desc>") rows_words (shape_words marks) (codes "</desc>") (codes "\n")
 
 key_content : (marks : Marks) → IsContent (key marks)
 key_content marks =

@@ -35,11 +35,17 @@ has_diamond node = is_lie node.mark
 abbrev pub has_dashes : Node → Bool
 has_dashes node = is_divided node.outcome
 
+abbrev pub has_dashed_circle : Node → Bool
+has_dashed_circle node = has_dashes node && has_circle node
+
+abbrev pub has_dashed_square : Node → Bool
+has_dashed_square node = has_dashes node && has_square node
+
 -- which shape stands with dashes in the picture of these labels: a circle, if one does, else a square, else a diamond
 abbrev pub dashed_shape : List Node → Mark
 dashed_shape nodes =
-    if list_any (λ node. has_dashes node && has_circle node) nodes then Honest
-    else if list_any (λ node. has_dashes node && has_square node) nodes then Traitor
+    if list_any has_dashed_circle nodes then Honest
+    else if list_any has_dashed_square nodes then Traitor
     else Lie 0 0
 
 -- the marks that stand in the picture of these labels

@@ -33,20 +33,18 @@ unfoldable pub key_start : List ℕ
 key_start =
     codes "<desc>Each row is a label, below the label that it goes on from, with what he was told of it."
 
-abbrev pub said_if : Bool → List ℕ → List ℕ
+unfoldable pub said_if : Bool → List ℕ → List ℕ
 said_if stands words = if stands then words else []
 
-unfoldable pub circle_words : List ℕ
-circle_words =
-    codes " Circle: the word of a general who is not named as a traitor, or tells what he took."
-
-abbrev pub key : Marks → List ℕ
-key marks =
-    key_start ++ said_if marks.circle circle_words
+abbrev pub shape_words : Marks → List ℕ
+shape_words marks =
+    said_if marks.circle (codes " Circle: the word of a general who is not named as a traitor, or tells what he took.")
     ++ said_if marks.square (codes " Square: the word of a commander who is named.")
     ++ said_if marks.diamond (codes " Diamond: a lie.")
     ++ said_if marks.dashes (codes " Dashes: no order has a majority.")
-    ++ codes "</desc>\n"
+
+abbrev pub key : Marks → List ℕ
+key marks = key_start ++ shape_words marks ++ codes "</desc>\n"
 
 -- what the shapes look like: on paper, and on a dark ground where one is wished for
 unfoldable pub look : List ℕ

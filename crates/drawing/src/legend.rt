@@ -1,7 +1,7 @@
 //! What the marks of a picture mean, below its rows.
 ghost use Rattle.std.specs.Prelude.{◌≡◌, ◌≤◌, ◌<◌, ◌^◌, ◌++◌, string_bytes, OnOk};
 ghost use Rattle.std.specs.List.{list_any};
-ghost use Rattle.drawing.specs.Legend.{count_of, dashed_shape, has_circle, has_dashes, has_diamond, has_square, legend, marks_of, meaning, meaning_if, meaning_words, meanings, one_if, rule, rule_at};
+ghost use Rattle.drawing.specs.Legend.{count_of, dashed_shape, has_circle, has_dashed_circle, has_dashed_square, has_dashes, has_diamond, has_square, legend, marks_of, meaning, meaning_if, meaning_words, meanings, one_if, rule, rule_at};
 
 use crate::facts::is_honest;
 use crate::node::{Mark, Marks, Node};
@@ -53,19 +53,41 @@ fn any_dashes(nodes: &[Node]) -> bool
 fn dashed_shape(nodes: &[Node]) -> Mark
     ensures { result ≡ dashed_shape nodes.now }
 {
-    if nodes
-        .iter()
-        .any(|node| has_dashes(node) && has_circle(node))
-    {
+    if any_dashed_circle(nodes) {
         Mark::Honest
-    } else if nodes
-        .iter()
-        .any(|node| has_dashes(node) && has_square(node))
-    {
+    } else if any_dashed_square(nodes) {
         Mark::Traitor
     } else {
         Mark::Lie(0, 0)
     }
+}
+
+/// Whether one of them has a circle with dashes.
+fn any_dashed_circle(nodes: &[Node]) -> bool
+    ensures { result ≡ list_any has_dashed_circle nodes.now }
+{
+    nodes.iter().any(|node| has_dashed_circle(node))
+}
+
+/// Whether one of them has a square with dashes.
+fn any_dashed_square(nodes: &[Node]) -> bool
+    ensures { result ≡ list_any has_dashed_square nodes.now }
+{
+    nodes.iter().any(|node| has_dashed_square(node))
+}
+
+/// Whether a label has a circle with dashes.
+fn has_dashed_circle(node: &Node) -> bool
+    ensures { result ≡ has_dashed_circle node.now }
+{
+    has_dashes(node) && has_circle(node)
+}
+
+/// Whether it has a square with dashes.
+fn has_dashed_square(node: &Node) -> bool
+    ensures { result ≡ has_dashed_square node.now }
+{
+    has_dashes(node) && has_square(node)
 }
 
 /// Whether no lie is known of a label.

@@ -1,6 +1,6 @@
 //! A lieutenant's tree as a picture in SVG: a row for each label, below that of the label that it goes on from.
 ghost use Rattle.std.specs.Prelude.{◌≡◌, ◌≢◌, ◌<◌, ◌^◌, ◌++◌, string_bytes, IfOk, OnOk};
-ghost use Rattle.drawing.specs.Svg.{circle_words, head, heading, inside, key, key_start, look, said_if, size, start, svg_text, title, view_box};
+ghost use Rattle.drawing.specs.Svg.{head, heading, inside, key, key_start, look, said_if, shape_words, size, start, svg_text, title, view_box};
 
 use crate::legend::{count, marks, put_legend};
 use crate::node::{Marks, Node, View};
@@ -101,7 +101,19 @@ fn put_key(out: &mut String, marks: Marks) -> Result<(), AllocError>
     ensures { OnOk result (string_bytes out.new ≡ string_bytes out.old ++ key marks) }
 {
     out.push_str(key_start())?;
-    put_if(out, marks.circle, circle_words())?;
+    put_shape_words(out, marks)?;
+    out.push_str("</desc>\n")
+}
+
+/// Adds what each of these shapes means.
+fn put_shape_words(out: &mut String, marks: Marks) -> Result<(), AllocError>
+    ensures { OnOk result (string_bytes out.new ≡ string_bytes out.old ++ shape_words marks) }
+{
+    put_if(
+        out,
+        marks.circle,
+        " Circle: the word of a general who is not named as a traitor, or tells what he took.",
+    )?;
     put_if(
         out,
         marks.square,
@@ -109,7 +121,7 @@ fn put_key(out: &mut String, marks: Marks) -> Result<(), AllocError>
     )?;
     put_if(out, marks.diamond, " Diamond: a lie.")?;
     put_if(out, marks.dashes, " Dashes: no order has a majority.")?;
-    out.push_str("</desc>\n")
+    Ok(())
 }
 
 /// What it begins with: what the rows are.
@@ -120,15 +132,8 @@ fn key_start() -> &'static str
     "<desc>Each row is a label, below the label that it goes on from, with what he was told of it."
 }
 
-/// What a circle means.
-#[tactic(auto, unfolding(crate::specs::Svg::circle_words))]
-fn circle_words() -> &'static str
-    ensures { result.now ≡ circle_words }
-{
-    " Circle: the word of a general who is not named as a traitor, or tells what he took."
-}
-
 /// Adds these words, where this is so.
+#[tactic(auto, unfolding(crate::specs::Svg::said_if))]
 fn put_if(out: &mut String, stands: bool, words: &str) -> Result<(), AllocError>
     ensures { OnOk result (string_bytes out.new ≡ string_bytes out.old ++ said_if stands words.now) }
 {
