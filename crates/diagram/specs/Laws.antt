@@ -56,8 +56,8 @@ abbrev pub labels_told : MessageTable → ℕ → Stroke → ℕ
 labels_told t order stroke = count_by (is_same (told_by stroke)) (tellings_of t order stroke.receiver)
 
 -- of all labels of a round of which one general told a lieutenant the same there is one stroke, and none of what he was
--- not told; each is as wide as it has labels; and each is drawn, or among those of its round to its receiver of which is
--- told how many are not
+-- not told; each is as wide as it has labels; and of a list those that are drawn, and those of which is told how many
+-- they are, make all
 pub record StrokesAreExact : Type 0 where
   pub once : (t : MessageTable) (order p : ℕ) (telling : Telling) → p < t.generals → p ≢ t.commander →
       count_by (is_of p telling) (strokes_of t order)

@@ -1,5 +1,5 @@
--- The strokes that a picture has room for, and how many it has none for: of each list of what a lieutenant was told in a
--- round those with the first rows.
+-- The strokes that a picture has room for, and how many it has none for: of each list of what a lieutenant was told in
+-- a round those with the first rows.
 use Rattle.std.specs.Prelude.{ℕ, ◌+◌, ◌*◌, ◌==◌, ◌&&◌, nat_le, nat_lt, Bool, if◌then◌else◌, List, [], ◌++◌, codes, count_by, filter, flat_map}
 use Rattle.std.specs.Fmt.{decimal}
 use Rattle.std.specs.List.{range_with_len}

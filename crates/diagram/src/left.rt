@@ -211,8 +211,8 @@ fn put_left_in_full(
 {
     write!(
         out,
-        "general {general} was told {left} things more in round {round}, which are not drawn: in place of {lies} of them an \
-         honest relay would tell something else"
+        "general {general} was told {left} things more in round {round}, which are not drawn: in place of {lies} of \
+         them an honest relay would tell something else"
     )
 }
 
