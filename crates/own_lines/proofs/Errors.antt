@@ -11,7 +11,7 @@ pub error_told : {T : Type 0} (Reads : Result T ScenarioError → Type 0) (Tells
     → ((read : T) → Reads (Ok read) → Tells None) → ((e : ScenarioError) → e ≢ errors.Memory → Reads (Err e) → Tells (Some e))
     → (read : Result T ScenarioError) (told : Result (Option ScenarioError) AllocError) → Reads read → IsErrorIn read told → IfOk told Tells
 error_told Reads Tells ok err (Ok x) told reads is = rw is (ok x reads)
-error_told Reads Tells ok err (Err errors.Memory) (Ok o) reads is = absurd is
+error_told Reads Tells ok err (Err errors.Memory) (Ok o) reads is = absurd cc
 error_told Reads Tells ok err (Err errors.Memory) (Err e) reads is = tt
 error_told Reads Tells ok err (Err errors.Toml) told reads is = rw is (err errors.Toml (λ q. cc) reads)
 error_told Reads Tells ok err (Err (errors.Unknown at key)) told reads is = rw is (err (errors.Unknown at key) (λ q. cc) reads)
