@@ -1,6 +1,6 @@
 -- What every campaign promises, by whatever schedule it is played, and each that is replayed.
 use Rattle.std.proofs.Common.{ℕ, List, refl}
-use Rattle.round.specs.Scenario.{Scenario, IsScenario}
+use Rattle.roster.specs.Scenario.{Scenario, IsScenario}
 use Rattle.signed.specs.Kind.{signed_kind}
 use Rattle.signed.proofs.Promised.{promised_agree, promised_verdict, promised_well}
 use Rattle.signed.proofs.Worlds.{signed_campaigns}

@@ -1,5 +1,5 @@
 -- What is promised of the decisions and the verdict that a chronicle tells (TOPLAS 1982, Theorems 1 and 2).
-use Rattle.round.specs.Scenario.{Scenario}
+use Rattle.roster.specs.Scenario.{Scenario}
 use Rattle.signed.specs.Promises.{AgreeUnderSignedBound, IsSignedVerdictOn}
 use Rattle.world.specs.Chronicle.{Chronicle}
 use Rattle.world.specs.Promises.{AgreeUnderBound, IsVerdictOn, IsWellUnderBound}
