@@ -10,9 +10,9 @@ use Rattle.tree.specs.LieutenantTree.{LieutenantTree, IsFilled, SameCampaign, si
 use Rattle.roster.specs.Scenario.{Scenario, IsScenario}
 use Rattle.letter.specs.Letters.{Letter, messages, told_by, letter_of}
 use Rattle.letter.specs.Origin.{AreLettersOf}
-use Rattle.delivery.specs.Told.{IsTreeOf, AreDue, ToldSeen, WasTold, told_now, heard_also, round_of, lieutenant_at}
+use Rattle.delivery.specs.Told.{AreOfCampaign, IsTreeOf, AreDue, ToldSeen, WasTold, told_now, heard_also, round_of, lieutenant_at}
 use Rattle.delivery.proofs.Delivering.{levels-same, heard_here, heard_other}
-use Rattle.delivery.specs.Delivery.{AreApart, AreEach, AreOfCampaign, AreDueIn, IsTold}
+use Rattle.delivery.specs.Delivery.{AreApart, AreEach, AreDueIn, IsTold}
 use Rattle.std.proofs.lemmas.List.{get_or_past}
 
 get-end : {A : Type 0} (xs : List A) (x d : A) → get_or (xs ++ x ∷ []) (length xs) d ≡ x

@@ -14,8 +14,8 @@ use Rattle.outbox.proofs.Single.{same_default}
 use Rattle.tree.specs.LieutenantTree.{LieutenantTree, IsFilled, SameCampaign, told_also}
 use Rattle.letter.specs.Letters.{Letter, letter_of}
 use Rattle.delivery.specs.Fronts.{IsFront, under}
-use Rattle.delivery.specs.Told.{round_of, told_now}
-use Rattle.delivery.specs.Delivery.{AreEach, AreOfCampaign, AreTellers, IsDueIn, FillsFromTo, IsRoute, IsTold, IsToldUnder, IsWalk, first_under, order_in_letter, Tellers}
+use Rattle.delivery.specs.Told.{AreOfCampaign, round_of, told_now}
+use Rattle.delivery.specs.Delivery.{AreEach, AreTellers, IsDueIn, FillsFromTo, IsRoute, IsTold, IsToldUnder, IsWalk, first_under, order_in_letter, Tellers}
 use Rattle.delivery.specs.declared.front.Front.{Front}
 use Rattle.delivery.proofs.Delivering.{none_heard, told_all, told_none, told_on, told_one}
 use Rattle.delivery.proofs.Walking.{all_children, child_long, first_told, same_campaign, same_due, told_ends, under_first, under_past}

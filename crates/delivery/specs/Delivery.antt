@@ -52,11 +52,6 @@ pub record IsTold (letters : List Letter) (t u : LieutenantTree) : Type 0 where
   pub same : SameCampaign t u
   pub filled : (M : Messages) → IsFilled t M → IsFilled u (heard_also M letters)
 
--- the letters are of one round of the campaign of so many generals under this commander
-abbrev pub AreOfCampaign : ℕ → ℕ → List Letter → Type 0
-AreOfCampaign n c letters = (i : ℕ) (l : Letter) → slice_get letters i ≡ Some l →
-    l.outbox.relay.shape ≡ record { generals = n; commander = c; general = l.general; round = round_of letters }
-
 -- the trees are of that campaign, and the letters are due to them
 pub record IsDueIn (n c : ℕ) (letters : List Letter) (t : LieutenantTree) : Type 0 where
   pub kind : IsCampaign t

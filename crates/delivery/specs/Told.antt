@@ -28,16 +28,15 @@ round_of (l ∷ letters) = l.round
 unfoldable pub heard_also : Messages → List Letter → Messages
 heard_also M letters w p = cond (length w == round_of letters) (told_now letters w p) (M w p)
 
+-- the letters are of one round of the campaign of so many generals under this commander
+abbrev pub AreOfCampaign : ℕ → ℕ → List Letter → Type 0
+AreOfCampaign n c letters = (i : ℕ) (l : Letter) → slice_get letters i ≡ Some l →
+    l.outbox.relay.shape ≡ record { generals = n; commander = c; general = l.general; round = round_of letters }
+
 -- the letters are of one round of the tree's campaign
 pub record AreDue (t : LieutenantTree) (given : List Letter) : Type 0 where
   pub round : round_of given < t.bound + 2
-  pub letters : (i : ℕ) (l : Letter) → slice_get given i ≡ Some l →
-      l.outbox.relay.shape ≡ record {
-        generals = t.generals;
-        commander = t.commander;
-        general = l.general;
-        round = round_of given;
-      }
+  pub letters : AreOfCampaign t.generals t.commander given
 
 -- how many rounds were told, and each lieutenant's tree, ascending
 pub record ToldSeen : Type 0 where

@@ -3,8 +3,8 @@ ghost use Rattle.std.specs.Prelude.{◌≡◌, ◌<◌, ◌≤◌, ◌+◌, [], 
 ghost use Rattle.label.specs.Oral.{Messages};
 ghost use Rattle.tree.specs.LieutenantTree.{IsFilled, SameCampaign};
 ghost use Rattle.letter.specs.Letters.{letter_of};
-ghost use Rattle.delivery.specs.Told.{AreDue, heard_also, round_of};
-ghost use Rattle.delivery.specs.Delivery.{AreApart, AreDueIn, AreEach, AreOfCampaign, AreLetterIndices, AreTreeIndices, IsRoute, IsTold, IsToldUnder};
+ghost use Rattle.delivery.specs.Told.{AreOfCampaign, AreDue, heard_also, round_of};
+ghost use Rattle.delivery.specs.Delivery.{AreApart, AreDueIn, AreEach, AreLetterIndices, AreTreeIndices, IsRoute, IsTold, IsToldUnder};
 
 use crate::front::Front;
 use crate::tellers::{fill_children, list_tellers, order_in_row, row_in};

@@ -1,5 +1,5 @@
 -- Letters, and the messages that they are (own; TOPLAS 1982, section 3, assumptions A1 to A3 and algorithm OM).
-use Rattle.std.specs.Prelude.{ℕ, ◌-◌, ◌==◌, Bool, cond, List, [], ◌∷◌, length, take, map, find, slice_index, slice_index_or, Option, None, Some, bytes_eq}
+use Rattle.std.specs.Prelude.{ℕ, ◌-◌, ◌==◌, Bool, cond, List, [], ◌∷◌, length, take, map, find, slice_index, slice_index_or, Option, None, Some, bytes_eq as same_label}
 use Rattle.insn.specs.declared.insn.Insn.{Insn}
 use Rattle.label.specs.declared.shape.Shape.{Shape}
 use Rattle.label.specs.Relay.{relay, receivers}
@@ -26,7 +26,7 @@ value_beside passes default _ _ = default
 
 -- the orders that an outbox has on a label, by receiver
 abbrev pub orders_on : Contents → List ℕ → List (Option ℕ)
-orders_on outbox u = value_beside (λ v. bytes_eq v u) [] (relayed outbox.relay) outbox.rows
+orders_on outbox u = value_beside (λ v. same_label v u) [] (relayed outbox.relay) outbox.rows
 
 -- what it tells a receiver of the label
 abbrev pub tells : Contents → List ℕ → ℕ → Option ℕ

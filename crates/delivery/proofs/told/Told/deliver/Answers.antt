@@ -3,8 +3,8 @@ use Rattle.std.proofs.Common.{◌+◌, ◌++◌, ◌∷◌, [], ◌∙◌, ℕ, 
 use Rattle.std.proofs.lemmas.List.{with_items_is}
 use Rattle.tree.specs.LieutenantTree.{LieutenantTree}
 use Rattle.letter.specs.Origin.{AreLettersOf}
-use Rattle.delivery.specs.Told.{ToldSeen, WasTold}
-use Rattle.delivery.specs.Delivery.{AreApart, AreDueIn, AreOfCampaign, AreEach, IsTold}
+use Rattle.delivery.specs.Told.{AreOfCampaign, ToldSeen, WasTold}
+use Rattle.delivery.specs.Delivery.{AreApart, AreDueIn, AreEach, IsTold}
 use Rattle.delivery.proofs.Filling.{letters_due, trees_apart, trees_due, told_more}
 use Rattle.delivery.proofs.told.Told.deliver.Goals as goal
 
