@@ -1,5 +1,5 @@
-//! What the letters of closed rounds tell the lieutenants' trees, and what each general is told then. What is said of it
-//! stands in specs/.
+//! What the letters of closed rounds tell the lieutenants' trees, and what each general is told then. What is said of
+//! it stands in specs/.
 #![tactic(auto)]
 
 mod delivery;

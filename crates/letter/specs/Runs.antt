@@ -9,8 +9,8 @@ use Rattle.letter.specs.Contexts.{IsToldTo, shape_told, rows_told, tells_oral}
 use Rattle.letter.specs.Activation.{Activation, started, Turn, Goes, Asks, Ended, turn}
 
 -- one turn, which the next of these accesses serves where it asks, and then what is said of the rest. So of a turn that
--- asks for a word, with the accesses x and y: x has asked for just that word, and of what goes on with x's reply Rest is
--- said with y alone
+-- asks for a word, with the accesses x and y: x has asked for just that word, and Rest is said, with y alone, of what
+-- goes on with x's reply
 abbrev pub Onward : (Activation → List Access → Activation → Type 0) → Turn → List Access → Activation → Type 0
 Onward Rest (Goes a) transcript end = Rest a transcript end
 Onward Rest (Asks request answered) [] end = ⊥

@@ -1,5 +1,5 @@
--- The rule of the post: what was taken, and then what is queued, is of each general what he has posted. So where general
--- 1 has posted a and b, and 2 has posted c: with a taken, c and b may be queued, or b and c; b may not be taken before a.
+-- The rule of the post: what was taken, and then what is queued, is of each general what he has posted. So where 1 has
+-- posted a and b, and 2 has posted c: with a taken, c and b may be queued, or b and c; b is never taken before a.
 use Rattle.std.specs.Prelude.{◌≡◌, ℕ, ◌<◌, ◌≤◌, Bool, true, false, List, [], ◌∷◌, ◌++◌, Option, Some, None}
 use mathlib.Core.Option.{some}
 use lib.ListN.{get_elem?}

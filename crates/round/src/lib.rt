@@ -1,5 +1,5 @@
-//! One activation from its start to its end: turn by turn before a board, or by who serves its accesses. What is said of
-//! it stands in specs/.
+//! One activation from its start to its end: turn by turn before a board, or by who serves its accesses. What is said
+//! of it stands in specs/.
 #![tactic(auto)]
 
 mod living;
