@@ -1,5 +1,5 @@
 -- Campaigns' pages are elements.
-use Rattle.std.proofs.Common.{ℕ, zero, suc, ◌≡◌, ◌==◌, nat_lt, Bool, List, [], ◌∷◌, ◌++◌, Option, None, Some, codes, encode_utf8, refl, subst, sym}
+use Rattle.std.proofs.Common.{ℕ, zero, suc, ◌≡◌, ◌==◌, nat_lt, Bool, List, [], ◌∷◌, ◌++◌, length, Option, None, Some, codes, encode_utf8, refl, subst, sym}
 use Rattle.std.specs.Prelude.{if◌then◌else◌}
 use Rattle.std.specs.Fmt.{decimal}
 use Rattle.std.specs.List.{flat_map, range_with_len}
@@ -25,14 +25,16 @@ use Rattle.explain.specs.Explained.{explained_at}
 use Rattle.explore.specs.Text.{schedule_text}
 use Rattle.label.specs.Labels.{on, others}
 use Rattle.insn.specs.declared.insn.Insn.{Insn}
+use Rattle.insn.specs.Program.{slots_of}
 use Rattle.retold.specs.Retold.{traitors_of}
 use Rattle.roster.specs.Scenario.{Scenario, program_of}
 use Rattle.trace.specs.Text.{chronicle_text}
 use Rattle.world.specs.Chronicle.{Chronicle}
 use Rattle.world.specs.declared.schedule.Repeat.{Repeat}
 use Rattle.world.specs.declared.verdict.Verdict.{Verdict}
-use Rattle.campaign_page.specs.Account.{access_heads, access_row, accesses_heading, accesses_part, bound_told, chronicle_heading, chronicle_shown, chronicle_part, course_told, elsewhere_words, general_name, is_wide, lieutenant_part, lieutenant_told, lieutenant_words, lieutenants_heading, lieutenants_part, parts, picture_heading, picture_hint, picture_name, picture_part, picture_told, program_if, program_part, no_programs, programs_heading, programs_part, programs_told, recorded_words, scenario_heading, scenario_part, schedule_heading, schedule_part, title, unscheduled_words, verdict_heading, verdict_part, verdict_told, view_of, why_part}
+use Rattle.campaign_page.specs.Account.{access_heads, access_row, accesses_heading, accesses_part, bound_told, chronicle_heading, chronicle_lines, chronicle_shown, chronicle_part, course_told, drawn_told, elsewhere_words, explained_told, general_name, hinted, is_wide, lieutenant_part, lieutenant_told, lieutenant_words, lieutenants_heading, lieutenants_part, parts, picture_heading, picture_hint, picture_name, picture_part, picture_told, program_if, program_part, no_programs, programs_heading, programs_part, programs_told, recorded_words, rows_told, scenario_heading, scenario_part, schedule_heading, schedule_part, title, unscheduled_words, verdict_heading, verdict_part, verdict_told, view_of, why_part}
 use Rattle.campaign_page.specs.Calls.{named_calls}
+use Rattle.campaign_page.specs.Room.{no_room, no_room_words, room_for_chronicle, room_for_picture, room_for_rows, room_for_units}
 use Rattle.campaign_page.specs.Trees.{item_by, items_below, label_item, node_by, root_told, tree_told}
 use Rattle.campaign_page.specs.Laws.{CampaignPagesAreElements}
 
@@ -55,11 +57,20 @@ course_content (Some (line ∷ rest)) = proved_parts_are_content.lines (schedule
 pub schedule_content : (schedule : Option (List (List Repeat))) → IsContent (schedule_part schedule)
 schedule_content schedule = below schedule_heading (course_told schedule) (course_content schedule)
 
+-- what stands in place of a part that there is no room for
+left_content : (count : ℕ) (what who : List ℕ) → IsContent (no_room count what who)
+left_content count what who = proved_parts_are_content.paragraph (no_room_words count what who)
+
+explained_content : (program : List Insn) → IsContent (explained_told program)
+explained_content program =
+    let told : List ℕ = explained_at (named_calls program) program in
+    let units : ℕ = length (slots_of program) in
+    cond_both (nat_lt room_for_units units) (no_room units (codes "units") (codes "byzlab check --explain tells what is known of them.")) (begun_lines told) IsContent
+    (λ _. left_content units (codes "units") (codes "byzlab check --explain tells what is known of them.")) (λ _. proved_parts_are_content.begun_lines told)
+
 program_content : (g : ℕ) (program : Option (List Insn)) → IsContent (program_if g program)
 program_content g None = text [] no_text
-program_content g (Some program) =
-    let told : List ℕ = explained_at (named_calls program) program in
-    proved_parts_are_content.fold (general_name g) (begun_lines told) (proved_parts_are_content.begun_lines told)
+program_content g (Some program) = proved_parts_are_content.fold (general_name g) (explained_told program) (explained_content program)
 
 told_content : (programs : List ℕ) → IsContent programs → IsContent (programs_told programs)
 told_content [] c = proved_parts_are_content.paragraph no_programs
@@ -75,8 +86,10 @@ pub svg_content : (wide : Bool) (svg element : List ℕ) → IsElement element �
 svg_content wide svg element is e =
     let drawn : IsContent svg =
     subst IsContent (sym e) (joined element (codes "\n") (proved_elements_are_elements.content element is) (text (codes "\n") (bare_text (codes "\n") refl))) in
-    joined (heading picture_heading ++ paragraph picture_hint) (picture wide picture_name svg)
-    (below picture_heading (paragraph picture_hint) (proved_parts_are_content.paragraph picture_hint)) (proved_parts_are_content.picture wide picture_name svg drawn)
+    below picture_heading (drawn_told wide svg)
+    (cond_both (nat_lt room_for_picture (length svg)) (no_room (length svg) (codes "bytes") (codes "byzlab draw writes the picture.")) (hinted wide svg) IsContent
+    (λ _. left_content (length svg) (codes "bytes") (codes "byzlab draw writes the picture."))
+    (λ _. joined (paragraph picture_hint) (picture wide picture_name svg) (proved_parts_are_content.paragraph picture_hint) (proved_parts_are_content.picture wide picture_name svg drawn)))
 
 picture_content : (t : MessageTable) (c : Chronicle) → IsContent (picture_part t c)
 picture_content t c = let drawn = proved_diagrams_are_elements t c in svg_content (is_wide c.scenario c.accesses) (svg_text t c) drawn.0 drawn.1 drawn.2
@@ -145,11 +158,19 @@ rows_content (a ∷ accesses) = joined (access_row a) (flat_map access_row acces
 pub accesses_content : (accesses : List Access) → IsContent (accesses_part accesses)
 accesses_content [] = text [] no_text
 accesses_content (a ∷ accesses) =
-    let rows : List ℕ = access_heads ++ flat_map access_row (a ∷ accesses) in
-    below accesses_heading (table rows) (proved_parts_are_content.table rows (joined access_heads (flat_map access_row (a ∷ accesses)) heads_content (rows_content (a ∷ accesses))))
+    let rows : List ℕ = flat_map access_row (a ∷ accesses) in
+    let count : ℕ = length (a ∷ accesses) in
+    below accesses_heading (rows_told count rows)
+    (cond_both (nat_lt room_for_rows (length rows)) (no_room count (codes "accesses") (codes "byzlab play prints them in the chronicle.")) (table (access_heads ++ rows)) IsContent
+    (λ _. left_content count (codes "accesses") (codes "byzlab play prints them in the chronicle."))
+    (λ _. proved_parts_are_content.table (access_heads ++ rows) (joined access_heads rows heads_content (rows_content (a ∷ accesses)))))
 
 pub chronicle_content : (words : List ℕ) → IsContent (chronicle_shown words)
-chronicle_content words = below chronicle_heading (lines (flat_map encode_utf8 words)) (proved_parts_are_content.lines (flat_map encode_utf8 words))
+chronicle_content words =
+    let shown : List ℕ = lines (flat_map encode_utf8 words) in
+    below chronicle_heading (chronicle_lines words)
+    (cond_both (nat_lt room_for_chronicle (length words)) (no_room (length words) (codes "bytes") (codes "byzlab play prints the chronicle.")) shown IsContent
+    (λ _. left_content (length words) (codes "bytes") (codes "byzlab play prints the chronicle.")) (λ _. proved_parts_are_content.lines (flat_map encode_utf8 words)))
 
 pub verdict_content : (v : Verdict) (bound : List ℕ) → IsContent (verdict_told v bound)
 verdict_content v bound =

@@ -1,5 +1,5 @@
 -- A campaign as a page of HTML, section by section.
-use Rattle.std.specs.Prelude.{ℕ, ◌==◌, nat_lt, Bool, true, false, if◌then◌else◌, List, [], ◌∷◌, ◌++◌, flat_map, codes, encode_utf8, Option, None, Some}
+use Rattle.std.specs.Prelude.{ℕ, ◌==◌, nat_lt, Bool, true, false, if◌then◌else◌, List, [], ◌∷◌, ◌++◌, length, flat_map, codes, encode_utf8, Option, None, Some}
 use Rattle.std.specs.Fmt.{decimal}
 use Rattle.std.specs.List.{range_with_len}
 use Rattle.board.specs.Board.{Access}
@@ -14,6 +14,7 @@ use Rattle.drawing.specs.declared.node.View.{View}
 use Rattle.explain.specs.Explained.{explained_at}
 use Rattle.explore.specs.Text.{schedule_text}
 use Rattle.insn.specs.declared.insn.Insn.{Insn}
+use Rattle.insn.specs.Program.{slots_of}
 use Rattle.label.specs.Labels.{on}
 use Rattle.page.specs.Page.{begun_lines, cell, fold, head, heading, lines, page, paragraph, picture, row, table}
 use Rattle.retold.specs.Retold.{traitors_of}
@@ -23,6 +24,7 @@ use Rattle.world.specs.Chronicle.{Chronicle}
 use Rattle.world.specs.declared.schedule.Repeat.{Repeat}
 use Rattle.world.specs.declared.verdict.Verdict.{Verdict}
 use Rattle.campaign_page.specs.Calls.{named_calls}
+use Rattle.campaign_page.specs.Room.{narrow_sheet, no_room, room_for_chronicle, room_for_picture, room_for_rows, room_for_units}
 use Rattle.campaign_page.specs.Trees.{tree_told}
 
 -- ---- headings
@@ -82,12 +84,18 @@ course_told (Some schedule) = schedule_told schedule
 abbrev pub schedule_part : Option (List (List Repeat)) → List ℕ
 schedule_part schedule = heading schedule_heading ++ course_told schedule
 
--- the program of a traitor, and what the verifier knows of it
+-- the program of a traitor, and what the verifier knows of it, if there is room
 abbrev pub general_name : ℕ → List ℕ
 general_name g = codes "General " ++ decimal g
 
+abbrev pub explained_told : List Insn → List ℕ
+explained_told program =
+    if nat_lt room_for_units (length (slots_of program))
+    then no_room (length (slots_of program)) (codes "units") (codes "byzlab check --explain tells what is known of them.")
+    else begun_lines (explained_at (named_calls program) program)
+
 abbrev pub program_told : ℕ → List Insn → List ℕ
-program_told g program = fold (general_name g) (begun_lines (explained_at (named_calls program) program))
+program_told g program = fold (general_name g) (explained_told program)
 
 abbrev pub program_if : ℕ → Option (List Insn) → List ℕ
 program_if g None = []
@@ -106,21 +114,29 @@ programs_told (c ∷ cs) = c ∷ cs
 abbrev pub programs_part : Scenario → List ℕ
 programs_part s = heading programs_heading ++ programs_told (flat_map (program_part s) (range_with_len 0 s.generals))
 
--- the picture; on paper one of more than this width has a wide sheet, since a narrow one would make its letters too
+-- the picture, if there is room; on paper a wide one has a wide sheet, since a narrow one would make its letters too
 -- small to be read
 abbrev pub is_wide : Scenario → List Access → Bool
-is_wide s accesses = nat_lt 1300 (width s.generals accesses)
+is_wide s accesses = nat_lt narrow_sheet (width s.generals accesses)
+
+abbrev pub hinted : Bool → List ℕ → List ℕ
+hinted is_wide svg = paragraph picture_hint ++ picture is_wide picture_name svg
+
+abbrev pub drawn_told : Bool → List ℕ → List ℕ
+drawn_told is_wide svg =
+    if nat_lt room_for_picture (length svg)
+    then no_room (length svg) (codes "bytes") (codes "byzlab draw writes the picture.") else hinted is_wide svg
 
 abbrev pub picture_told : Bool → List ℕ → List ℕ
-picture_told is_wide svg = heading picture_heading ++ paragraph picture_hint ++ picture is_wide picture_name svg
+picture_told is_wide svg = heading picture_heading ++ drawn_told is_wide svg
 
 abbrev pub picture_part : MessageTable → Chronicle → List ℕ
 picture_part t c = picture_told (is_wide c.scenario c.accesses) (svg_text t c)
 
--- what a lieutenant decides, his tree, three levels below the commander's, and shorter where all tell the same, and how
--- his decision comes about
+-- what a lieutenant decides, his tree, two levels below the commander's, and shorter where all tell the same, and how his
+-- decision comes about
 abbrev pub view_of : Scenario → View
-view_of s = record { depth = 3; folds = true; order = Some s.order }
+view_of s = record { depth = 2; folds = true; order = Some s.order }
 
 abbrev pub traitor_words : Bool → List ℕ
 traitor_words is_traitor = if is_traitor then codes ", a traitor," else []
@@ -149,7 +165,7 @@ abbrev pub lieutenants_part : MessageTable → List ℕ → View → List ℕ
 lieutenants_part t traitors view =
     heading lieutenants_heading ++ flat_map (lieutenant_part t traitors view) (range_with_len 0 t.generals)
 
--- the accesses, in the board's order, if there are any: a table with a row for each
+-- the accesses, in the board's order, if there are any: a table with a row for each, if there is room
 abbrev pub access_heads : List ℕ
 access_heads = row (head (codes "Round") ++ head (codes "General") ++ head (codes "What he does")
     ++ head (codes "What the board answers"))
@@ -158,13 +174,26 @@ abbrev pub access_row : Access → List ℕ
 access_row a = row (cell (decimal a.round) ++ cell (decimal a.general) ++ cell (asked_words a.request)
     ++ cell (answered_words a.reply))
 
+abbrev pub rows_told : ℕ → List ℕ → List ℕ
+rows_told count rows =
+    if nat_lt room_for_rows (length rows)
+    then no_room count (codes "accesses") (codes "byzlab play prints them in the chronicle.")
+    else table (access_heads ++ rows)
+
 abbrev pub accesses_part : List Access → List ℕ
 accesses_part [] = []
-accesses_part (a ∷ accesses) = heading accesses_heading ++ table (access_heads ++ flat_map access_row (a ∷ accesses))
+accesses_part (a ∷ accesses) =
+    heading accesses_heading ++ rows_told (length (a ∷ accesses)) (flat_map access_row (a ∷ accesses))
 
--- the chronicle, each of its bytes as a character
+-- the chronicle, each of its bytes as a character, if there is room
+abbrev pub chronicle_lines : List ℕ → List ℕ
+chronicle_lines text =
+    if nat_lt room_for_chronicle (length text)
+    then no_room (length text) (codes "bytes") (codes "byzlab play prints the chronicle.")
+    else lines (flat_map encode_utf8 text)
+
 abbrev pub chronicle_shown : List ℕ → List ℕ
-chronicle_shown text = heading chronicle_heading ++ lines (flat_map encode_utf8 text)
+chronicle_shown text = heading chronicle_heading ++ chronicle_lines text
 
 abbrev pub chronicle_part : Chronicle → List ℕ
 chronicle_part c = chronicle_shown (chronicle_text c)

@@ -1,9 +1,10 @@
 //! A campaign as a page.
 ghost use Rattle.std.specs.Prelude.{◌≡◌, ◌++◌, encode_utf8, flat_map, option_map, string_bytes, IfOk, OnOk};
-ghost use Rattle.campaign_page.specs.Account.{picture_hint, picture_name, chronicle_heading, picture_heading, scenario_heading, chronicle_shown, chronicle_part, page_text, is_wide, parts, picture_part, picture_told, scenario_part, title, title_words};
+ghost use Rattle.campaign_page.specs.Account.{picture_hint, picture_name, chronicle_heading, picture_heading, scenario_heading, chronicle_lines, chronicle_shown, chronicle_part, drawn_told, page_text, is_wide, parts, picture_part, picture_told, scenario_part, title, title_words};
 ghost use Rattle.trace.specs.Text.{chronicle_text};
 
 use crate::accesses::put_accesses;
+use crate::room::{NARROW_SHEET, ROOM_FOR_CHRONICLE, ROOM_FOR_PICTURE, put_no_room};
 use crate::schedule::put_schedule;
 use crate::sections::{put_lieutenants, put_programs_of};
 use crate::verdict::put_verdict;
@@ -116,21 +117,37 @@ fn put_diagram<H: Heard>(
 {
     let svg = campaign_svg(alloc, table, chronicle)?;
     let wide = is_wide(alloc, chronicle.scenario(), chronicle.accesses())?;
-    put_svg(out, wide, svg.as_str())
+    put_svg(alloc, out, wide, svg.as_str())
 }
 
 /// Whether the picture of a campaign with these accesses has a wide sheet on paper.
 pub fn is_wide(alloc: Global, scenario: &Scenario, accesses: &[Access]) -> Result<bool, AllocError>
     ensures { IfOk result (λ wide. wide ≡ is_wide scenario.now accesses.now) }
 {
-    Ok(width(alloc, scenario.generals(), accesses)? > 1300)
+    Ok(width(alloc, scenario.generals(), accesses)? > NARROW_SHEET)
 }
 
-/// Adds where this picture is to be had alone, and the picture.
-pub fn put_svg(out: &mut String, is_wide: bool, svg: &str) -> Result<(), AllocError>
+/// Adds where this picture is to be had alone, and the picture, or how long it is, if there is no room.
+pub fn put_svg(alloc: Global, out: &mut String, is_wide: bool, svg: &str) -> Result<(), AllocError>
     ensures { OnOk result (string_bytes out.new ≡ string_bytes out.old ++ picture_told is_wide svg.now) }
 {
     put_heading(out, picture_heading())?;
+    put_drawn(alloc, out, is_wide, svg)
+}
+
+/// Adds the picture below its heading, or how long it is.
+fn put_drawn(alloc: Global, out: &mut String, is_wide: bool, svg: &str) -> Result<(), AllocError>
+    ensures { OnOk result (string_bytes out.new ≡ string_bytes out.old ++ drawn_told is_wide svg.now) }
+{
+    if svg.len() > ROOM_FOR_PICTURE {
+        return put_no_room(
+            alloc,
+            out,
+            svg.len(),
+            "bytes",
+            "byzlab draw writes the picture.",
+        );
+    }
     put_paragraph(out, picture_hint())?;
     put_picture(out, is_wide, picture_name(), svg)
 }
@@ -143,12 +160,28 @@ fn put_chronicle(alloc: Global, out: &mut String, chronicle: &Chronicle) -> Resu
     put_chronicle_text(alloc, out, text.as_slice())
 }
 
-/// Adds a chronicle of this text.
+/// Adds a chronicle of this text, or how long it is, if there is no room.
 pub fn put_chronicle_text(alloc: Global, out: &mut String, text: &[u8]) -> Result<(), AllocError>
     ensures { OnOk result (string_bytes out.new ≡ string_bytes out.old ++ chronicle_shown text.now) }
 {
-    let text = text_of(alloc, text)?;
     put_heading(out, chronicle_heading())?;
+    put_chronicle_lines(alloc, out, text)
+}
+
+/// Adds its lines, or how long it is.
+fn put_chronicle_lines(alloc: Global, out: &mut String, text: &[u8]) -> Result<(), AllocError>
+    ensures { OnOk result (string_bytes out.new ≡ string_bytes out.old ++ chronicle_lines text.now) }
+{
+    if text.len() > ROOM_FOR_CHRONICLE {
+        return put_no_room(
+            alloc,
+            out,
+            text.len(),
+            "bytes",
+            "byzlab play prints the chronicle.",
+        );
+    }
+    let text = text_of(alloc, text)?;
     put_lines(out, text.as_str())
 }
 

@@ -7,6 +7,7 @@ mod account;
 mod calls;
 mod laws;
 mod listing;
+mod room;
 mod schedule;
 mod sections;
 mod verdict;

@@ -1,13 +1,14 @@
 //! Sections with a part for each general.
 ghost use Rattle.std.specs.Prelude.{◌≡◌, ◌<◌, ◌++◌, flat_map, option_map, string_bytes, IfOk, OnOk};
 ghost use Rattle.std.specs.List.{range_with_len};
-ghost use Rattle.campaign_page.specs.Account.{lieutenants_heading, no_programs, programs_heading, programs_told, lieutenant_part, lieutenant_words, lieutenants_part, program_part, program_told, programs_part, traitor_words, why_part, elsewhere_words, general_name, view_of};
+ghost use Rattle.campaign_page.specs.Account.{lieutenants_heading, no_programs, programs_heading, programs_told, lieutenant_part, lieutenant_words, lieutenants_part, explained_told, program_part, program_told, programs_part, traitor_words, why_part, elsewhere_words, general_name, view_of};
 ghost use Rattle.label.specs.Labels.{on};
 ghost use Rattle.retold.specs.Retold.{traitors_of};
 ghost use Rattle.roster.specs.Scenario.{program_of};
 
 use crate::calls::explanation;
 use crate::listing::put_tree;
+use crate::room::{ROOM_FOR_UNITS, put_no_room};
 use book::{Heard, decision, explain_one};
 use drawing::View;
 use insn::Program;
@@ -96,11 +97,28 @@ fn put_program(
 ) -> Result<(), AllocError>
     ensures { OnOk result (string_bytes out.new ≡ string_bytes out.old ++ program_told general program.now) }
 {
-    let told = explanation(alloc, program)?;
     let name = general_name(alloc, general)?;
     put_fold_start(out, name.as_str())?;
-    put_begun_lines(out, told.as_str())?;
+    put_explained(alloc, out, program)?;
     put_fold_end(out)
+}
+
+/// Adds what the verifier knows of a program, or how many units it has, if there is no room.
+fn put_explained(alloc: Global, out: &mut String, program: &Program) -> Result<(), AllocError>
+    ensures { OnOk result (string_bytes out.new ≡ string_bytes out.old ++ explained_told program.now) }
+{
+    let units = program.units();
+    if units > ROOM_FOR_UNITS {
+        return put_no_room(
+            alloc,
+            out,
+            units,
+            "units",
+            "byzlab check --explain tells what is known of them.",
+        );
+    }
+    let told = explanation(alloc, program)?;
+    put_begun_lines(out, told.as_str())
 }
 
 /// A general's name.
@@ -178,7 +196,7 @@ fn view_of(scenario: &Scenario) -> View
     ensures { result ≡ view_of scenario.now }
 {
     View {
-        depth: 3,
+        depth: 2,
         folds: true,
         order: Some(scenario.order()),
     }

@@ -1,10 +1,10 @@
 -- Each thing that a lieutenant was told has one stroke.
 use Rattle.std.proofs.Common.{ℕ, zero, suc, ◌+◌, ◌-◌, ◌≤◌, ◌≡◌, ◌≢◌, Bool, true, false, ◌&&◌, ◌||◌, cond, List, [], ◌∷◌, ◌++◌, length, length-append, refl, sym, ap, ◌∙◌, append_assoc, append-nil, arith, inl, inr}
 use Rattle.std.proofs.Math.Seq.{take-append_seam}
-use Rattle.std.proofs.lemmas.Bool.{cases_Bool, cond-false, cond_both, eq-eqb, ne_eqb}
+use Rattle.std.proofs.lemmas.Bool.{cases_Bool, cond-false, cond_both, eq-eqb, le-leb, lt-leb, ltb-false, ltb-true, ne_eqb}
 use Rattle.std.proofs.lemmas.List.Elements.{All-from_recursion}
 use Rattle.std.proofs.lemmas.List.Folds.{list_any-append}
-use Rattle.std.proofs.lemmas.List.Sums.{sum_by-append}
+use Rattle.std.proofs.lemmas.List.Sums.{sum_by-append, sum_by-cons}
 use Rattle.std.specs.Prelude.{◌==◌, count_by, if◌then◌else◌, take}
 use Rattle.std.specs.List.{AllByRecursion, list_any}
 use Rattle.label.proofs.Places.{all-append}
@@ -13,6 +13,7 @@ use Rattle.diagram.specs.declared.stroke.Stroke.{Stroke}
 use Rattle.diagram.specs.declared.telling.Telling.{Telling}
 use Rattle.diagram.proofs.Sameness.{same_is}
 use Rattle.diagram.specs.Facts.{added, is_before, is_same, made, strokes_below, strokes_of, strokes_to, strokes_with, tellings_of}
+use Rattle.diagram.specs.Left.{has_row, is_left, most_rows, with_rows}
 use Rattle.diagram.specs.Laws.{StrokesAreExact, is_of, labels_told}
 
 -- ---- how many
@@ -151,6 +152,29 @@ all_wide t order (suc k) =
     cond_both (k == t.commander) done (strokes_below k (tellings_of t order k) 0 done (tellings_of t order k)) (AllByRecursion (IsWide t order)) (λ _. all_wide t order k)
     (λ _. below_wide t order k 0 done (tellings_of t order k) (all_wide t order k))
 
+-- ---- none is lost
+
+head_count : (f : Stroke → Bool) (x : Stroke) (xs : List Stroke) → count_by f (x ∷ xs) ≡ cond {A = ℕ} (f x) 1 0 + count_by f xs
+head_count f x xs = sum_by-cons (λ y. cond (f y) 1 0) x xs
+
+kept : (strokes : List Stroke) (round p : ℕ) → count_by (is_before round p) (with_rows strokes) + count_by (is_left round p) strokes ≡ count_by (is_before round p) strokes
+kept [] round p = refl
+kept (x ∷ xs) round p =
+    let f : Stroke → Bool = is_before round p in
+    let rest = kept xs round p in
+    let left = head_count (is_left round p) x xs in
+    let whole = head_count f x xs in
+    elim (cases_Bool (has_row x)) [
+      | inl within ↦
+          let first : count_by f (with_rows (x ∷ xs)) ≡ cond {A = ℕ} (f x) 1 0 + count_by f (with_rows xs) = ap (λ b. count_by f (cond b (x ∷ with_rows xs) (with_rows xs))) within ∙ head_count f x (with_rows xs) in
+          let none : cond {A = ℕ} (is_left round p x) 1 0 ≡ 0 = ap (λ b. cond {A = ℕ} (b && f x) 1 0) (lt-leb most_rows x.row (ltb-true x.row most_rows within)) in
+          omega arith
+      | inr past ↦
+          let first : count_by f (with_rows (x ∷ xs)) ≡ count_by f (with_rows xs) = ap (λ b. count_by f (cond b (x ∷ with_rows xs) (with_rows xs))) past in
+          let one : cond {A = ℕ} (is_left round p x) 1 0 ≡ cond {A = ℕ} (f x) 1 0 = ap (λ b. cond {A = ℕ} (b && f x) 1 0) (le-leb most_rows x.row (ltb-false x.row most_rows past)) in
+          omega arith
+    ]
+
 pub proved_strokes_are_exact : StrokesAreExact
 unfolding strokes_of
 proved_strokes_are_exact = record {
@@ -158,4 +182,5 @@ proved_strokes_are_exact = record {
       let whole : t.generals ≡ (t.generals - suc p) + suc p = omega arith in
       ap (λ (k : ℕ). count_by (is_of p telling) (strokes_to t order k)) whole ∙ behind p telling t order lieutenant (t.generals - suc p);
   wide = λ t order. All-from_recursion (IsWide t order) (strokes_of t order) (all_wide t order t.generals);
+  none_lost = kept;
 }

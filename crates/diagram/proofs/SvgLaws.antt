@@ -1,7 +1,7 @@
 -- Pictures are elements of XML.
 use Rattle.std.proofs.Common.{ℕ, ◌+◌, ◌-◌, ◌*◌, ◌≡◌, Bool, true, false, List, [], ◌∷◌, ◌++◌, Option, Some, None, refl, sym, ap, ◌∙◌, subst, append_assoc, append-nil}
 use Rattle.std.proofs.lemmas.Bool.{cond_both}
-use Rattle.std.specs.Prelude.{codes, ◌==◌, min, slice_get}
+use Rattle.std.specs.Prelude.{codes, count_by, ◌==◌, min, slice_get}
 use Rattle.std.specs.Fmt.{decimal}
 use Rattle.std.specs.List.{flat_map, range_with_len}
 use Rattle.markup.specs.Grammar.{IsText, no_text, no_attributes, attributed, IsTag, IsContent, text, nested, alone, joined, is_name}
@@ -20,6 +20,7 @@ use Rattle.diagram.specs.Foot.{alike_words, bound_words, decided, decided_all, d
 use Rattle.diagram.specs.Laws.{DiagramsAreElements}
 use Rattle.diagram.specs.Legend.{differs_meaning, legend, legend_of, marks_words, meaning_at, missing_meaning, told_meaning, wide_meaning}
 use Rattle.diagram.specs.Layout.{access_top, board, column, fan_top, height, rows_top, top_of, width}
+use Rattle.diagram.specs.Left.{is_left, is_left_lie, left_in_full, left_words, more_at, more_of, more_told, more_top, mores, mores_in, with_rows}
 use Rattle.diagram.specs.Shapes.{group_at, group_start, line, mark, stroke_at, stroke_open, stroke_way, text_at, text_start, title}
 use Rattle.diagram.specs.Svg.{board_head, box_words, campaign_words, description, general_head, head, head_of, heads, key, key_end, look, picture, start, svg_text}
 use Rattle.diagram.specs.Words.{access_words, answer_words, asked_words, copied_words, copy_words, differs_words, from_words, general_words, in_full, is_copy, kind, kind_of, labels_words, order_words, outline, outline_of, role_words, row_words, shown_words, stroke_words, swap_words, tells_words, word_words}
@@ -405,6 +406,46 @@ band_content : (n : ℕ) (strokes : List Stroke) (accesses : List Access) (wide 
 band_content n strokes accesses wide before =
     group_content 0 (top_of n strokes accesses before) (inside n strokes accesses wide (before + 1)) (inside_content n strokes accesses wide (before + 1))
 
+-- ---- what is not drawn
+
+left_text : (left lies : ℕ) → IsText (left_words left lies)
+unfolding left_words
+left_text left lies =
+    many (codes "and ") (decimal left ++ (codes " more, " ++ (decimal lies ++ codes " dishonest"))) (bare_text (codes "and ") refl)
+    (many (decimal left) (codes " more, " ++ (decimal lies ++ codes " dishonest")) (decimal_text left)
+    (many (codes " more, ") (decimal lies ++ codes " dishonest") (bare_text (codes " more, ") refl)
+    (many (decimal lies) (codes " dishonest") (decimal_text lies) (bare_text (codes " dishonest") refl))))
+
+left_full_text : (p round left lies : ℕ) → IsText (left_in_full p round left lies)
+unfolding left_in_full
+left_full_text p round left lies =
+    let last : List ℕ = codes " of them an honest relay would tell something else" in
+    let four : List ℕ = codes ", which are not drawn: in place of " ++ (decimal lies ++ last) in
+    let three : List ℕ = codes " things more in round " ++ (decimal round ++ four) in
+    let two : List ℕ = codes " was told " ++ (decimal left ++ three) in
+    many (codes "general ") (decimal p ++ two) (bare_text (codes "general ") refl)
+    (many (decimal p) two (decimal_text p)
+    (many (codes " was told ") (decimal left ++ three) (bare_text (codes " was told ") refl)
+    (many (decimal left) three (decimal_text left)
+    (many (codes " things more in round ") (decimal round ++ four) (bare_text (codes " things more in round ") refl)
+    (many (decimal round) four (decimal_text round)
+    (many (codes ", which are not drawn: in place of ") (decimal lies ++ last) (bare_text (codes ", which are not drawn: in place of ") refl)
+    (many (decimal lies) last (decimal_text lies) (bare_text last refl))))))))
+
+more_content : (top round p left lies : ℕ) → IsContent (more_at top round p left lies)
+more_content top round p left lies =
+    let full : List ℕ = left_in_full p round left lies in
+    let below : List ℕ = left_words left lies in
+    cond_both (left == 0) [] (group_at (column p) top (more_told p round left lies)) IsContent (λ _. text [] no_text)
+    (λ _. group_content (column p) top (title full ++ text_at (codes "small") 12 4 below)
+    (joined (title full) (text_at (codes "small") 12 4 below) (title_content full (left_full_text p round left lies)) (text_content (codes "small") 12 4 below small (left_text left lies))))
+
+mores_content : (n : ℕ) (strokes drawn : List Stroke) (accesses : List Access) (rounds : ℕ) → IsContent (mores n strokes drawn accesses rounds)
+mores_content n strokes drawn accesses rounds =
+    all (mores_in n strokes drawn accesses) (range_with_len 0 rounds)
+    (λ before. all (more_of strokes (more_top n drawn accesses before) (before + 1)) (range_with_len 0 n)
+    (λ p. more_content (more_top n drawn accesses before) (before + 1) p (count_by (is_left (before + 1) p) strokes) (count_by (is_left_lie (before + 1) p) strokes)))
+
 -- ---- the foot
 
 pub name : IsText (codes "name")
@@ -597,18 +638,22 @@ unfolding svg_text
 proved_diagrams_are_elements t c =
     let s : Scenario = c.scenario in
     let strokes : List Stroke = strokes_of t s.order in
-    let bottom : ℕ = top_of s.generals strokes c.accesses (s.bound + 1) in
+    let drawn : List Stroke = with_rows strokes in
+    let bottom : ℕ = top_of s.generals drawn c.accesses (s.bound + 1) in
     let wide : ℕ = width s.generals c.accesses in
     let w : ℕ = wide + 16 in
     let h : ℕ = bottom + 230 in
     let a : List ℕ = head s c.accesses in
     let b : List ℕ = heads s c.accesses in
-    let d : List ℕ = bands s.generals strokes c.accesses wide (s.bound + 1) in
+    let d : List ℕ = bands s.generals drawn c.accesses wide (s.bound + 1) in
+    let m : List ℕ = mores s.generals strokes drawn c.accesses (s.bound + 1) in
     let e : List ℕ = foot c wide bottom in
-    let inside : List ℕ = a ++ b ++ d ++ e in
+    let inside : List ℕ = a ++ b ++ d ++ m ++ e in
     let is : IsContent inside =
-    joined (a ++ b ++ d) e
-    (joined (a ++ b) d (joined a b (head_content s c.accesses) (heads_content s c.accesses)) (all (band s.generals strokes c.accesses wide) (range_with_len 0 (s.bound + 1)) (band_content s.generals strokes c.accesses wide)))
+    joined (a ++ b ++ d ++ m) e
+    (joined (a ++ b ++ d) m
+    (joined (a ++ b) d (joined a b (head_content s c.accesses) (heads_content s c.accesses)) (all (band s.generals drawn c.accesses wide) (range_with_len 0 (s.bound + 1)) (band_content s.generals drawn c.accesses wide)))
+    (mores_content s.generals strokes drawn c.accesses (s.bound + 1)))
     (foot_content c wide bottom) in (
       element (codes "svg") (attributes (decimal w) (decimal h)) (codes "\n" ++ inside),
       record {

@@ -1,5 +1,5 @@
 -- Laws of what is drawn. Each is the contract of a function of this crate.
-use Rattle.std.specs.Prelude.{ℕ, ◌≡◌, ◌≢◌, ◌<◌, ◌==◌, ◌&&◌, Bool, false, if◌then◌else◌, List, [], ◌∷◌, ◌++◌, count_by, codes, Some}
+use Rattle.std.specs.Prelude.{ℕ, ◌+◌, ◌≡◌, ◌≢◌, ◌<◌, ◌==◌, ◌&&◌, Bool, false, if◌then◌else◌, List, [], ◌∷◌, ◌++◌, count_by, codes, Some}
 use Rattle.std.specs.List.{All, list_any}
 use Rattle.label.specs.Oral.{taken}
 use Rattle.markup.specs.Grammar.{IsElement}
@@ -13,7 +13,8 @@ use Rattle.world.specs.World.{opening, run}
 use Rattle.world.specs.declared.event.Event.{Event}
 use Rattle.diagram.specs.declared.stroke.Stroke.{Stroke}
 use Rattle.diagram.specs.declared.telling.Telling.{Telling}
-use Rattle.diagram.specs.Facts.{is_same, strokes_of, telling_at, tellings_of}
+use Rattle.diagram.specs.Facts.{is_before, is_same, strokes_of, telling_at, tellings_of}
+use Rattle.diagram.specs.Left.{is_left, with_rows}
 use Rattle.diagram.specs.Svg.{svg_text}
 use Rattle.diagram.specs.Words.{kind}
 
@@ -55,10 +56,14 @@ abbrev pub labels_told : MessageTable → ℕ → Stroke → ℕ
 labels_told t order stroke = count_by (is_same (told_by stroke)) (tellings_of t order stroke.receiver)
 
 -- of all labels of a round of which one general told a lieutenant the same there is one stroke, and none of what he was
--- not told; and each is as wide as it has labels
+-- not told; each is as wide as it has labels; and of a list those that are drawn, and those of which is told how many
+-- they are, make all
 pub record StrokesAreExact : Type 0 where
   pub once : (t : MessageTable) (order p : ℕ) (telling : Telling) → p < t.generals → p ≢ t.commander →
       count_by (is_of p telling) (strokes_of t order)
       ≡ (if list_any (is_same telling) (tellings_of t order p) then 1 else 0)
   pub wide : (t : MessageTable) (order : ℕ) →
       All (λ stroke. stroke.labels ≡ labels_told t order stroke) (strokes_of t order)
+  pub none_lost : (strokes : List Stroke) (round p : ℕ) →
+      count_by (is_before round p) (with_rows strokes) + count_by (is_left round p) strokes
+      ≡ count_by (is_before round p) strokes

@@ -3,6 +3,7 @@ pub mod Words
 pub mod Shapes
 pub mod Layout
 pub mod Bands
+pub mod Left
 pub mod Legend
 pub mod Foot
 pub mod Svg

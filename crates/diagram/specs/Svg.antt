@@ -10,6 +10,7 @@ use Rattle.diagram.specs.declared.stroke.Stroke.{Stroke}
 use Rattle.diagram.specs.Bands.{bands}
 use Rattle.diagram.specs.Facts.{strokes_of}
 use Rattle.diagram.specs.Foot.{foot, shape_of, sort_of}
+use Rattle.diagram.specs.Left.{mores, with_rows}
 use Rattle.diagram.specs.Layout.{board, column, top_of, width}
 use Rattle.diagram.specs.Shapes.{group_at, mark, text_at, title}
 use Rattle.diagram.specs.Words.{copied_words, general_words, role_words}
@@ -84,15 +85,17 @@ heads s accesses = board_head s.generals accesses ++ flat_map (head_of s) (range
 abbrev pub picture : ℕ → ℕ → List ℕ → List ℕ
 picture w h inside = start ++ box_words w h ++ inside ++ codes "</svg>\n"
 
--- the picture with these strokes
-abbrev pub svg_with : List Stroke → Chronicle → List ℕ
-svg_with strokes c =
+-- the picture with these strokes, of which those are drawn
+abbrev pub svg_with : List Stroke → List Stroke → Chronicle → List ℕ
+svg_with strokes drawn c =
     let s = c.scenario in
-    let bottom = top_of s.generals strokes c.accesses (s.bound + 1) in
+    let bottom = top_of s.generals drawn c.accesses (s.bound + 1) in
     let wide = width s.generals c.accesses in
     picture (wide + 16) (bottom + 230)
-    (head s c.accesses ++ heads s c.accesses ++ bands s.generals strokes c.accesses wide (s.bound + 1) ++ foot c wide bottom)
+    (head s c.accesses ++ heads s c.accesses ++ bands s.generals drawn c.accesses wide (s.bound + 1)
+    ++ mores s.generals strokes drawn c.accesses (s.bound + 1)
+    ++ foot c wide bottom)
 
 -- the picture of a chronicle, whose letters tell this message table
 unfoldable pub svg_text : MessageTable → Chronicle → List ℕ
-svg_text t c = svg_with (strokes_of t c.scenario.order) c
+svg_text t c = svg_with (strokes_of t c.scenario.order) (with_rows (strokes_of t c.scenario.order)) c

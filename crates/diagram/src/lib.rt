@@ -7,6 +7,7 @@ mod facts;
 pub mod foot;
 mod laws;
 pub mod layout;
+mod left;
 pub mod legend;
 pub mod shapes;
 mod stroke;

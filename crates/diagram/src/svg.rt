@@ -9,6 +9,7 @@ use crate::bands::put_bands;
 use crate::facts::strokes;
 use crate::foot::{put_foot, shape_of, sort_of};
 use crate::layout::{board, column, top_of, width};
+use crate::left::{put_mores, with_rows};
 use crate::shapes::{
     put_group_end, put_group_start, put_mark, put_text_end, put_text_start, put_title_end,
     put_title_start, put_words,
@@ -37,10 +38,11 @@ pub fn campaign_svg<H: Heard>(
     let scenario = chronicle.scenario();
     let accesses = chronicle.accesses();
     let strokes = strokes(alloc, table, scenario.order())?;
+    let drawn = with_rows(alloc, strokes.as_slice())?;
     let generals = scenario.generals();
     let rounds = scenario.bound() + 1;
     let wide = width(alloc, generals, accesses)?;
-    let bottom = top_of(generals, strokes.as_slice(), accesses, rounds);
+    let bottom = top_of(generals, drawn.as_slice(), accesses, rounds);
     let mut text = String::from_str(alloc, start())?;
     put_box(&mut text, wide + 16, bottom + 230)?;
     put_head(&mut text, scenario, accesses)?;
@@ -48,9 +50,17 @@ pub fn campaign_svg<H: Heard>(
     put_bands(
         &mut text,
         generals,
-        strokes.as_slice(),
+        drawn.as_slice(),
         accesses,
         wide,
+        rounds,
+    )?;
+    put_mores(
+        &mut text,
+        generals,
+        strokes.as_slice(),
+        drawn.as_slice(),
+        accesses,
         rounds,
     )?;
     put_foot(&mut text, chronicle, wide, bottom)?;

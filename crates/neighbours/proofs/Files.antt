@@ -1,9 +1,8 @@
 -- The files that are asked for, one after the other.
-use Rattle.std.proofs.Common.{◌≡◌, ◌∙◌, ℕ, ◌+◌, ◌<◌, List, [], ◌∷◌, ◌++◌, length, get_or, take, sym, ap, string_bytes, subst}
-use Rattle.std.specs.Prelude.{Contains, IfSome, Option, None, Some}
+use Rattle.std.proofs.Common.{◌≡◌, ◌∙◌, ℕ, ◌+◌, ◌<◌, List, [], ◌∷◌, ◌++◌, length, get_or, take, drop, sym, ap, string_bytes, subst}
+use Rattle.std.specs.Prelude.{IfSome, Option, None, Some}
 use Rattle.std.specs.List.{AllZip}
-use Rattle.std.proofs.lemmas.List.{take_more}
-use Rattle.std.proofs.lemmas.List.Elements.{Contains-get_or}
+use Rattle.std.proofs.lemmas.List.{drop_more, take-append-drop, take_more}
 use Rattle.std.proofs.lemmas.Slice.Zip.{all_zipped_more}
 use Rattle.std.specs.declared.io.ErrorKind.{ErrorKind}
 use Rattle.streams.specs.Names.{shown}
@@ -31,11 +30,13 @@ files_on known asked i a files more f l ea h b e =
     let longer : take (i + 1) asked ≡ take i asked ++ a ∷ [] = take_more asked i a l ∙ ap (λ z. take i asked ++ z ∷ []) (sym ea) in
     rw (longer, e) (all_zipped_more (IsBeside known) (take i asked) files a f h b)
 
--- one of them is not taken
-pub untaken_of : (known : List ℕ → Option (List ℕ)) (fails : List ℕ → ErrorKind → Type 0) (asked : List Asked) (i : ℕ) (a : Asked) (e : Untaken) → i < length asked → a ≡ get_or asked i a
-    → IsUntakenOf known fails a e → IsUntaken known fails asked e
-untaken_of known fails asked i a (Told lines kind) l ea h = (a, subst (λ (x : Asked). Contains asked x) (sym ea) (Contains-get_or asked i a l), h)
-untaken_of known fails asked i a Memory l ea h = tt
+-- those before it are taken, and it is not
+pub untaken_of : (known : List ℕ → Option (List ℕ)) (fails : List ℕ → ErrorKind → Type 0) (asked : List Asked) (i : ℕ) (a : Asked) (files : List File) (e : Untaken) → i < length asked → a ≡ get_or asked i a
+    → AllZip (IsBeside known) (take i asked) files → IsUntakenOf known fails a e → IsUntaken known fails asked e
+untaken_of known fails asked i a files (Told lines kind) l ea taken h =
+    let rest : drop i asked ≡ a ∷ drop (i + 1) asked = drop_more asked i a l ∙ ap (λ x. x ∷ drop (i + 1) asked) (sym ea) in
+    (take i asked, a, drop (i + 1) asked, files, sym (take-append-drop i asked) ∙ ap (λ z. take i asked ++ z) rest, taken, h)
+untaken_of known fails asked i a files Memory l ea taken h = tt
 
 -- for its bytes, or a read that failed
 pub untaken_in : (known : List ℕ → Option (List ℕ)) (fails : List ℕ → ErrorKind → Type 0) (a : Asked) (bytes : List ℕ) (e : Untaken) → AreBytes known a.name bytes → IsUntakenIn a bytes e → IsUntakenOf known fails a e

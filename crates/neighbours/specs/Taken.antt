@@ -1,7 +1,9 @@
 -- The files that a scenario asks for, as they are taken, and what is told of one that is not (own).
-use Rattle.std.specs.Prelude.{ℕ, ◌≡◌, ◌⊎◌, List, ◌++◌, Option, None, Some, Ok, Err, IfSome, IsUtf8, Contains, codes, string_bytes}
+use Rattle.std.specs.Prelude.{ℕ, ◌≡◌, ◌⊎◌, List, ◌∷◌, ◌++◌, Option, None, Some, Ok, Err, IfSome, IsUtf8, codes, string_bytes}
+use Rattle.std.specs.List.{AllZip}
 use Rattle.std.specs.Fmt.{decimal}
 use Rattle.std.specs.declared.io.ErrorKind.{ErrorKind}
+use Rattle.std.specs.declared.io.ErrorKind.TheVariants.{OutOfMemory}
 use Rattle.hex.specs.Hex.{encode_lower}
 use Rattle.elf.specs.declared.fault.Fault.{Fault}
 use Rattle.elf.specs.Entry.{entry_of}
@@ -83,18 +85,19 @@ abbrev pub IsUntakenOf : (List ℕ → Option (List ℕ)) → (List ℕ → Erro
 IsUntakenOf known fails a (Told lines kind) = IsFaultOf known fails a (string_bytes lines) kind
 IsUntakenOf known fails a Memory = Unit {0}
 
--- the same of a read that failed so, and of these bytes
+-- the same of a read that failed so, which is want of memory only where it failed for that; and of these bytes
 abbrev pub IsUnread : Asked → ErrorKind → Untaken → Type 0
 IsUnread a failed (Told lines kind) =
     (kind ≡ Some failed) × IsNamed a (fault_told a (codes "read")) (string_bytes lines)
-IsUnread a failed Memory = Unit {0}
+IsUnread a failed Memory = failed ≡ OutOfMemory
 
 abbrev pub IsUntakenIn : Asked → List ℕ → Untaken → Type 0
 IsUntakenIn a bytes (Told lines kind) = (kind ≡ None) × IsFaultIn a bytes (string_bytes lines)
 IsUntakenIn a bytes Memory = Unit {0}
 
--- the same of one of those that are asked for
+-- the same of the first of those that are asked for which is not taken: the files before it are
 abbrev pub IsUntaken : (List ℕ → Option (List ℕ)) → (List ℕ → ErrorKind → Type 0) → List Asked → Untaken → Type 0
 IsUntaken known fails asked (Told lines kind) =
-    (a : Asked) × Contains asked a × IsFaultOf known fails a (string_bytes lines) kind
+    (before : List Asked) × (a : Asked) × (rest : List Asked) × (files : List File) × (asked ≡ before ++ a ∷ rest)
+    × AllZip (IsBeside known) before files × IsFaultOf known fails a (string_bytes lines) kind
 IsUntaken known fails asked Memory = Unit {0}

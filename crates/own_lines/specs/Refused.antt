@@ -1,5 +1,6 @@
 -- Why a scenario that names files is refused, told at its own lines and those of its files (own).
-use Rattle.std.specs.Prelude.{ℕ, ◌≡◌, ◌≢◌, List, [], ◌++◌, Option, None, Some, Ok, Err, IfSome, codes, unwrap_or}
+use Rattle.std.specs.Prelude.{ℕ, ◌≡◌, ◌≢◌, List, [], ◌++◌, Option, None, Some, Result, Ok, Err, IsErr, IfSome, codes, unwrap_or}
+use Rattle.std.specs.declared.alloc.AllocError.{AllocError}
 use Rattle.toml.specs.Parse.{parse_document}
 use Rattle.command_line.specs.declared.tasks.Account.TheVariants.{Chronicle, Table}
 use Rattle.command_line.specs.declared.tasks.Task.{Task}
@@ -37,6 +38,12 @@ Takes taken.Any text = (c : Campaign) × ReadsAny (parse_document text) (Ok c)
 abbrev pub IsErrorOf : Taken → List ℕ → Option ScenarioError → Type 0
 IsErrorOf kind text None = Takes kind text
 IsErrorOf kind text (Some error) = Refuses kind text error
+
+-- the error of a text that was read so, if it has one; or want of memory, where memory was refused alone
+abbrev pub IsErrorIn : {T : Type 0} → Result T ScenarioError → Result (Option ScenarioError) AllocError → Type 0
+IsErrorIn (Ok read) answer = answer ≡ Ok None
+IsErrorIn (Err Memory) answer = IsErr answer
+IsErrorIn (Err error) answer = answer ≡ Ok (Some error)
 
 -- the report shows the file's name; how one past ASCII with a control character is shown is not said
 abbrev pub IsReportShown : List ℕ → List ℕ → List ℕ → ScenarioError → List ℕ → Type 0

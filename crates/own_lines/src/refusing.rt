@@ -3,7 +3,7 @@ ghost use Rattle.std.specs.Prelude.{◌≡◌, ◌≢◌, IfOk, IfSome, None, op
 ghost use Rattle.std.specs.Str.{IsUtf8};
 ghost use Rattle.streams.specs.Names.{shown};
 ghost use Rattle.own_lines.specs.declared.refusing.Taken.TheVariants.{Any, Oral};
-ghost use Rattle.own_lines.specs.Refused.{IsErrorOf, IsRefusalShown, IsReportShown, IsTold, IsToldOf, taken_by};
+ghost use Rattle.own_lines.specs.Refused.{IsErrorIn, IsErrorOf, IsRefusalShown, IsReportShown, IsTold, IsToldOf, taken_by};
 
 use command_line::{Account, Task};
 use scenario::ScenarioError;
@@ -46,26 +46,29 @@ fn taken_by(task: &Task) -> Option<Taken>
     }
 }
 
-/// The error of a text of an oral campaign, if it has one.
-fn error_of_oral(alloc: Global, text: &str) -> Result<Option<ScenarioError>, AllocError>
-    ensures { IfOk result (IsErrorOf Oral text.now) }
+/// The error of a text that was read so, if it has one.
+fn error_in<T: Drop>(read: Result<T, ScenarioError>) -> Result<Option<ScenarioError>, AllocError>
+    ensures { IsErrorIn read result }
 {
-    match scenario::read(alloc, text) {
+    match read {
         Ok(_) => Ok(None),
         Err(ScenarioError::Memory) => Err(AllocError),
         Err(error) => Ok(Some(error)),
     }
 }
 
+/// The error of a text of an oral campaign, if it has one.
+fn error_of_oral(alloc: Global, text: &str) -> Result<Option<ScenarioError>, AllocError>
+    ensures { IfOk result (IsErrorOf Oral text.now) }
+{
+    error_in(scenario::read(alloc, text))
+}
+
 /// The error of a text of any campaign, if it has one.
 fn error_of_any(alloc: Global, text: &str) -> Result<Option<ScenarioError>, AllocError>
     ensures { IfOk result (IsErrorOf Any text.now) }
 {
-    match scenario::read_any(alloc, text) {
-        Ok(_) => Ok(None),
-        Err(ScenarioError::Memory) => Err(AllocError),
-        Err(error) => Ok(Some(error)),
-    }
+    error_in(scenario::read_any(alloc, text))
 }
 
 /// The error of a text of such a campaign, if it has one.

@@ -111,7 +111,7 @@ fn put_diagram(
 {
     let svg = signed_campaign_svg(alloc, chronicle)?;
     let wide = is_wide(alloc, chronicle.scenario(), chronicle.accesses())?;
-    put_svg(out, wide, svg.as_str())
+    put_svg(alloc, out, wide, svg.as_str())
 }
 
 /// Adds the chronicle.

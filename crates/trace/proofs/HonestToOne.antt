@@ -12,7 +12,7 @@ use Rattle.label.specs.Labels.{labels}
 use Rattle.label.specs.Oral.{om}
 use Rattle.semantics.specs.Execution.{step}
 use Rattle.roster.specs.Scenario.{Scenario}
-use Rattle.letter.specs.Contexts.{context_bytes}
+use Rattle.contexts.specs.Layout.{context_bytes}
 use Rattle.letter.specs.Letters.{messages}
 use Rattle.world.specs.Chronicle.{decisions}
 use Rattle.trace.specs.Text.{lines_in, text_in}

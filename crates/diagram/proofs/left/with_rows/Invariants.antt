@@ -1,0 +1,8 @@
+use Rattle.std.proofs.Common.{◌≡◌, take}
+use Rattle.std.specs.Prelude.{filter}
+use Rattle.diagram.specs.Left.{has_row}
+use Rattle.diagram.proofs.left.with_rows.Given as goal
+
+-- those of the strokes so far
+abbrev pub invariant-loop-stroke : goal.invariant-loop-stroke
+invariant-loop-stroke l = l.drawn.items ≡ filter has_row (take l.stroke-index l.strokes)

@@ -1,0 +1,68 @@
+-- The strokes that a picture has room for, and how many it has none for: of each list of what a lieutenant was told in
+-- a round those with the first rows.
+use Rattle.std.specs.Prelude.{ℕ, ◌+◌, ◌*◌, ◌==◌, ◌&&◌, nat_le, nat_lt, Bool, if◌then◌else◌, List, [], ◌++◌, codes, count_by, filter, flat_map}
+use Rattle.std.specs.Fmt.{decimal}
+use Rattle.std.specs.List.{range_with_len}
+use Rattle.board.specs.Board.{Access}
+use Rattle.diagram.specs.declared.stroke.Stroke.{Stroke}
+use Rattle.diagram.specs.Facts.{is_before}
+use Rattle.diagram.specs.Layout.{column, rows_top, top_of}
+use Rattle.diagram.specs.Shapes.{group_at, text_at, title}
+
+-- how many rows a list has at most
+abbrev pub most_rows : ℕ
+most_rows = 24
+
+-- which strokes are drawn
+abbrev pub has_row : Stroke → Bool
+has_row stroke = nat_lt stroke.row most_rows
+
+abbrev pub with_rows : List Stroke → List Stroke
+with_rows strokes = filter has_row strokes
+
+-- which of a round to p are not, and which of these an honest relay would not tell
+abbrev pub is_left : ℕ → ℕ → Stroke → Bool
+is_left round p stroke = nat_le most_rows stroke.row && is_before round p stroke
+
+abbrev pub is_left_lie : ℕ → ℕ → Stroke → Bool
+is_left_lie round p stroke = stroke.differs && is_left round p stroke
+
+-- how many they are, below the list; and the same for those who point at it, or hear it
+unfoldable pub left_words : ℕ → ℕ → List ℕ
+left_words left lies = codes "and " ++ (decimal left ++ (codes " more, " ++ (decimal lies ++ codes " dishonest")))
+
+unfoldable pub left_in_full : ℕ → ℕ → ℕ → ℕ → List ℕ
+left_in_full p round left lies = codes "general "
+    ++ (decimal p ++ (codes " was told " ++ (decimal left ++ (codes " things more in round "
+    ++ (decimal round ++ (codes ", which are not drawn: in place of "
+    ++ (decimal lies ++ codes " of them an honest relay would tell something else")))))))
+
+abbrev pub more_told : ℕ → ℕ → ℕ → ℕ → List ℕ
+more_told p round left lies =
+    title (left_in_full p round left lies) ++ text_at (codes "small") 12 4 (left_words left lies)
+
+-- at this height in the column of p, where there are any
+abbrev pub more_at : ℕ → ℕ → ℕ → ℕ → ℕ → List ℕ
+more_at top round p left lies =
+    if left == 0 then [] else group_at (column p) top (more_told p round left lies)
+
+abbrev pub more_of : List Stroke → ℕ → ℕ → ℕ → List ℕ
+more_of strokes top round p =
+    more_at top round p (count_by (is_left round p) strokes) (count_by (is_left_lie round p) strokes)
+
+-- below the rows of a band behind so many rounds, in which these strokes are drawn
+abbrev pub more_top : ℕ → List Stroke → List Access → ℕ → ℕ
+more_top n drawn accesses before =
+    top_of n drawn accesses before + rows_top n accesses (before + 1) + (12 + 18 * most_rows)
+
+-- to each general
+abbrev pub mores_of : ℕ → List Stroke → ℕ → ℕ → List ℕ
+mores_of n strokes top round = flat_map (more_of strokes top round) (range_with_len 0 n)
+
+-- those of a band, and of all bands
+abbrev pub mores_in : ℕ → List Stroke → List Stroke → List Access → ℕ → List ℕ
+mores_in n strokes drawn accesses before =
+    mores_of n strokes (more_top n drawn accesses before) (before + 1)
+
+abbrev pub mores : ℕ → List Stroke → List Stroke → List Access → ℕ → List ℕ
+mores n strokes drawn accesses rounds = flat_map (mores_in n strokes drawn accesses) (range_with_len 0 rounds)

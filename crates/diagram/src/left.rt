@@ -1,0 +1,235 @@
+//! The strokes that a picture has room for, and how many it has none for.
+ghost use Rattle.std.specs.Prelude.{◌≡◌, ◌<◌, ◌++◌, ◌∷◌, [], codes, cond, count_by, string_bytes, IfOk, OnOk};
+ghost use Rattle.diagram.specs.Shapes.{text_at, title};
+ghost use Rattle.diagram.specs.Left.{has_row, is_left, is_left_lie, left_in_full, left_words, more_at, more_of, more_told, more_top, mores, mores_in, mores_of, with_rows};
+
+use crate::layout::{column, rows_top, top_of};
+use crate::shapes::{
+    put_group_end, put_group_start, put_text_end, put_text_start, put_title_end, put_title_start,
+};
+use crate::stroke::Stroke;
+use board::Access;
+use std::alloc::{AllocError, Global};
+
+/// How many rows the list of what a lieutenant was told in a round has at most.
+const MOST: usize = 24;
+
+/// Those that are drawn.
+///
+/// # Errors
+///
+/// No memory for them.
+pub(crate) fn with_rows(alloc: Global, strokes: &[Stroke]) -> Result<Vec<Stroke>, AllocError>
+    ensures { IfOk result (λ drawn. drawn.items ≡ with_rows strokes.now) }
+{
+    let mut drawn = Vec::new(alloc);
+    for stroke in strokes {
+        push_if(&mut drawn, *stroke, has_row(stroke))?;
+    }
+    Ok(drawn)
+}
+
+/// Whether a stroke has a row, and so is drawn.
+fn has_row(stroke: &Stroke) -> bool
+    ensures { result ≡ has_row stroke.now }
+{
+    stroke.row < MOST
+}
+
+/// Adds a stroke, if it is drawn.
+fn push_if(drawn: &mut Vec<Stroke>, stroke: Stroke, is_drawn: bool) -> Result<(), AllocError>
+    ensures { OnOk result (drawn.new.items ≡ drawn.old.items ++ cond is_drawn (stroke ∷ []) []) }
+{
+    if is_drawn {
+        drawn.push(stroke)?;
+    }
+    Ok(())
+}
+
+/// Adds how many are not drawn, below the rows of each of so many bands.
+pub(crate) fn put_mores(
+    out: &mut String,
+    generals: u8,
+    strokes: &[Stroke],
+    drawn: &[Stroke],
+    accesses: &[Access],
+    rounds: u8,
+) -> Result<(), AllocError>
+    requires { rounds < 255 }
+    ensures { OnOk result (string_bytes out.new ≡ string_bytes out.old
+        ++ mores generals strokes.now drawn.now accesses.now rounds) }
+{
+    for before in 0..rounds {
+        put_mores_in(out, generals, strokes, drawn, accesses, before)?;
+    }
+    Ok(())
+}
+
+/// Adds those of the band behind so many rounds.
+fn put_mores_in(
+    out: &mut String,
+    generals: u8,
+    strokes: &[Stroke],
+    drawn: &[Stroke],
+    accesses: &[Access],
+    before: u8,
+) -> Result<(), AllocError>
+    requires { before < 255 }
+    ensures { OnOk result (string_bytes out.new ≡ string_bytes out.old
+        ++ mores_in generals strokes.now drawn.now accesses.now before) }
+{
+    put_mores_of(
+        out,
+        generals,
+        strokes,
+        more_top(generals, drawn, accesses, before),
+        u32::from(before) + 1,
+    )?;
+    Ok(())
+}
+
+/// Where they stand.
+fn more_top(generals: u8, drawn: &[Stroke], accesses: &[Access], before: u8) -> u128
+    requires { before < 255 }
+    ensures { result ≡ more_top generals drawn.now accesses.now before }
+{
+    top_of(generals, drawn, accesses, before)
+        + rows_top(generals, accesses, u32::from(before) + 1)
+        + (12 + 18 * MOST as u128)
+}
+
+/// Adds those of a round to each general, at this height.
+fn put_mores_of(
+    out: &mut String,
+    generals: u8,
+    strokes: &[Stroke],
+    top: u128,
+    round: u32,
+) -> Result<(), AllocError>
+    ensures { OnOk result (string_bytes out.new ≡ string_bytes out.old ++ mores_of generals strokes.now top round) }
+{
+    for general in 0..generals {
+        put_more_of(out, strokes, top, round, general)?;
+    }
+    Ok(())
+}
+
+/// Adds those to a general.
+fn put_more_of(
+    out: &mut String,
+    strokes: &[Stroke],
+    top: u128,
+    round: u32,
+    general: u8,
+) -> Result<(), AllocError>
+    ensures { OnOk result (string_bytes out.new ≡ string_bytes out.old ++ more_of strokes.now top round general) }
+{
+    let left = count_left(strokes, round as usize, general);
+    let lies = count_left_lies(strokes, round as usize, general);
+    put_more_at(out, top, round, general, left, lies)
+}
+
+/// How many strokes of a round to a general are not drawn.
+fn count_left(strokes: &[Stroke], round: usize, receiver: u8) -> usize
+    ensures { result ≡ count_by (is_left round receiver) strokes.now }
+{
+    strokes
+        .iter()
+        .filter(|x| x.row >= MOST && (x.round == round && x.receiver == receiver))
+        .count()
+}
+
+/// How many of these an honest relay would not tell.
+fn count_left_lies(strokes: &[Stroke], round: usize, receiver: u8) -> usize
+    ensures { result ≡ count_by (is_left_lie round receiver) strokes.now }
+{
+    strokes
+        .iter()
+        .filter(|x| x.differs && (x.row >= MOST && (x.round == round && x.receiver == receiver)))
+        .count()
+}
+
+/// Adds how many these are, where there are any.
+fn put_more_at(
+    out: &mut String,
+    top: u128,
+    round: u32,
+    general: u8,
+    left: usize,
+    lies: usize,
+) -> Result<(), AllocError>
+    ensures { OnOk result (string_bytes out.new ≡ string_bytes out.old ++ more_at top round general left lies) }
+{
+    if left == 0 {
+        return Ok(());
+    }
+    put_group_start(out, column(u32::from(general)), top)?;
+    put_more_told(out, general, round, left, lies)?;
+    put_group_end(out)
+}
+
+/// Adds it in words.
+fn put_more_told(
+    out: &mut String,
+    general: u8,
+    round: u32,
+    left: usize,
+    lies: usize,
+) -> Result<(), AllocError>
+    ensures { OnOk result (string_bytes out.new ≡ string_bytes out.old ++ more_told general round left lies) }
+{
+    put_left_title(out, general, round, left, lies)?;
+    put_left_text(out, left, lies)
+}
+
+/// Adds it for those who point at it, or hear it.
+fn put_left_title(
+    out: &mut String,
+    general: u8,
+    round: u32,
+    left: usize,
+    lies: usize,
+) -> Result<(), AllocError>
+    ensures { OnOk result (string_bytes out.new ≡ string_bytes out.old
+        ++ title (left_in_full general round left lies)) }
+{
+    put_title_start(out)?;
+    put_left_in_full(out, general, round, left, lies)?;
+    put_title_end(out)
+}
+
+/// Adds a sentence of it.
+#[tactic(auto, unfolding(crate::specs::Left::left_in_full))]
+fn put_left_in_full(
+    out: &mut String,
+    general: u8,
+    round: u32,
+    left: usize,
+    lies: usize,
+) -> Result<(), AllocError>
+    ensures { OnOk result (string_bytes out.new ≡ string_bytes out.old ++ left_in_full general round left lies) }
+{
+    write!(
+        out,
+        "general {general} was told {left} things more in round {round}, which are not drawn: in place of {lies} of \
+         them an honest relay would tell something else"
+    )
+}
+
+/// Adds it as it is written below the list.
+fn put_left_text(out: &mut String, left: usize, lies: usize) -> Result<(), AllocError>
+    ensures { OnOk result (string_bytes out.new ≡ string_bytes out.old
+        ++ text_at (codes "small") 12 4 (left_words left lies)) }
+{
+    put_text_start(out, "small", 12, 4)?;
+    put_left_words(out, left, lies)?;
+    put_text_end(out)
+}
+
+/// Adds the numbers.
+#[tactic(auto, unfolding(crate::specs::Left::left_words))]
+fn put_left_words(out: &mut String, left: usize, lies: usize) -> Result<(), AllocError>
+    ensures { OnOk result (string_bytes out.new ≡ string_bytes out.old ++ left_words left lies) }
+{
+    write!(out, "and {left} more, {lies} dishonest")
+}
