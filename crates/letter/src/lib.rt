@@ -17,4 +17,4 @@ pub use laws::{
 pub use letter::Letter;
 pub use loyalty::{loyal_letter, shape_told};
 pub use origin::{are_letters_of, are_rounds_of};
-pub use letter::Round;
+pub use round::Round;
