@@ -74,7 +74,8 @@ tallness nodes = 64 + 24 * (length nodes + count_of (marks_of nodes))
 
 -- the picture of these labels
 abbrev pub svg_of : MessageTable → ℕ → List Node → List ℕ
-svg_of t p nodes = picture (breadth nodes) (tallness nodes) (head (marks_of nodes) p (decision_of t p)) (inside t.generals p nodes)
+svg_of t p nodes =
+    picture (breadth nodes) (tallness nodes) (head (marks_of nodes) p (decision_of t p)) (inside t.generals p nodes)
 
 unfoldable pub svg_text : MessageTable → List ℕ → View → ℕ → List ℕ
 svg_text t traitors view p = svg_of t p (nodes_of t traitors view p)
