@@ -45,7 +45,8 @@ fn with_subcommand<'a>(
     lab.subcommand(subcommand.command(alloc)?)
 }
 
-/// The program without its subcommands.
+/// The program without its subcommands. What help and `--version` say is promised here alone: the contract by which
+/// `clap` adds a subcommand keeps none of these texts.
 fn bare_command<'a>(alloc: Global) -> Result<Command<'a>, AllocError>
     ensures shape { IfOk result (λ c. app_of c ≡ app_before) }
     ensures about { IfOk result (λ c. option_map (λ text. text.now) (out-Command c).about ≡ Some lab_about) }
