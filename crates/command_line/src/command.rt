@@ -1,7 +1,7 @@
-ghost use Rattle.std.specs.Prelude.{◌≡◌, IfOk, IsSomeAnd, Some, codes, option_map, string_bytes};
+ghost use Rattle.std.specs.Prelude.{◌≡◌, IfOk, IsSomeAnd, Some, codes, option_map, string_bytes, true};
 ghost use Rattle.clap.specs.Words.{app_of, with_subcommand};
 ghost use Rattle.clap.specs.declared.builder.command.Command.TheViews.{out-Command};
-ghost use Rattle.command_line.specs.Lab.{app_before, lab_about, lab_app, lab_version};
+ghost use Rattle.command_line.specs.Lab.{lab_about, lab_app, lab_version};
 ghost use Rattle.command_line.specs.Subcommand.{shape_for, with_subcommands};
 
 use crate::subcommand::Subcommand;
@@ -9,15 +9,23 @@ use crate::subcommands::SUBCOMMANDS;
 use clap::Command;
 use std::alloc::{AllocError, Global};
 
+/// What help says of the program.
+const ABOUT: &str =
+    "A laboratory for the Byzantine generals problem; a hyphen as a file is standard input";
+
 /// What `--version` says: the version, and the line of the toolchain that proves this one (`rt version`).
 const VERSION: &str = "1.0.0, proved with Rattle, logic dac8208d650f15bf";
 
 /// The program's command line.
 #[tactic(auto, unfolding(crate::specs::Subcommand::shape_for))]
 pub(crate) fn lab_command<'a>(alloc: Global) -> Result<Command<'a>, AllocError>
-    ensures { IfOk result (λ c. app_of c ≡ lab_app) }
+    ensures shape { IfOk result (λ c. app_of c ≡ lab_app) }
+    ensures about { IfOk result (λ c. option_map (λ text. text.now) (out-Command c).about ≡ Some lab_about) }
+    ensures version { IfOk result (λ c. option_map (λ text. text.now) (out-Command c).version ≡ Some lab_version) }
+    ensures name { IfOk result (λ c. IsSomeAnd (out-Command c).bin_name (λ name. string_bytes name ≡ codes "byzlab")) }
 {
-    with_subcommands(alloc, bare_command(alloc)?, SUBCOMMANDS)
+    let lab = with_subcommands(alloc, Command::new(alloc, "byzlab"), SUBCOMMANDS)?;
+    described(lab)
 }
 
 /// The program with these subcommands.
@@ -45,18 +53,17 @@ fn with_subcommand<'a>(
     lab.subcommand(subcommand.command(alloc)?)
 }
 
-/// The program without its subcommands. What help and `--version` say is promised here alone: the contract by which
-/// `clap` adds a subcommand keeps none of these texts.
-fn bare_command<'a>(alloc: Global) -> Result<Command<'a>, AllocError>
-    ensures shape { IfOk result (λ c. app_of c ≡ app_before) }
+/// The program with what help and `--version` say of it. Behind its subcommands: nothing is known of these texts once
+/// one more is added.
+fn described<'a>(lab: Command<'a>) -> Result<Command<'a>, AllocError>
+    ensures shape { IfOk result (λ c. app_of c ≡ record (app_of lab.entry) {
+      top = record (app_of lab.entry).top { no_binary_name = true; subcommand_required = true; has_version = true };
+    }) }
     ensures about { IfOk result (λ c. option_map (λ text. text.now) (out-Command c).about ≡ Some lab_about) }
     ensures version { IfOk result (λ c. option_map (λ text. text.now) (out-Command c).version ≡ Some lab_version) }
     ensures name { IfOk result (λ c. IsSomeAnd (out-Command c).bin_name (λ name. string_bytes name ≡ codes "byzlab")) }
 {
-    Command::new(alloc, "byzlab")
-        .about(
-            "A laboratory for the Byzantine generals problem; a hyphen as a file is standard input",
-        )
+    lab.about(ABOUT)
         .version(VERSION)
         .no_binary_name(true)
         .subcommand_required(true)
