@@ -1,9 +1,9 @@
 -- What `clap` is told of a subcommand, and of all of them, row by row.
 use Rattle.std.proofs.Common.{◌≡◌, ◌∙◌, ◌+◌, ◌<◌, ◌++◌, ℕ, Bool, false, ◌||◌, List, [], ◌∷◌, ap, ap₂, append-nil, append_assoc, drop, get_or, length, map, sym}
 use Rattle.std.proofs.lemmas.List.{at_drop_more}
-use Rattle.clap.specs.Words.{App, Rule, new_app, with_rule}
+use Rattle.clap.specs.Words.{App, Rule, Shape, new_app, with_rule, with_subcommand}
 use Rattle.command_line.specs.Lab.{flag_rule, place_rule}
-use Rattle.command_line.specs.Subcommand.{flag_of, rule_for, shape_for}
+use Rattle.command_line.specs.Subcommand.{flag_of, rule_for, shape_for, with_subcommands}
 use Rattle.command_line.specs.declared.subcommand.Flag.{Flag}
 use Rattle.command_line.specs.declared.subcommand.Place.{Place}
 use Rattle.command_line.specs.declared.subcommand.Subcommand.{Subcommand}
@@ -51,6 +51,12 @@ pub flag_more : (app next : App) (rule : Rule) (flags : List Flag) (i : ℕ) (d 
 flag_more app next rule flags i d less is same =
     ap (λ (a : App). (with_flags a (drop (i + 1) flags)).top) (same ∙ ap (λ (r : Rule). with_rule app r) is)
     ∙ sym (at_drop_more (λ (rest : List Flag). (with_flags app rest).top) flags i d less)
+
+-- one subcommand more, of those at the front of the rest
+pub subcommand_more : (app next : App) (shape : Shape) (rows : List Subcommand) (i : ℕ) (d : Subcommand) → i < length rows → shape ≡ shape_for (get_or rows i d) → next ≡ with_subcommand app shape
+    → with_subcommands next (drop (i + 1) rows) ≡ with_subcommands app (drop i rows)
+subcommand_more app next shape rows i d less is same =
+    ap (λ (a : App). with_subcommands a (drop (i + 1) rows)) (same ∙ ap (λ (s : Shape). with_subcommand app s) is) ∙ sym (at_drop_more (with_subcommands app) rows i d less)
 
 pub still_local : (new old global : Bool) → new ≡ (old || global) → old ≡ false → global ≡ false → new ≡ false
 still_local new old global is none local = is ∙ ap₂ (λ (a b : Bool). a || b) none local

@@ -1,8 +1,8 @@
 ghost use Rattle.std.specs.Prelude.{◌≡◌, IfOk, IsSomeAnd, Some, codes, option_map, string_bytes};
-ghost use Rattle.clap.specs.Words.{app_of, with_subcommand};
+ghost use Rattle.clap.specs.Words.{app_of};
 ghost use Rattle.clap.specs.declared.builder.command.Command.TheViews.{out-Command};
 ghost use Rattle.command_line.specs.Lab.{app_before, lab_about, lab_app, lab_version};
-ghost use Rattle.command_line.specs.Subcommand.{shape_for, with_subcommands};
+ghost use Rattle.command_line.specs.Subcommand.{with_subcommands};
 
 use crate::subcommand::Subcommand;
 use crate::subcommands::SUBCOMMANDS;
@@ -29,20 +29,10 @@ fn with_subcommands<'a>(
     ensures { IfOk result (λ c. app_of c ≡ with_subcommands (app_of lab.entry) subcommands.now) }
 {
     for subcommand in subcommands {
-        lab = with_subcommand(alloc, lab, subcommand)?;
+        let command = subcommand.command(alloc)?;
+        lab = lab.subcommand(command)?;
     }
     Ok(lab)
-}
-
-/// The program with one more subcommand.
-fn with_subcommand<'a>(
-    alloc: Global,
-    lab: Command<'a>,
-    subcommand: &Subcommand<'a>,
-) -> Result<Command<'a>, AllocError>
-    ensures { IfOk result (λ c. app_of c ≡ with_subcommand (app_of lab.entry) (shape_for subcommand.now)) }
-{
-    lab.subcommand(subcommand.command(alloc)?)
 }
 
 /// The program without its subcommands.

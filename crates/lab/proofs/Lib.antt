@@ -15,3 +15,4 @@ pub mod FirstLemmas
 pub mod StrangerLemmas
 pub mod PlaceLemmas
 pub mod ListedLemmas
+pub mod TextLemmas

@@ -147,6 +147,31 @@ Prints (Page scenario course target) first second text = TellsPage course first 
 Prints (Retrace scenario (OfChronicle file)) first second text = Retraces first second text
 Prints (Retrace scenario (Listed list)) first second text = Arranges (string_bytes list) first text
 
+-- the task prints a text, whatever a second file has
+abbrev pub is_of_text : Task → Bool
+is_of_text (Check file notation None explained traced) = true
+is_of_text (Assemble file Hex target explained) = true
+is_of_text (AssemblePartly file Hex target explained) = true
+is_of_text (Disassemble file notation units explained) = true
+is_of_text (DisassemblePartly file notation explained) = true
+is_of_text (Book file) = true
+is_of_text (ExplainDecisions file traitors) = true
+is_of_text (Form n m c filling) = true
+is_of_text (Explore scenario most folder) = true
+is_of_text (Tree file general traitors drawing depth folded) = true
+is_of_text (Retrace scenario (Listed list)) = true
+is_of_text _ = false
+
+-- the task goes on with the campaign of its first file
+abbrev pub is_of_campaign : Task → Bool
+is_of_campaign (Play scenario schedule account explained) = true
+is_of_campaign (Muster scenario explained) = true
+is_of_campaign (Audit scenario chronicle explained) = true
+is_of_campaign (Draw scenario course) = true
+is_of_campaign (Page scenario course target) = true
+is_of_campaign (Retrace scenario (OfChronicle file)) = true
+is_of_campaign _ = false
+
 -- the task goes on with this behind its first file: a program to try, with its steps or without them, or a campaign
 abbrev pub GoesOn : Task → List ℕ → FirstAnswer → Type 0
 GoesOn (Check file notation (Some context) explained traced) first (answer.Trial program told) =

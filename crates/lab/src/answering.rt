@@ -1,5 +1,5 @@
-ghost use Rattle.std.specs.Prelude.{◌≡◌, IfOk, IfErr, None, string_bytes};
-ghost use Rattle.lab.specs.Answers.{ComesTo, IsChecked};
+ghost use Rattle.std.specs.Prelude.{◌≡◌, IfOk, IfErr, None, string_bytes, true};
+ghost use Rattle.lab.specs.Answers.{ComesTo, IsChecked, Prints, is_of_campaign, is_of_text};
 ghost use Rattle.lab.specs.Refusals.{Refuses, RefusesCheckIn};
 
 use crate::assembling::{assembled, assembled_raw, disassembled};
@@ -33,94 +33,57 @@ pub fn answer(alloc: Global, task: &Task, bytes: &[u8]) -> Result<FirstAnswer, R
     match task {
         Task::Check {
             notation,
-            context: None,
-            explained,
-            traced,
-            ..
-        } => Ok(FirstAnswer::Text(checked_in(alloc, notation, *explained, *traced, bytes)?)),
-        Task::Check {
-            notation,
             context: Some(_),
             traced,
             ..
         } => Ok(FirstAnswer::Trial(accepted_in(alloc, notation, bytes)?, *traced)),
         Task::Assemble {
-            spelling: Spelling::Hex,
-            ..
-        } => Ok(FirstAnswer::Text(assembled(alloc, as_text(bytes)?)?)),
-        Task::Assemble {
             spelling: Spelling::Raw,
             ..
         } => Ok(FirstAnswer::Bytes(assembled_raw(alloc, as_text(bytes)?)?)),
         Task::AssemblePartly {
-            spelling: Spelling::Hex,
-            ..
-        } => Ok(FirstAnswer::Text(assembled_partly(alloc, as_text(bytes)?)?)),
-        Task::AssemblePartly {
             spelling: Spelling::Raw,
             ..
         } => Ok(FirstAnswer::Bytes(assembled_partly_raw(alloc, as_text(bytes)?)?)),
-        Task::Disassemble {
-            notation,
-            units,
+        Task::Play { .. }
+        | Task::Muster { .. }
+        | Task::Audit { .. }
+        | Task::Draw { .. }
+        | Task::Page { .. }
+        | Task::Retrace {
+            accesses: Accesses::OfChronicle(_),
             ..
-        } => Ok(FirstAnswer::Text(disassembled(alloc, notation, *units, bytes)?)),
-        Task::DisassemblePartly { notation, .. } => {
-            Ok(FirstAnswer::Text(disassembled_partly(alloc, notation, bytes)?))
-        }
-        Task::Book(_) => Ok(FirstAnswer::Text(decided(alloc, as_text(bytes)?)?)),
-        Task::ExplainDecisions { traitors, .. } => {
-            Ok(FirstAnswer::Text(explained(alloc, as_text(bytes)?, traitors.as_slice())?))
-        }
-        Task::Form {
-            generals,
-            bound,
-            commander,
-            filling: None,
-        } => Ok(FirstAnswer::Text(formed(
-            alloc,
-            generals.as_str(),
-            bound.as_str(),
-            commander.as_str(),
-        )?)),
-        Task::Form {
-            generals,
-            bound,
-            commander,
-            filling: Some(filling),
-        } => Ok(FirstAnswer::Text(filled(
-            alloc,
-            generals.as_str(),
-            bound.as_str(),
-            commander.as_str(),
-            *filling,
-        )?)),
-        Task::Tree {
-            general,
-            traitors,
-            drawing,
-            depth,
-            folded,
+        } => campaign_answer(alloc, task, bytes),
+        Task::Check { context: None, .. }
+        | Task::Assemble {
+            spelling: Spelling::Hex,
             ..
-        } => {
-            let view = View {
-                depth: *depth,
-                folds: *folded,
-                order: None,
-            };
-            let text = as_text(bytes)?;
-            Ok(FirstAnswer::Text(pictured(
-                alloc,
-                text,
-                *general,
-                traitors.as_slice(),
-                *drawing,
-                view,
-            )?))
         }
-        Task::Explore { most, .. } => {
-            Ok(FirstAnswer::Text(orders_of(alloc, &campaign(alloc, bytes)?, *most)?))
+        | Task::AssemblePartly {
+            spelling: Spelling::Hex,
+            ..
         }
+        | Task::Disassemble { .. }
+        | Task::DisassemblePartly { .. }
+        | Task::Book(_)
+        | Task::ExplainDecisions { .. }
+        | Task::Form { .. }
+        | Task::Explore { .. }
+        | Task::Tree { .. }
+        | Task::Retrace {
+            accesses: Accesses::Listed(_),
+            ..
+        } => text_answer(alloc, task, bytes),
+    }
+}
+
+/// What a task comes to that goes on with the campaign of its first file.
+fn campaign_answer(alloc: Global, task: &Task, bytes: &[u8]) -> Result<FirstAnswer, Refusal>
+    requires { is_of_campaign task.now ≡ true }
+    ensures answered { IfOk result (ComesTo task.now bytes.now) }
+    ensures refused { IfErr result (Refuses task.now bytes.now) }
+{
+    match task {
         Task::Play {
             account,
             explained,
@@ -160,14 +123,110 @@ pub fn answer(alloc: Global, task: &Task, bytes: &[u8]) -> Result<FirstAnswer, R
             let (campaign, text) = campaign_with_text(alloc, bytes)?;
             Ok(FirstAnswer::PageRecorded(campaign, text))
         }
-        Task::Retrace {
-            accesses: Accesses::OfChronicle(_),
+        Task::Retrace { .. } => Ok(FirstAnswer::Retrace(campaign(alloc, bytes)?)),
+        Task::Check { .. }
+        | Task::Assemble { .. }
+        | Task::AssemblePartly { .. }
+        | Task::Disassemble { .. }
+        | Task::DisassemblePartly { .. }
+        | Task::Book(_)
+        | Task::ExplainDecisions { .. }
+        | Task::Form { .. }
+        | Task::Explore { .. }
+        | Task::Tree { .. } => unreachable!(),
+    }
+}
+
+/// What a task comes to that prints a text, whatever a second file has.
+#[tactic(auto, using(crate::proofs::TextLemmas::whatever_second))]
+fn text_answer(alloc: Global, task: &Task, bytes: &[u8]) -> Result<FirstAnswer, Refusal>
+    requires { is_of_text task.now ≡ true }
+    ensures answered { IfOk result (ComesTo task.now bytes.now) }
+    ensures refused { IfErr result (Refuses task.now bytes.now) }
+{
+    Ok(FirstAnswer::Text(text_of(alloc, task, bytes)?))
+}
+
+/// The text that it prints.
+fn text_of(alloc: Global, task: &Task, bytes: &[u8]) -> Result<String, Refusal>
+    requires { is_of_text task.now ≡ true }
+    ensures text { IfOk result (λ text. Prints task.now bytes.now None (string_bytes text)) }
+    ensures refused { IfErr result (Refuses task.now bytes.now) }
+{
+    match task {
+        Task::Check {
+            notation,
+            context: None,
+            explained,
+            traced,
             ..
-        } => Ok(FirstAnswer::Retrace(campaign(alloc, bytes)?)),
+        } => checked_in(alloc, notation, *explained, *traced, bytes),
+        Task::Assemble {
+            spelling: Spelling::Hex,
+            ..
+        } => assembled(alloc, as_text(bytes)?),
+        Task::AssemblePartly {
+            spelling: Spelling::Hex,
+            ..
+        } => assembled_partly(alloc, as_text(bytes)?),
+        Task::Disassemble {
+            notation,
+            units,
+            ..
+        } => disassembled(alloc, notation, *units, bytes),
+        Task::DisassemblePartly { notation, .. } => disassembled_partly(alloc, notation, bytes),
+        Task::Book(_) => decided(alloc, as_text(bytes)?),
+        Task::ExplainDecisions { traitors, .. } => {
+            explained(alloc, as_text(bytes)?, traitors.as_slice())
+        }
+        Task::Form {
+            generals,
+            bound,
+            commander,
+            filling: None,
+        } => formed(alloc, generals.as_str(), bound.as_str(), commander.as_str()),
+        Task::Form {
+            generals,
+            bound,
+            commander,
+            filling: Some(filling),
+        } => filled(
+            alloc,
+            generals.as_str(),
+            bound.as_str(),
+            commander.as_str(),
+            *filling,
+        ),
+        Task::Explore { most, .. } => Ok(orders_of(alloc, &campaign(alloc, bytes)?, *most)?),
+        Task::Tree {
+            general,
+            traitors,
+            drawing,
+            depth,
+            folded,
+            ..
+        } => {
+            let view = View {
+                depth: *depth,
+                folds: *folded,
+                order: None,
+            };
+            let text = as_text(bytes)?;
+            pictured(alloc, text, *general, traitors.as_slice(), *drawing, view)
+        }
         Task::Retrace {
             accesses: Accesses::Listed(list),
             ..
-        } => Ok(FirstAnswer::Text(arranged(alloc, bytes, list.as_str())?)),
+        } => arranged(alloc, bytes, list.as_str()),
+        Task::Check { .. }
+        | Task::Assemble { .. }
+        | Task::AssemblePartly { .. }
+        | Task::Play { .. }
+        | Task::Muster { .. }
+        | Task::Audit { .. }
+        | Task::Draw { .. }
+        | Task::Page { .. }
+        | Task::Retrace { .. } => unreachable!(),
     }
 }
 
