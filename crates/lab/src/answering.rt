@@ -123,7 +123,10 @@ fn campaign_answer(alloc: Global, task: &Task, bytes: &[u8]) -> Result<FirstAnsw
             let (campaign, text) = campaign_with_text(alloc, bytes)?;
             Ok(FirstAnswer::PageRecorded(campaign, text))
         }
-        Task::Retrace { .. } => Ok(FirstAnswer::Retrace(campaign(alloc, bytes)?)),
+        Task::Retrace {
+            accesses: Accesses::OfChronicle(_),
+            ..
+        } => Ok(FirstAnswer::Retrace(campaign(alloc, bytes)?)),
         Task::Check { .. }
         | Task::Assemble { .. }
         | Task::AssemblePartly { .. }
@@ -133,7 +136,11 @@ fn campaign_answer(alloc: Global, task: &Task, bytes: &[u8]) -> Result<FirstAnsw
         | Task::ExplainDecisions { .. }
         | Task::Form { .. }
         | Task::Explore { .. }
-        | Task::Tree { .. } => unreachable!(),
+        | Task::Tree { .. }
+        | Task::Retrace {
+            accesses: Accesses::Listed(_),
+            ..
+        } => unreachable!(),
     }
 }
 
@@ -218,15 +225,27 @@ fn text_of(alloc: Global, task: &Task, bytes: &[u8]) -> Result<String, Refusal>
             accesses: Accesses::Listed(list),
             ..
         } => arranged(alloc, bytes, list.as_str()),
-        Task::Check { .. }
-        | Task::Assemble { .. }
-        | Task::AssemblePartly { .. }
+        Task::Check {
+            context: Some(_),
+            ..
+        }
+        | Task::Assemble {
+            spelling: Spelling::Raw,
+            ..
+        }
+        | Task::AssemblePartly {
+            spelling: Spelling::Raw,
+            ..
+        }
         | Task::Play { .. }
         | Task::Muster { .. }
         | Task::Audit { .. }
         | Task::Draw { .. }
         | Task::Page { .. }
-        | Task::Retrace { .. } => unreachable!(),
+        | Task::Retrace {
+            accesses: Accesses::OfChronicle(_),
+            ..
+        } => unreachable!(),
     }
 }
 
