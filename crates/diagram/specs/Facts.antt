@@ -57,6 +57,10 @@ is_same one other =
 abbrev pub count_of : HashMap Telling ℕ (BuildHasherDefault FoldHasher) → Telling → ℕ
 count_of counts telling = unwrap_or (get is_same counts telling) 0
 
+-- how many strokes of a round there are, by these counts
+abbrev pub row_of : HashMap ℕ ℕ (BuildHasherDefault FoldHasher) → ℕ → ℕ
+row_of rows round = unwrap_or (get nat_eq rows round) 0
+
 abbrev pub is_before : ℕ → ℕ → Stroke → Bool
 is_before round p stroke = stroke.round == round && stroke.receiver == p
 

@@ -1,6 +1,6 @@
 //! The strokes of a campaign, by the message table that its letters tell.
-ghost use Rattle.std.specs.Prelude.{◌≡◌, ◌<◌, ◌+◌, ◌^◌, false, IfOk, OnOk, count_by};
-ghost use Rattle.diagram.specs.Facts.{count_of, is_before, is_same, stroke_of, strokes_below, strokes_of, strokes_with};
+ghost use Rattle.std.specs.Prelude.{ℕ, ◌≡◌, ◌≢◌, ◌≤◌, ◌<◌, ◌+◌, ◌^◌, ◌++◌, ◌∷◌, [], false, length, IfOk, OnOk, count_by};
+ghost use Rattle.diagram.specs.Facts.{count_of, is_before, is_same, row_of, stroke_of, strokes_below, strokes_of, strokes_with};
 ghost use Rattle.diagram.specs.declared.telling.Telling.{Telling};
 
 use crate::stroke::Stroke;
@@ -56,14 +56,36 @@ fn push_told(
     ensures { OnOk result (strokes.new.items ≡ strokes_below receiver tellings.now 0 strokes.old.items tellings.now) }
 {
     let counts = counted(alloc, tellings)?;
+    let mut rows = rows_by_round(alloc, strokes.as_slice(), receiver)?;
     let mut seen = HashSet::new(alloc);
     for telling in tellings {
         if seen.insert(*telling)? {
             let labels = counts.get(telling).copied().unwrap_or(0);
-            let row = rows(strokes.as_slice(), telling.round, receiver);
-            strokes.push(stroke_of(receiver, telling, labels, row))?;
+            push_stroke(strokes, &mut rows, receiver, telling, labels)?;
         }
     }
+    Ok(())
+}
+
+/// Adds the stroke of what was told of so many labels, which has the next row of its round.
+fn push_stroke(
+    strokes: &mut Vec<Stroke>,
+    rows: &mut HashMap<usize, usize>,
+    receiver: u8,
+    telling: &Telling,
+    labels: usize,
+) -> Result<(), AllocError>
+    requires { row_of rows.old telling.now.round ≤ length strokes.old.items }
+    ensures pushed { OnOk result (strokes.new.items ≡ strokes.old.items
+        ++ stroke_of receiver telling.now labels (row_of rows.old telling.now.round) ∷ []) }
+    ensures counted { OnOk result (row_of rows.new telling.now.round ≡ row_of rows.old telling.now.round + 1) }
+    ensures others { OnOk result ((round : ℕ) → telling.now.round ≢ round
+        → row_of rows.new round ≡ row_of rows.old round) }
+{
+    let _size = strokes.as_slice().len();
+    let row = row_at(rows, telling.round);
+    count_row(rows, telling.round)?;
+    strokes.push(stroke_of(receiver, telling, labels, row))?;
     Ok(())
 }
 
@@ -105,12 +127,37 @@ fn stroke_of(receiver: u8, telling: &Telling, labels: usize, row: usize) -> Stro
     }
 }
 
-/// How many strokes of a round and a receiver there are.
-fn rows(strokes: &[Stroke], round: usize, receiver: u8) -> usize
-    ensures { result ≡ count_by (is_before round receiver) strokes.now }
+/// How many strokes to a receiver there are, by their rounds.
+fn rows_by_round(
+    alloc: Global,
+    strokes: &[Stroke],
+    receiver: u8,
+) -> Result<HashMap<usize, usize>, AllocError>
+    ensures { IfOk result (λ rows. (round : ℕ) → row_of rows round ≡ count_by (is_before round receiver) strokes.now) }
 {
-    strokes
-        .iter()
-        .filter(|x| x.round == round && x.receiver == receiver)
-        .count()
+    let mut rows = HashMap::new(alloc);
+    for stroke in strokes {
+        if stroke.receiver == receiver {
+            count_row(&mut rows, stroke.round)?;
+        }
+    }
+    Ok(rows)
+}
+
+/// Counts one stroke more of a round.
+fn count_row(rows: &mut HashMap<usize, usize>, round: usize) -> Result<(), AllocError>
+    requires { row_of rows.old round + 1 < 2 ^ 64 }
+    ensures counted { OnOk result (row_of rows.new round ≡ row_of rows.old round + 1) }
+    ensures others { OnOk result ((other : ℕ) → round ≢ other → row_of rows.new other ≡ row_of rows.old other) }
+{
+    let row = row_at(rows, round);
+    rows.insert(round, row + 1)?;
+    Ok(())
+}
+
+/// How many strokes of a round there are.
+fn row_at(rows: &HashMap<usize, usize>, round: usize) -> usize
+    ensures { result ≡ row_of rows.now round }
+{
+    rows.get(&round).copied().unwrap_or(0)
 }

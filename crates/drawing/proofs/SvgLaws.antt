@@ -20,11 +20,11 @@ use Rattle.combine.specs.declared.outcome.Outcome.{Outcome}
 use Rattle.combine.specs.declared.outcome.Outcome.TheVariants.{Agreed, Divided, Middle}
 use Rattle.combine.specs.Outcome.{outcome_head, outcome_order}
 use Rattle.drawing.specs.Laws.{PicturesAreElements}
-use Rattle.drawing.specs.Legend.{legend, marks_of, meaning, meaning_if, meaning_words, meanings, one_if, rule, rule_at}
+use Rattle.drawing.specs.Legend.{dashed_shape, legend, marks_of, meaning, meaning_if, meaning_words, meanings, one_if, rule, rule_at}
 use Rattle.drawing.specs.Places.{branch_at}
 use Rattle.drawing.specs.Rows.{branch_way, branch_ways, kind, lines_end, lines_start, outcome_class, outline, row, row_end, row_start, rows_from, shape, stub, way, word_text}
 use Rattle.drawing.specs.Shown.{nodes_of}
-use Rattle.drawing.specs.Svg.{breadth, head, heading, inside, key, look, picture, size, start, svg_text, tallness, title, view_box}
+use Rattle.drawing.specs.Svg.{breadth, head, heading, inside, key, key_start, look, picture, said_if, shape_words, size, start, svg_text, tallness, title, view_box}
 use Rattle.drawing.specs.Words.{counted_words, extent_words, mark_words, outcome_words, said, told_words, words}
 
 -- ---- words
@@ -272,19 +272,19 @@ meaning_if_content : (stands : Bool) (place : ℕ) (mark : Mark) (outcome : Opti
 meaning_if_content true place mark outcome words t = meaning_content place mark outcome words t
 meaning_if_content false place mark outcome words t = text [] no_text
 
-meanings_content : (marks : Marks) (place : ℕ) → IsContent (meanings marks place)
-meanings_content marks place =
+meanings_content : (marks : Marks) (dashed : Mark) (place : ℕ) → IsContent (meanings marks dashed place)
+meanings_content marks dashed place =
     let second : ℕ = place + one_if marks.circle in
     let third : ℕ = second + one_if marks.square in
     let one : List ℕ = meaning_if marks.circle place Honest None (codes "no lie is known") in
     let two : List ℕ = meaning_if marks.square second Traitor None (codes "a named commander, his word") in
     let three : List ℕ = meaning_if marks.diamond third (Lie 0 0) None (codes "a lie of a named traitor") in
-    joined (one ++ two ++ three) (meaning_if marks.dashes (third + one_if marks.diamond) Honest (Some (Divided 0)) (codes "no order has a majority"))
+    joined (one ++ two ++ three) (meaning_if marks.dashes (third + one_if marks.diamond) dashed (Some (Divided 0)) (codes "no order has a majority"))
     (joined (one ++ two) three
     (joined one two (meaning_if_content marks.circle place Honest None (codes "no lie is known") (bare_text _ refl))
     (meaning_if_content marks.square second Traitor None (codes "a named commander, his word") (bare_text _ refl)))
     (meaning_if_content marks.diamond third (Lie 0 0) None (codes "a lie of a named traitor") (bare_text _ refl)))
-    (meaning_if_content marks.dashes (third + one_if marks.diamond) Honest (Some (Divided 0)) (codes "no order has a majority") (bare_text _ refl))
+    (meaning_if_content marks.dashes (third + one_if marks.diamond) dashed (Some (Divided 0)) (codes "no order has a majority") (bare_text _ refl))
 
 legend_whole : (number content : List ℕ) → (codes "<g transform=\"translate(16 " ++ (number ++ codes ")\">")) ++ content ++ (codes "</g>" ++ codes "\n") ≡ group_of (codes "translate(16 " ++ (number ++ codes ")")) content ++ codes "\n"
 legend_whole number content = simp append_assoc
@@ -305,7 +305,7 @@ rule_at_content place =
 
 legend_content : (nodes : List Node) → IsContent (legend nodes)
 legend_content nodes =
-    joined (rule_at (length nodes)) (meanings (marks_of nodes) (length nodes + 1)) (rule_at_content (length nodes)) (meanings_content (marks_of nodes) (length nodes + 1))
+    joined (rule_at (length nodes)) (meanings (marks_of nodes) (dashed_shape nodes) (length nodes + 1)) (rule_at_content (length nodes)) (meanings_content (marks_of nodes) (dashed_shape nodes) (length nodes + 1))
 
 inside_content : (n p : ℕ) (nodes : List Node) → IsContent (inside n p nodes)
 inside_content n p nodes = joined (rows_from n p 0 nodes) (legend nodes) (rows_content n p 0 nodes) (legend_content nodes)
@@ -339,16 +339,43 @@ heading_content p order =
     (nested (codes "text") (attribute (codes "x") (codes "10") ++ (attribute (codes "y") (codes "24") ++ [])) (headline p order) (text_tag (codes "10") (codes "24") (bare_text (codes "10") refl) (bare_text (codes "24") refl)) (text (headline p order) (headline_text p order)))
     (text (codes "\n") (bare_text (codes "\n") refl)))
 
-abbrev key_words : List ℕ
-key_words =
-    codes "Each row is a label, below the label that it goes on from, with what he was told of it. Circle: the word of a general who is not named as a traitor, or tells what he took. "
-    ++ codes "Square: the word of a commander who is named. Diamond: a lie. Dashes: no order has a majority."
+abbrev rows_words : List ℕ
+rows_words = codes "Each row is a label, below the label that it goes on from, with what he was told of it."
 
-key_content : IsContent key
-unfolding key
-key_content =
-    joined (element (codes "desc") [] key_words) (codes "\n") (nested (codes "desc") [] key_words (bare_tag (codes "desc") refl) (text key_words (bare_text key_words refl)))
-    (text (codes "\n") (bare_text (codes "\n") refl))
+said_if_text : (stands : Bool) (words : List ℕ) → IsText words → IsText (said_if stands words)
+unfolding said_if
+said_if_text true words t = t
+said_if_text false words t = no_text
+
+shape_words_text : (marks : Marks) → IsText (shape_words marks)
+shape_words_text marks =
+    let circle : List ℕ = said_if marks.circle (codes " Circle: the word of a general who is not named as a traitor, or tells what he took.") in
+    let square : List ℕ = said_if marks.square (codes " Square: the word of a commander who is named.") in
+    let diamond : List ℕ = said_if marks.diamond (codes " Diamond: a lie.") in
+    many (circle ++ square ++ diamond) (said_if marks.dashes (codes " Dashes: no order has a majority."))
+    (many (circle ++ square) diamond
+    (many circle square (said_if_text marks.circle (codes " Circle: the word of a general who is not named as a traitor, or tells what he took.") (bare_text _ refl)) (said_if_text marks.square (codes " Square: the word of a commander who is named.") (bare_text _ refl)))
+    (said_if_text marks.diamond (codes " Diamond: a lie.") (bare_text _ refl)))
+    (said_if_text marks.dashes (codes " Dashes: no order has a majority.") (bare_text _ refl))
+
+abbrev key_words : Marks → List ℕ
+key_words marks = rows_words ++ shape_words marks
+
+key_text : (marks : Marks) → IsText (key_words marks)
+key_text marks = many rows_words (shape_words marks) (bare_text rows_words refl) (shape_words_text marks)
+
+key_parts : (first rows shapes end feed : List ℕ) → (first ++ rows) ++ shapes ++ (end ++ feed) ≡ (first ++ ((rows ++ shapes) ++ end)) ++ feed
+key_parts first rows shapes end feed = simp append_assoc
+
+key_whole : (marks : Marks) → key marks ≡ element (codes "desc") [] (key_words marks) ++ codes "\n"
+unfolding key_start
+key_whole marks = key_parts (codes "<desc>") rows_words (shape_words marks) (codes "</desc>") (codes "\n")
+
+key_content : (marks : Marks) → IsContent (key marks)
+key_content marks =
+    subst IsContent (sym (key_whole marks))
+    (joined (element (codes "desc") [] (key_words marks)) (codes "\n") (nested (codes "desc") [] (key_words marks) (bare_tag (codes "desc") refl) (text (key_words marks) (key_text marks)))
+    (text (codes "\n") (bare_text (codes "\n") refl)))
 
 abbrev look_words : List ℕ
 look_words =
@@ -362,9 +389,9 @@ look_content =
     joined (element (codes "style") [] look_words) (codes "\n") (nested (codes "style") [] look_words (bare_tag (codes "style") refl) (text look_words (bare_text look_words refl)))
     (text (codes "\n") (bare_text (codes "\n") refl))
 
-head_content : (p order : ℕ) → IsContent (head p order)
-head_content p order =
-    joined (title p order ++ key ++ look) (heading p order) (joined (title p order ++ key) look (joined (title p order) key (title_content p order) key_content) look_content) (heading_content p order)
+head_content : (marks : Marks) (p order : ℕ) → IsContent (head marks p order)
+head_content marks p order =
+    joined (title p order ++ key marks ++ look) (heading p order) (joined (title p order ++ key marks) look (joined (title p order) (key marks) (title_content p order) (key_content marks)) look_content) (heading_content p order)
 
 -- ---- the whole
 
@@ -411,15 +438,16 @@ proved_pictures_are_elements t traitors view p =
     let nodes : List Node = nodes_of t traitors view p in
     let w : ℕ = breadth nodes in
     let h : ℕ = tallness nodes in
-    let inner : List ℕ = head p (decision_of t p) ++ inside t.generals p nodes in (
+    let first : List ℕ = head (marks_of nodes) p (decision_of t p) in
+    let inner : List ℕ = first ++ inside t.generals p nodes in (
       element (codes "svg") (attributes w h) inner,
       record {
         name = codes "svg";
         attributes = attributes w h;
         content = inner;
         tag = svg_tag w h;
-        inside = joined (head p (decision_of t p)) (inside t.generals p nodes) (head_content p (decision_of t p)) (inside_content t.generals p nodes);
+        inside = joined first (inside t.generals p nodes) (head_content (marks_of nodes) p (decision_of t p)) (inside_content t.generals p nodes);
         whole = refl;
       },
-      picture_is w h (head p (decision_of t p)) (inside t.generals p nodes),
+      picture_is w h first (inside t.generals p nodes),
     )

@@ -1,5 +1,5 @@
 -- What the marks of a picture mean: below its rows a row for each mark that stands in it, and for no other.
-use Rattle.std.specs.Prelude.{ℕ, ◌+◌, Bool, true, false, if◌then◌else◌, List, [], ◌++◌, length, codes, Option, None, Some}
+use Rattle.std.specs.Prelude.{ℕ, ◌+◌, Bool, true, false, ◌&&◌, if◌then◌else◌, List, [], ◌++◌, length, codes, Option, None, Some}
 use Rattle.std.specs.List.{list_any}
 use Rattle.combine.specs.declared.outcome.Outcome.{Outcome}
 use Rattle.combine.specs.declared.outcome.Outcome.TheVariants.{Divided}
@@ -35,6 +35,19 @@ has_diamond node = is_lie node.mark
 abbrev pub has_dashes : Node → Bool
 has_dashes node = is_divided node.outcome
 
+abbrev pub has_dashed_circle : Node → Bool
+has_dashed_circle node = has_dashes node && has_circle node
+
+abbrev pub has_dashed_square : Node → Bool
+has_dashed_square node = has_dashes node && has_square node
+
+-- which shape stands with dashes in the picture of these labels: a circle, if one does, else a square, else a diamond
+abbrev pub dashed_shape : List Node → Mark
+dashed_shape nodes =
+    if list_any has_dashed_circle nodes then Honest
+    else if list_any has_dashed_square nodes then Traitor
+    else Lie 0 0
+
 -- the marks that stand in the picture of these labels
 abbrev pub marks_of : List Node → Marks
 marks_of nodes = record {
@@ -60,14 +73,14 @@ meaning place mark outcome words = row_start place ++ shape 0 mark outcome ++ me
 abbrev pub meaning_if : Bool → ℕ → Mark → Option Outcome → List ℕ → List ℕ
 meaning_if stands place mark outcome words = if stands then meaning place mark outcome words else []
 
--- those of these marks below each other, the first with this place
-abbrev pub meanings : Marks → ℕ → List ℕ
-meanings marks place =
+-- those of these marks below each other, the first with this place; dashes are shown at a shape that has them
+abbrev pub meanings : Marks → Mark → ℕ → List ℕ
+meanings marks dashed place =
     meaning_if marks.circle place Honest None (codes "no lie is known")
     ++ meaning_if marks.square (place + one_if marks.circle) Traitor None (codes "a named commander, his word")
     ++ meaning_if marks.diamond (place + one_if marks.circle + one_if marks.square) (Lie 0 0) None
     (codes "a lie of a named traitor")
-    ++ meaning_if marks.dashes (place + one_if marks.circle + one_if marks.square + one_if marks.diamond) Honest
+    ++ meaning_if marks.dashes (place + one_if marks.circle + one_if marks.square + one_if marks.diamond) dashed
     (Some (Divided 0))
     (codes "no order has a majority")
 
@@ -80,4 +93,4 @@ rule_at place = row_start place ++ rule ++ row_end
 
 -- below these labels' rows
 abbrev pub legend : List Node → List ℕ
-legend nodes = rule_at (length nodes) ++ meanings (marks_of nodes) (length nodes + 1)
+legend nodes = rule_at (length nodes) ++ meanings (marks_of nodes) (dashed_shape nodes) (length nodes + 1)

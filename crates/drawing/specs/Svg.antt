@@ -1,9 +1,10 @@
 -- The tree of a lieutenant as a picture in SVG.
-use Rattle.std.specs.Prelude.{ℕ, ◌+◌, ◌*◌, max, List, ◌++◌, length, codes}
+use Rattle.std.specs.Prelude.{ℕ, ◌+◌, ◌*◌, max, Bool, if◌then◌else◌, List, [], ◌++◌, length, codes}
 use Rattle.std.specs.Fmt.{decimal}
 use Rattle.book.specs.Decisions.{decision_of}
 use Rattle.book.specs.Table.{MessageTable}
 use Rattle.drawing.specs.declared.node.View.{View}
+use Rattle.drawing.specs.declared.node.Marks.{Marks}
 use Rattle.drawing.specs.declared.node.Node.{Node}
 use Rattle.drawing.specs.Legend.{count_of, legend, marks_of}
 use Rattle.drawing.specs.Rows.{rows_from, widest}
@@ -27,11 +28,23 @@ unfoldable pub heading : ℕ → ℕ → List ℕ
 heading p order = codes "<text x=\"10\" y=\"24\">lieutenant "
     ++ (decimal p ++ (codes " decides " ++ (decimal order ++ codes "</text>\n")))
 
--- what is told of the shapes to those who do not see them
-unfoldable pub key : List ℕ
-key =
-    codes "<desc>Each row is a label, below the label that it goes on from, with what he was told of it. Circle: the word of a general who is not named as a traitor, or tells what he took. "
-    ++ codes "Square: the word of a commander who is named. Diamond: a lie. Dashes: no order has a majority.</desc>\n"
+-- what is told of the shapes to those who do not see them, of each that stands in the picture
+unfoldable pub key_start : List ℕ
+key_start =
+    codes "<desc>Each row is a label, below the label that it goes on from, with what he was told of it."
+
+unfoldable pub said_if : Bool → List ℕ → List ℕ
+said_if stands words = if stands then words else []
+
+abbrev pub shape_words : Marks → List ℕ
+shape_words marks =
+    said_if marks.circle (codes " Circle: the word of a general who is not named as a traitor, or tells what he took.")
+    ++ said_if marks.square (codes " Square: the word of a commander who is named.")
+    ++ said_if marks.diamond (codes " Diamond: a lie.")
+    ++ said_if marks.dashes (codes " Dashes: no order has a majority.")
+
+abbrev pub key : Marks → List ℕ
+key marks = key_start ++ shape_words marks ++ codes "</desc>\n"
 
 -- what the shapes look like: on paper, and on a dark ground where one is wished for
 unfoldable pub look : List ℕ
@@ -41,8 +54,8 @@ look =
     ++ codes "@media(prefers-color-scheme:dark){svg{background:#111}text{fill:#eee}.told,.word,.lie{stroke:#eee}.told{fill:#111}}</style>\n"
 
 -- what stands before the rows
-abbrev pub head : ℕ → ℕ → List ℕ
-head p order = title p order ++ key ++ look ++ heading p order
+abbrev pub head : Marks → ℕ → ℕ → List ℕ
+head marks p order = title p order ++ key marks ++ look ++ heading p order
 
 -- a picture of this width and height, its head, and its rows
 abbrev pub picture : ℕ → ℕ → List ℕ → List ℕ → List ℕ
@@ -61,7 +74,7 @@ tallness nodes = 64 + 24 * (length nodes + count_of (marks_of nodes))
 
 -- the picture of these labels
 abbrev pub svg_of : MessageTable → ℕ → List Node → List ℕ
-svg_of t p nodes = picture (breadth nodes) (tallness nodes) (head p (decision_of t p)) (inside t.generals p nodes)
+svg_of t p nodes = picture (breadth nodes) (tallness nodes) (head (marks_of nodes) p (decision_of t p)) (inside t.generals p nodes)
 
 unfoldable pub svg_text : MessageTable → List ℕ → View → ℕ → List ℕ
 svg_text t traitors view p = svg_of t p (nodes_of t traitors view p)

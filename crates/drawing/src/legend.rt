@@ -1,7 +1,7 @@
 //! What the marks of a picture mean, below its rows.
 ghost use Rattle.std.specs.Prelude.{◌≡◌, ◌≤◌, ◌<◌, ◌^◌, ◌++◌, string_bytes, OnOk};
 ghost use Rattle.std.specs.List.{list_any};
-ghost use Rattle.drawing.specs.Legend.{count_of, has_circle, has_dashes, has_diamond, has_square, legend, marks_of, meaning, meaning_if, meaning_words, meanings, one_if, rule, rule_at};
+ghost use Rattle.drawing.specs.Legend.{count_of, dashed_shape, has_circle, has_dashed_circle, has_dashed_square, has_dashes, has_diamond, has_square, legend, marks_of, meaning, meaning_if, meaning_words, meanings, one_if, rule, rule_at};
 
 use crate::facts::is_honest;
 use crate::node::{Mark, Marks, Node};
@@ -47,6 +47,47 @@ fn any_dashes(nodes: &[Node]) -> bool
     ensures { result ≡ list_any has_dashes nodes.now }
 {
     nodes.iter().any(|node| has_dashes(node))
+}
+
+/// Which shape stands with dashes in their picture: a circle, if one does, else a square, else a diamond.
+fn dashed_shape(nodes: &[Node]) -> Mark
+    ensures { result ≡ dashed_shape nodes.now }
+{
+    if any_dashed_circle(nodes) {
+        Mark::Honest
+    } else if any_dashed_square(nodes) {
+        Mark::Traitor
+    } else {
+        Mark::Lie(0, 0)
+    }
+}
+
+/// Whether one of them has a circle with dashes.
+fn any_dashed_circle(nodes: &[Node]) -> bool
+    ensures { result ≡ list_any has_dashed_circle nodes.now }
+{
+    nodes.iter().any(|node| has_dashed_circle(node))
+}
+
+/// Whether one of them has a square with dashes.
+fn any_dashed_square(nodes: &[Node]) -> bool
+    ensures { result ≡ list_any has_dashed_square nodes.now }
+{
+    nodes.iter().any(|node| has_dashed_square(node))
+}
+
+/// Whether a label has a circle with dashes.
+fn has_dashed_circle(node: &Node) -> bool
+    ensures { result ≡ has_dashed_circle node.now }
+{
+    has_dashes(node) && has_circle(node)
+}
+
+/// Whether it has a square with dashes.
+fn has_dashed_square(node: &Node) -> bool
+    ensures { result ≡ has_dashed_square node.now }
+{
+    has_dashes(node) && has_square(node)
 }
 
 /// Whether no lie is known of a label.
@@ -102,7 +143,12 @@ pub(crate) fn put_legend(out: &mut String, nodes: &[Node]) -> Result<(), AllocEr
     ensures { OnOk result (string_bytes out.new ≡ string_bytes out.old ++ legend nodes.now) }
 {
     put_rule(out, nodes.len() as u128)?;
-    put_meanings(out, marks(nodes), nodes.len() as u128 + 1)
+    put_meanings(
+        out,
+        marks(nodes),
+        dashed_shape(nodes),
+        nodes.len() as u128 + 1,
+    )
 }
 
 /// Adds a line with this place.
@@ -123,10 +169,10 @@ fn rule() -> &'static str
     "<path class=\"line\" d=\"M0 12h240\"/>"
 }
 
-/// Adds what these marks mean, a row for each, the first with this place.
-fn put_meanings(out: &mut String, marks: Marks, place: u128) -> Result<(), AllocError>
+/// Adds what these marks mean, a row for each, the first with this place; dashes at a shape that has them.
+fn put_meanings(out: &mut String, marks: Marks, dashed: Mark, place: u128) -> Result<(), AllocError>
     requires { place < 2 ^ 99 }
-    ensures { OnOk result (string_bytes out.new ≡ string_bytes out.old ++ meanings marks place) }
+    ensures { OnOk result (string_bytes out.new ≡ string_bytes out.old ++ meanings marks dashed place) }
 {
     let second = place + one_if(marks.circle);
     let third = second + one_if(marks.square);
@@ -159,7 +205,7 @@ fn put_meanings(out: &mut String, marks: Marks, place: u128) -> Result<(), Alloc
         out,
         marks.dashes,
         last,
-        Mark::Honest,
+        dashed,
         Some(Outcome::Divided(0)),
         "no order has a majority",
     )?;

@@ -1,9 +1,9 @@
 //! A lieutenant's tree as a picture in SVG: a row for each label, below that of the label that it goes on from.
 ghost use Rattle.std.specs.Prelude.{◌≡◌, ◌≢◌, ◌<◌, ◌^◌, ◌++◌, string_bytes, IfOk, OnOk};
-ghost use Rattle.drawing.specs.Svg.{head, heading, inside, key, look, size, start, svg_text, title, view_box};
+ghost use Rattle.drawing.specs.Svg.{head, heading, inside, key, key_start, look, said_if, shape_words, size, start, svg_text, title, view_box};
 
 use crate::legend::{count, marks, put_legend};
-use crate::node::{Node, View};
+use crate::node::{Marks, Node, View};
 use crate::rows::{put_rows, widest};
 use crate::shown::nodes;
 use book::{Heard, decision};
@@ -32,11 +32,12 @@ pub fn tree_svg<H: Heard>(
 {
     let nodes = nodes(alloc, table, traitors, view, general)?;
     let width = LEAST.max(48 + widest(alloc, nodes.as_slice())?);
-    let height = 64 + 24 * (nodes.len() as u128 + count(marks(nodes.as_slice())));
+    let marks = marks(nodes.as_slice());
+    let height = 64 + 24 * (nodes.len() as u128 + count(marks));
     let mut text = String::from_str(alloc, start())?;
     put_size(&mut text, width, height)?;
     put_view_box(&mut text, width, height)?;
-    put_head(&mut text, general, decision(table, general))?;
+    put_head(&mut text, marks, general, decision(table, general))?;
     put_inside(&mut text, table.generals(), general, nodes.as_slice())?;
     text.push_str("</svg>\n")?;
     Ok(text)
@@ -67,11 +68,11 @@ fn put_view_box(out: &mut String, width: u128, height: u128) -> Result<(), Alloc
 }
 
 /// Adds what stands before the rows: whose tree it is, what it shows, and how it looks.
-fn put_head(out: &mut String, general: u8, order: u32) -> Result<(), AllocError>
-    ensures { OnOk result (string_bytes out.new ≡ string_bytes out.old ++ head general order) }
+fn put_head(out: &mut String, marks: Marks, general: u8, order: u32) -> Result<(), AllocError>
+    ensures { OnOk result (string_bytes out.new ≡ string_bytes out.old ++ head marks general order) }
 {
     put_title(out, general, order)?;
-    out.push_str(key())?;
+    put_key(out, marks)?;
     out.push_str(look())?;
     put_heading(out, general, order)
 }
@@ -95,14 +96,48 @@ fn put_heading(out: &mut String, general: u8, order: u32) -> Result<(), AllocErr
     )
 }
 
-/// What is told of the shapes to those who do not see them.
-#[tactic(auto, unfolding(crate::specs::Svg::key))]
-fn key() -> &'static str
-    ensures { result.now ≡ key }
+/// Adds what is told of the shapes to those who do not see them, of each that stands in the picture.
+fn put_key(out: &mut String, marks: Marks) -> Result<(), AllocError>
+    ensures { OnOk result (string_bytes out.new ≡ string_bytes out.old ++ key marks) }
 {
-    "<desc>Each row is a label, below the label that it goes on from, with what he was told of it. Circle: the word of \
-     a general who is not named as a traitor, or tells what he took. Square: the word of a commander who is named. \
-     Diamond: a lie. Dashes: no order has a majority.</desc>\n"
+    out.push_str(key_start())?;
+    put_shape_words(out, marks)?;
+    out.push_str("</desc>\n")
+}
+
+/// Adds what each of these shapes means.
+fn put_shape_words(out: &mut String, marks: Marks) -> Result<(), AllocError>
+    ensures { OnOk result (string_bytes out.new ≡ string_bytes out.old ++ shape_words marks) }
+{
+    put_if(
+        out,
+        marks.circle,
+        " Circle: the word of a general who is not named as a traitor, or tells what he took.",
+    )?;
+    put_if(
+        out,
+        marks.square,
+        " Square: the word of a commander who is named.",
+    )?;
+    put_if(out, marks.diamond, " Diamond: a lie.")?;
+    put_if(out, marks.dashes, " Dashes: no order has a majority.")?;
+    Ok(())
+}
+
+/// What it begins with: what the rows are.
+#[tactic(auto, unfolding(crate::specs::Svg::key_start))]
+fn key_start() -> &'static str
+    ensures { result.now ≡ key_start }
+{
+    "<desc>Each row is a label, below the label that it goes on from, with what he was told of it."
+}
+
+/// Adds these words, where this is so.
+#[tactic(auto, unfolding(crate::specs::Svg::said_if))]
+fn put_if(out: &mut String, stands: bool, words: &str) -> Result<(), AllocError>
+    ensures { OnOk result (string_bytes out.new ≡ string_bytes out.old ++ said_if stands words.now) }
+{
+    if stands { out.push_str(words) } else { Ok(()) }
 }
 
 /// What the shapes look like: on paper, and on a dark ground where one is wished for.

@@ -4,6 +4,7 @@ use Rattle.book.specs.Grammar.{table_told}
 use Rattle.book.specs.Table.{MessageTable}
 use Rattle.command_line.specs.declared.tasks.Course.{Course}
 use Rattle.command_line.specs.declared.tasks.Course.TheVariants.{Scheduled, Recorded}
+use Rattle.diagram.specs.Laws.{BlamesTraitors}
 use Rattle.diagram.specs.Svg.{svg_text}
 use Rattle.retold.specs.Retold.{table_of}
 use Rattle.scenario.specs.Told.{TellsAny}
@@ -18,9 +19,12 @@ use Rattle.world.specs.Chronicle.{Chronicle}
 use Rattle.lab.specs.Campaigns.{IsSchedule, played, signed_played}
 use Rattle.lab.specs.Promises.{KeepsPromises, KeepsSignedPromises}
 
--- the picture is that of the chronicle and of the message table that its own letters tell
+-- the picture is that of the chronicle and of the message table that its own letters tell, and in red is only what
+-- traitors tell
 abbrev pub IsDiagram : Chronicle → List ℕ → Type 0
-IsDiagram c picture = (table : MessageTable) × (table_told (table_of c) ≡ Ok table) × (picture ≡ svg_text table c)
+IsDiagram c picture =
+    (table : MessageTable) × (table_told (table_of c) ≡ Ok table) × BlamesTraitors c.scenario table
+    × (picture ≡ svg_text table c)
 
 -- the picture is that of the campaign's chronicle by a schedule, which keeps what is promised
 abbrev pub IsCampaignDrawn : Campaign → List (List Repeat) → List ℕ → Type 0

@@ -5,6 +5,7 @@ use Rattle.book.specs.Table.{MessageTable}
 use Rattle.campaign_page.specs.Account.{page_text}
 use Rattle.command_line.specs.declared.tasks.Course.{Course}
 use Rattle.command_line.specs.declared.tasks.Course.TheVariants.{Scheduled, Recorded}
+use Rattle.diagram.specs.Laws.{BlamesTraitors}
 use Rattle.retold.specs.Retold.{table_of}
 use Rattle.scenario.specs.Told.{TellsAny}
 use Rattle.scenario.specs.declared.messages.Campaign.{Campaign}
@@ -19,10 +20,11 @@ use Rattle.lab.specs.Campaigns.{IsSchedule, played, signed_played}
 use Rattle.lab.specs.Promises.{KeepsPromises, KeepsSignedPromises}
 
 -- the page is that of the chronicle, of the message table that its own letters tell, of the scenario's text, and of the
--- schedule, if it was played by one
+-- schedule, if it was played by one, and in its picture in red is only what traitors tell
 abbrev pub IsPage : List ℕ → Option (List (List Repeat)) → Chronicle → List ℕ → Type 0
 IsPage text schedule c page =
-    (table : MessageTable) × (table_told (table_of c) ≡ Ok table) × (page ≡ page_text text schedule table c)
+    (table : MessageTable) × (table_told (table_of c) ≡ Ok table) × BlamesTraitors c.scenario table
+    × (page ≡ page_text text schedule table c)
 
 -- the page is that of the campaign's chronicle by a schedule, which keeps what is promised, and of the scenario's text
 abbrev pub IsCampaignPaged : Campaign → List ℕ → List (List Repeat) → List ℕ → Type 0

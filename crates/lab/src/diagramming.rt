@@ -1,11 +1,13 @@
 //! Campaigns as pictures.
 ghost use Rattle.std.specs.Prelude.{◌≡◌, IfErr, IfOk};
 ghost use Rattle.lab.specs.Diagrams.{IsCampaignDrawn, IsDiagram, IsRecordDrawn};
+ghost use Rattle.lab.specs.Promises.{AreFaithful};
 ghost use Rattle.lab.specs.Refusals.{RefusesChronicle, RefusesText};
 ghost use Rattle.retold.specs.Retold.{IsWhole};
 ghost use Rattle.scenario.specs.declared.messages.Campaign.TheVariants.{Oral, Signed};
 ghost use Rattle.signed_diagram.specs.Svg.{signed_svg};
 
+use crate::recalling::recall_orders;
 use crate::refusal::Refusal;
 use crate::texts::as_text;
 use diagram::campaign_svg;
@@ -37,7 +39,7 @@ pub fn diagrammed(
 }
 
 /// An oral one.
-#[tactic(auto, using(crate::proofs::CampaignLemmas::played_wholly, crate::proofs::DiagramLemmas::of_same, crate::proofs::PromiseLemmas::played_kept))]
+#[tactic(auto, using(crate::proofs::CampaignLemmas::played_wholly, crate::proofs::DiagramLemmas::of_same, crate::proofs::PromiseLemmas::played_faithful, crate::proofs::PromiseLemmas::played_kept))]
 fn oral_diagrammed(
     alloc: Global,
     scenario: Scenario,
@@ -84,7 +86,7 @@ pub fn record_diagrammed(
 }
 
 /// An oral one.
-#[tactic(auto, using(crate::proofs::CampaignLemmas::told_wholly, crate::proofs::DiagramLemmas::of_same, crate::proofs::PromiseLemmas::told_kept))]
+#[tactic(auto, using(crate::proofs::CampaignLemmas::told_wholly, crate::proofs::DiagramLemmas::of_same, crate::proofs::PromiseLemmas::told_faithful, crate::proofs::PromiseLemmas::told_kept))]
 fn oral_record_diagrammed(
     alloc: Global,
     scenario: &Scenario,
@@ -114,12 +116,14 @@ fn signed_record_diagrammed(
 }
 
 /// The picture of a chronicle, with the message table that its letters tell.
-#[tactic(auto, using(crate::proofs::DiagramLemmas::is_diagram))]
 fn diagram_of(alloc: Global, chronicle: &Chronicle) -> Result<Vec<u8>, AllocError>
-    requires { IsWhole chronicle.now }
+    requires whole { IsWhole chronicle.now }
+    requires faithful { AreFaithful chronicle.now }
     ensures { IfOk result (λ picture. IsDiagram chronicle.now picture.items) }
 {
+    chronicle.scenario().recall();
     let told = hearing(alloc, chronicle)?;
+    recall_orders(told.trees());
     let table = told_table(&told, chronicle);
     Ok(campaign_svg(alloc, &table, chronicle)?.into_bytes())
 }

@@ -23,6 +23,7 @@ mod playing;
 mod programs;
 mod reading;
 mod reasons;
+mod recalling;
 mod refusal;
 mod scheduling;
 mod seeming;

@@ -1,11 +1,13 @@
 //! Campaigns as pages.
 ghost use Rattle.std.specs.Prelude.{◌≡◌, IfErr, IfOk, None, Some, option_map};
 ghost use Rattle.lab.specs.Pages.{IsCampaignPaged, IsPage, IsRecordTold};
+ghost use Rattle.lab.specs.Promises.{AreFaithful};
 ghost use Rattle.lab.specs.Refusals.{RefusesChronicle, RefusesText};
 ghost use Rattle.retold.specs.Retold.{IsWhole};
 ghost use Rattle.scenario.specs.declared.messages.Campaign.TheVariants.{Oral, Signed};
 ghost use Rattle.signed_page.specs.Account.{signed_page_text};
 
+use crate::recalling::recall_orders;
 use crate::refusal::Refusal;
 use crate::texts::as_text;
 use campaign_page::page_text;
@@ -38,7 +40,7 @@ pub fn paged(
 }
 
 /// An oral one.
-#[tactic(auto, using(crate::proofs::CampaignLemmas::played_wholly, crate::proofs::PageLemmas::of_same, crate::proofs::PromiseLemmas::played_kept))]
+#[tactic(auto, using(crate::proofs::CampaignLemmas::played_wholly, crate::proofs::PageLemmas::of_same, crate::proofs::PromiseLemmas::played_faithful, crate::proofs::PromiseLemmas::played_kept))]
 fn oral_paged(
     alloc: Global,
     text: &str,
@@ -88,7 +90,7 @@ pub fn record_paged(
 }
 
 /// An oral one.
-#[tactic(auto, using(crate::proofs::CampaignLemmas::told_wholly, crate::proofs::PageLemmas::of_same, crate::proofs::PromiseLemmas::told_kept))]
+#[tactic(auto, using(crate::proofs::CampaignLemmas::told_wholly, crate::proofs::PageLemmas::of_same, crate::proofs::PromiseLemmas::told_faithful, crate::proofs::PromiseLemmas::told_kept))]
 fn oral_record_paged(
     alloc: Global,
     text: &str,
@@ -120,18 +122,20 @@ fn signed_record_paged(
 }
 
 /// The page of a chronicle, with the message table that its letters tell.
-#[tactic(auto, using(crate::proofs::PageLemmas::is_page))]
 fn page_of(
     alloc: Global,
     scenario_text: &str,
     schedule: Option<&Schedule>,
     chronicle: &Chronicle,
 ) -> Result<Vec<u8>, AllocError>
-    requires { IsWhole chronicle.now }
+    requires whole { IsWhole chronicle.now }
+    requires faithful { AreFaithful chronicle.now }
     ensures { IfOk result (λ page. IsPage scenario_text.now
         (option_map (λ s. s.now) schedule.entry) chronicle.now page.items) }
 {
+    chronicle.scenario().recall();
     let told = hearing(alloc, chronicle)?;
+    recall_orders(told.trees());
     let table = told_table(&told, chronicle);
     Ok(page_text(alloc, scenario_text, schedule, &table, chronicle)?.into_bytes())
 }

@@ -1,3 +1,4 @@
+pub mod Parsed
 pub mod Names
 pub mod Members
 pub mod Asking

@@ -6,7 +6,7 @@ ghost use Rattle.toml.specs.View.{items_view, table_view, view};
 ghost use Rattle.references.specs.Asking.{asked, asked_by, asked_in, asked_of};
 
 use crate::key::Key;
-use crate::tables::{function_at, name_at, traitors};
+use crate::tables::{document, function_at, name_at, traitors};
 use std::alloc::{AllocError, Global};
 use std::marker::Model;
 use toml::{Table, Value};
@@ -103,10 +103,8 @@ fn asked_in(alloc: Global, values: &[Value]) -> Result<Vec<Reference>, AllocErro
 pub fn asked(alloc: Global, text: &str) -> Result<Vec<Reference>, AllocError>
     ensures { IfOk result (λ all. all.items ≡ asked (parse_document text.now)) }
 {
-    let table = match toml::table_from_str(alloc, text) {
-        Ok(table) => table,
-        Err(error) if error.is_memory() => return Err(AllocError),
-        Err(_) => return Ok(Vec::new(alloc)),
+    let Some(table) = document(alloc, text)? else {
+        return Ok(Vec::new(alloc));
     };
     match traitors(&table) {
         Some(values) => asked_in(alloc, values),

@@ -6,7 +6,7 @@ ghost use Rattle.references.specs.Names.{seats};
 ghost use Rattle.references.specs.Origins.{has_general, is_among, is_general, is_seat, origin, origin_from, seat, seat_from, stands_for};
 ghost use Rattle.toml.specs.Data.{as_table};
 
-use crate::tables::{seats, traitors, value_at};
+use crate::tables::{document, seats, traitors, value_at};
 use std::alloc::{AllocError, Global};
 use toml::{Table, Value};
 
@@ -108,10 +108,8 @@ fn seat_in(values: &[Value], general: u8) -> Option<usize>
 pub fn origin(alloc: Global, text: &str, number: usize) -> Result<usize, AllocError>
     ensures { IfOk result (λ own. own ≡ origin number (parse_document text.now)) }
 {
-    let table = match toml::table_from_str(alloc, text) {
-        Ok(table) => table,
-        Err(error) if error.is_memory() => return Err(AllocError),
-        Err(_) => return Ok(number),
+    let Some(table) = document(alloc, text)? else {
+        return Ok(number);
     };
     match traitors(&table) {
         Some(values) => Ok(origin_in(values, number)),
@@ -128,10 +126,8 @@ pub fn origin(alloc: Global, text: &str, number: usize) -> Result<usize, AllocEr
 pub fn seat(alloc: Global, text: &str, general: u8) -> Result<Option<usize>, AllocError>
     ensures { IfOk result (λ own. own ≡ seat general (parse_document text.now)) }
 {
-    let table = match toml::table_from_str(alloc, text) {
-        Ok(table) => table,
-        Err(error) if error.is_memory() => return Err(AllocError),
-        Err(_) => return Ok(None),
+    let Some(table) = document(alloc, text)? else {
+        return Ok(None);
     };
     match traitors(&table) {
         Some(values) => Ok(seat_in(values, general)),

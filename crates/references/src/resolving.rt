@@ -9,7 +9,7 @@ ghost use Rattle.references.specs.Resolved.{IsPrinted, Resolves, ResolvesList, e
 
 use crate::beside::{Beside, text_named};
 use crate::key::Key;
-use crate::tables::{function_at, has, name_at, put, seats, traitors};
+use crate::tables::{document, function_at, has, name_at, put, seats, traitors};
 use std::alloc::{AllocError, Global};
 use toml::{Table, Value};
 
@@ -221,9 +221,8 @@ fn resolved_document(
 pub fn resolved(alloc: Global, text: &str, files: &[Beside]) -> Result<Option<String>, AllocError>
     ensures { IfOk result (λ new. Resolves files.now (parse_document text.now) (option_map string_bytes new)) }
 {
-    match toml::table_from_str(alloc, text) {
-        Ok(table) => resolved_document(alloc, files, table),
-        Err(error) if error.is_memory() => Err(AllocError),
-        Err(_) => Ok(None),
+    match document(alloc, text)? {
+        Some(table) => resolved_document(alloc, files, table),
+        None => Ok(None),
     }
 }

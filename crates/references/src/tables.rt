@@ -1,13 +1,34 @@
-//! What a table has at a key.
-ghost use Rattle.std.specs.Prelude.{◌≡◌, OnOk, is_some, option_and_then, option_map, codes};
+//! The table of a scenario's text, and what a table has at a key.
+ghost use Rattle.std.specs.Prelude.{◌≡◌, IfOk, OnOk, is_some, option_and_then, option_map, codes};
 ghost use Rattle.toml.specs.Data.{as_array, as_str, get_member};
+ghost use Rattle.toml.specs.Parse.{parse_document};
 ghost use Rattle.toml.specs.View.{items_view, table_view, view};
 ghost use Rattle.references.specs.Names.{function_at, is_taken, name_at, seats, traitors};
 ghost use Rattle.references.specs.Members.{put};
+ghost use Rattle.references.specs.Parsed.{IsDocumentOf};
 
 use crate::key::Key;
 use std::alloc::{AllocError, Global};
+use toml::de::Error;
 use toml::{Table, Value};
+
+/// What a text that was parsed so tells: its table, or none where it is no TOML.
+fn told(parsed: Result<Table, Error>) -> Result<Option<Table>, AllocError>
+    ensures { IsDocumentOf parsed result }
+{
+    match parsed {
+        Ok(table) => Ok(Some(table)),
+        Err(error) if error.is_memory() => Err(AllocError),
+        Err(_) => Ok(None),
+    }
+}
+
+/// The table of a text; none where it is no TOML.
+pub(crate) fn document(alloc: Global, text: &str) -> Result<Option<Table>, AllocError>
+    ensures { IfOk result (λ table. option_map table_view table ≡ parse_document text.now) }
+{
+    told(toml::table_from_str(alloc, text))
+}
 
 /// Whether the table has the key.
 pub(crate) fn has(table: &Table, key: &str) -> bool

@@ -10,7 +10,10 @@ use Rattle.asm.specs.declared.fault.AsmError.TheVariants as assembler
 use Rattle.codec.specs.declared.fault.CodecError.{CodecError}
 use Rattle.codec.specs.declared.fault.CodecError.TheVariants as decoder
 use Rattle.verify.specs.declared.error.VerifyError.{VerifyError}
+use Rattle.hex.specs.declared.error.FromHexError.{FromHexError}
+use Rattle.hex.specs.declared.error.FromHexError.TheVariants as hex
 use Rattle.scenario.specs.declared.fault.ProgramFault.TheVariants.{Asm, Code, Verifier}
+use Rattle.scenario.specs.declared.fault.ProgramFault.TheVariants as faults
 use Rattle.scenario.specs.declared.fault.ScenarioError.{ScenarioError}
 use Rattle.scenario.specs.declared.fault.ScenarioError.TheVariants as errors
 use Rattle.scenario.specs.Tables.{Source, Assembly, Hex}
@@ -36,10 +39,15 @@ Accepts g program (Err (errors.Program h (Verifier reason unit))) =
 Accepts g program (Err errors.Memory) = Unit {0}
 Accepts g program (Err _) = ⊥
 
--- the error that tells of the assembler's, the decoder's and the verifier's: memory of memory alone
+-- the error that tells of the assembler's, of the hex text's, of the decoder's and of the verifier's: memory of memory
+-- alone
 abbrev pub unassembled : ℕ → AsmError → ScenarioError
 unassembled g assembler.Memory = errors.Memory
 unassembled g (assembler.At fault line) = errors.Program g (Asm fault line)
+
+abbrev pub unhexed : ℕ → FromHexError → ScenarioError
+unhexed g hex.OutOfMemory = errors.Memory
+unhexed g _ = errors.Program g faults.Hex
 
 abbrev pub undecoded : ℕ → CodecError → ScenarioError
 undecoded g decoder.Memory = errors.Memory

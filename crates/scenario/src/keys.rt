@@ -1,16 +1,16 @@
 //! The values of single keys, each the value or the first fault of its checks.
 
-ghost use Rattle.std.specs.Prelude.{◌≡◌, ◌≢◌, ℕ, ◌≤◌, ◌<◌, ◌^◌, option_map, IfOk, IfSome, IfErr};
+ghost use Rattle.std.specs.Prelude.{◌≡◌, ◌≢◌, ℕ, ◌≤◌, ◌<◌, ◌^◌, option_map, IfOk, IfSome, IfErr, MatchResult};
 ghost use Rattle.toml.specs.Data.{get_member};
 ghost use Rattle.toml.specs.View.{view, table_view, array_view, items_view};
 ghost use Rattle.scenario.specs.Names.{is_top_key, is_entry_key, text_of};
 ghost use Rattle.scenario.specs.Checks.{first_unknown, known, required, whole, elements, natural, number, optional_number, general};
 ghost use Rattle.scenario.specs.Flaws.{Gives};
-ghost use Rattle.scenario.specs.declared.fault.ScenarioError.TheVariants.{Memory};
+ghost use Rattle.scenario.specs.declared.fault.ScenarioError.TheVariants.{Unknown, Memory};
 
 use crate::fault::{Fault, ScenarioError};
 use crate::place::{Name, Place};
-use std::alloc::Global;
+use std::alloc::{AllocError, Global};
 use toml::{Table, Value};
 
 /// Whether the top of a scenario has the key.
@@ -57,16 +57,22 @@ fn first_unknown_in_entry(table: &Table) -> Option<&str>
     None
 }
 
-fn refuse_unknown(
-    alloc: Global,
-    at: Option<usize>,
-    unknown: Option<&str>,
-) -> Result<(), ScenarioError>
-    ensures { Gives (λ _. tt) result (known at (option_map (λ k. k.now) unknown.entry)) }
+/// Why a text tells no scenario where a key is unknown: that key, unless memory was refused for it.
+fn unknown(at: Option<usize>, key: Result<String, AllocError>) -> ScenarioError
+    ensures { MatchResult key (λ key. result ≡ Unknown at key) (λ _. result ≡ Memory) }
 {
-    match unknown {
+    match key {
+        Ok(key) => ScenarioError::Unknown(at, key),
+        Err(AllocError) => ScenarioError::Memory,
+    }
+}
+
+fn refuse_unknown(alloc: Global, at: Option<usize>, key: Option<&str>) -> Result<(), ScenarioError>
+    ensures { Gives (λ _. tt) result (known at (option_map (λ k. k.now) key.entry)) }
+{
+    match key {
         None => Ok(()),
-        Some(key) => Err(ScenarioError::Unknown(at, String::from_str(alloc, key)?)),
+        Some(key) => Err(unknown(at, String::from_str(alloc, key))),
     }
 }
 

@@ -1,7 +1,7 @@
 //! The traitors' programs, assembled or decoded, and verified.
 ghost use Rattle.std.specs.Prelude.{◌≡◌};
 ghost use Rattle.scenario.specs.Tables.{Assembly, Hex};
-ghost use Rattle.scenario.specs.Seen.{source_of, Makes, Accepts, unassembled, undecoded, unverified};
+ghost use Rattle.scenario.specs.Seen.{source_of, Makes, Accepts, unassembled, unhexed, undecoded, unverified};
 
 use crate::fault::{ProgramFault, ScenarioError};
 use asm::{AsmError, assemble};
@@ -48,12 +48,23 @@ fn spelled(alloc: Global, general: u8, text: &str) -> Result<Program, ScenarioEr
 {
     let bytes = match hex::decode(alloc, text) {
         Ok(bytes) => bytes,
-        Err(FromHexError::OutOfMemory) => return Err(ScenarioError::Memory),
-        Err(_) => return Err(ScenarioError::Program(general, ProgramFault::Hex)),
+        Err(error) => return Err(unhexed(general, error)),
     };
     match decode(alloc, bytes.as_slice()) {
         Ok(program) => Ok(program),
         Err(error) => Err(undecoded(general, error)),
+    }
+}
+
+/// Why there is no program where the text spelled no bytes.
+fn unhexed(general: u8, error: FromHexError) -> ScenarioError
+    ensures { result ≡ unhexed general error }
+{
+    match error {
+        FromHexError::OutOfMemory => ScenarioError::Memory,
+        FromHexError::InvalidHexCharacter { .. }
+        | FromHexError::OddLength
+        | FromHexError::InvalidStringLength => ScenarioError::Program(general, ProgramFault::Hex),
     }
 }
 

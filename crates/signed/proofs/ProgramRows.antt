@@ -12,7 +12,7 @@ use Rattle.combine.specs.declared.chosen.Rule.TheVariants.{Majority}
 use Rattle.semantics.specs.Execution.{step}
 use Rattle.round.specs.Scenario.{Scenario}
 use Rattle.round.specs.Letters.{Letter}
-use Rattle.round.specs.Contexts.{context_bytes}
+use Rattle.contexts.specs.Layout.{context_bytes}
 use Rattle.world.specs.declared.event.Event.TheVariants.{Tick, Post, Close}
 use Rattle.world.specs.declared.event.EventError.TheVariants.{NotOpen, NoGeneral}
 use Rattle.world.specs.declared.verdict.Verdict.{Verdict}

@@ -12,7 +12,8 @@ use Rattle.label.specs.Labels.{labels}
 use Rattle.label.specs.Oral.{om}
 use Rattle.semantics.specs.Execution.{step}
 use Rattle.round.specs.Scenario.{Scenario}
-use Rattle.round.specs.Contexts.{context_bytes, context_of}
+use Rattle.contexts.specs.Layout.{context_bytes}
+use Rattle.round.specs.Contexts.{context_of}
 use Rattle.round.specs.Letters.{messages}
 use Rattle.world.specs.declared.event.EventError.TheVariants.{NotOpen, NoGeneral}
 use Rattle.world.specs.World.{opening, run, refusal}

@@ -7,7 +7,7 @@ use Rattle.label.specs.Labels.{labels}
 use Rattle.label.specs.Oral.{om}
 use Rattle.semantics.specs.Execution.{step}
 use Rattle.round.specs.Scenario.{Scenario}
-use Rattle.round.specs.Contexts.{context_bytes}
+use Rattle.contexts.specs.Layout.{context_bytes}
 use Rattle.round.specs.Letters.{messages}
 use Rattle.world.specs.Chronicle.{decisions}
 use Rattle.trace.specs.Text.{lines_in, text_in}

@@ -11,7 +11,7 @@ use Rattle.insn.specs.declared.insn.Insn.TheVariants.{Arithmetic, Call, Exit}
 use Rattle.insn.specs.declared.insn.Operand.TheVariants.{Immediate}
 use Rattle.label.specs.Labels.{labels}
 use Rattle.semantics.specs.Execution.{step}
-use Rattle.round.specs.Contexts.{context_bytes}
+use Rattle.contexts.specs.Layout.{context_bytes}
 use Rattle.trial.specs.declared.place.Name.TheVariants as names
 use Rattle.trial.specs.declared.place.Place.{Place}
 use Rattle.trial.specs.declared.place.Place.TheVariants as places

@@ -72,10 +72,14 @@ items_length (item d ds) = suc (items_length ds)
 abbrev pub elements : Place → Data → Result Items Flaw
 elements s d = ok_or (as_array d) (faulty faults.Kind s)
 
--- at most as many orders as labels; RETREAT for those of further ranks
+-- at most as many orders as labels
+abbrev pub are_few : ℕ → ℕ → Result (Unit {0}) Flaw
+are_few labels number = test (nat_le number labels) faults.Range (places.Key names.Taken)
+
+-- the order for each label; RETREAT for those of further ranks
 unfoldable pub orders : ℕ → Items → Result (List ℕ) Flaw
 orders labels ds = do
-  few ← test (nat_le (items_length ds) labels) faults.Range (places.Key names.Taken)
+  few ← are_few labels (items_length ds)
   over set_order 0 (replicate labels 0) ds
 
 -- the orders taken for so many labels

@@ -1,15 +1,15 @@
 //! The values of single keys, each the value or the first fault of its checks.
-ghost use Rattle.std.specs.Prelude.{◌≡◌, ◌≢◌, ℕ, ◌≤◌, ◌<◌, option_map, IfOk, IfErr};
+ghost use Rattle.std.specs.Prelude.{◌≡◌, ◌≢◌, ℕ, ◌≤◌, ◌<◌, option_map, IfOk, IfErr, MatchResult};
 ghost use Rattle.toml.specs.Data.{get_member};
 ghost use Rattle.toml.specs.View.{view, table_view, items_view};
 ghost use Rattle.trial.specs.Names.{is_key, text_of};
 ghost use Rattle.trial.specs.Checks.{first_unknown, known, required, whole, elements, natural, number, general};
 ghost use Rattle.trial.specs.Flaws.{Gives};
-ghost use Rattle.trial.specs.declared.fault.SettingError.TheVariants.{Memory};
+ghost use Rattle.trial.specs.declared.fault.SettingError.TheVariants.{Unknown, Memory};
 
 use crate::fault::{Fault, SettingError};
 use crate::place::{Name, Place};
-use std::alloc::Global;
+use std::alloc::{AllocError, Global};
 use toml::{Table, Value};
 
 /// Whether a setting has the key.
@@ -36,12 +36,22 @@ fn first_unknown(table: &Table) -> Option<&str>
     None
 }
 
-fn refuse_unknown(alloc: Global, unknown: Option<&str>) -> Result<(), SettingError>
-    ensures { Gives (λ _. tt) result (known (option_map (λ k. k.now) unknown.entry)) }
+/// Why a text tells no setting where a key is unknown: that key, unless memory was refused for it.
+fn unknown(key: Result<String, AllocError>) -> SettingError
+    ensures { MatchResult key (λ key. result ≡ Unknown key) (λ _. result ≡ Memory) }
 {
-    match unknown {
+    match key {
+        Ok(key) => SettingError::Unknown(key),
+        Err(AllocError) => SettingError::Memory,
+    }
+}
+
+fn refuse_unknown(alloc: Global, key: Option<&str>) -> Result<(), SettingError>
+    ensures { Gives (λ _. tt) result (known (option_map (λ k. k.now) key.entry)) }
+{
+    match key {
         None => Ok(()),
-        Some(key) => Err(SettingError::Unknown(String::from_str(alloc, key)?)),
+        Some(key) => Err(unknown(String::from_str(alloc, key))),
     }
 }
 

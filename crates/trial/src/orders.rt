@@ -1,8 +1,9 @@
 //! The orders that a general has taken.
-ghost use Rattle.std.specs.Prelude.{◌≡◌, ◌≤◌, IfOk, length, replicate, option_map};
+ghost use Rattle.std.specs.Prelude.{◌≡◌, ◌≢◌, ◌≤◌, IfOk, IfErr, length, replicate, option_map};
 ghost use Rattle.toml.specs.View.{view, items_view};
-ghost use Rattle.trial.specs.Checks.{over, set_order, orders, taken};
+ghost use Rattle.trial.specs.Checks.{over, set_order, are_few, orders, taken};
 ghost use Rattle.trial.specs.Flaws.{Gives};
+ghost use Rattle.trial.specs.declared.fault.SettingError.TheVariants.{Memory};
 
 use crate::fault::{Fault, SettingError};
 use crate::keys::{elements, number};
@@ -24,14 +25,24 @@ fn listed(alloc: Global, labels: u32, values: &[Value]) -> Result<Vec<u32>, Sett
     Ok(orders)
 }
 
+/// There are no more orders than labels.
+fn are_few(labels: u32, number: usize) -> Result<(), SettingError>
+    ensures value { Gives (λ _. tt) result (are_few labels number) }
+    ensures few { IfOk result (λ _. number ≤ labels) }
+    ensures fault { IfErr result (λ e. e ≢ Memory) }
+{
+    if number > labels as usize {
+        return Err(SettingError::At(Fault::Range, Place::Key(Name::Taken)));
+    }
+    Ok(())
+}
+
 #[tactic(auto, unfolding(crate::specs::Checks::orders), using(crate::proofs::Items::items_length_view))]
 fn orders(alloc: Global, labels: u32, values: &[Value]) -> Result<Vec<u32>, SettingError>
     ensures gives { Gives (λ orders. orders.items) result (orders labels (items_view values.now)) }
     ensures long { IfOk result (λ orders. length orders.items ≡ labels) }
 {
-    if values.len() > labels as usize {
-        return Err(SettingError::At(Fault::Range, Place::Key(Name::Taken)));
-    }
+    are_few(labels, values.len())?;
     listed(alloc, labels, values)
 }
 
