@@ -1,9 +1,11 @@
 -- What `clap` is told of a subcommand, and of all of them, row by row.
-use Rattle.std.proofs.Common.{◌≡◌, ◌∙◌, ◌+◌, ◌<◌, ◌++◌, ℕ, Bool, false, ◌||◌, List, [], ◌∷◌, ap, ap₂, append-nil, append_assoc, drop, get_or, length, map, sym}
+use Rattle.std.proofs.Common.{◌≡◌, ◌∙◌, ◌+◌, ◌<◌, ◌++◌, ℕ, Bool, false, ◌||◌, List, [], ◌∷◌, ap, ap₂, refl, append-nil, append_assoc, drop, get_or, length, map, sym}
 use Rattle.std.proofs.lemmas.List.{at_drop_more}
 use Rattle.clap.specs.Words.{App, Rule, Shape, new_app, with_rule, with_subcommand}
-use Rattle.command_line.specs.Lab.{flag_rule, place_rule}
-use Rattle.command_line.specs.Subcommand.{flag_of, rule_for, shape_for, with_subcommands}
+use Rattle.command_line.specs.Lab.{app_before, flag_rule, lab_app, place_rule, shape}
+use Rattle.command_line.specs.Subcommand.{flag_of, rule_for, shape_for, usage_of, with_subcommands}
+use Rattle.command_line.specs.Usage.{Usage}
+use Rattle.command_line.specs.Usages.{usages}
 use Rattle.command_line.specs.declared.subcommand.Flag.{Flag}
 use Rattle.command_line.specs.declared.subcommand.Place.{Place}
 use Rattle.command_line.specs.declared.subcommand.Subcommand.{Subcommand}
@@ -60,3 +62,18 @@ subcommand_more app next shape rows i d less is same =
 
 pub still_local : (new old global : Bool) → new ≡ (old || global) → old ≡ false → global ≡ false → new ≡ false
 still_local new old global is none local = is ∙ ap₂ (λ (a b : Bool). a || b) none local
+
+-- the program with the subcommands of these usages is that of theirs
+abbrev with_usages : App → List Usage → App
+with_usages app [] = app
+with_usages app (usage ∷ rest) = with_usages (with_subcommand app (shape usage)) rest
+
+usages_are : (app : App) (rows : List Subcommand) → with_subcommands app rows ≡ with_usages app (map usage_of rows)
+unfolding shape_for
+usages_are app [] = refl
+usages_are app (row ∷ rest) = usages_are (with_subcommand app (shape (usage_of row))) rest
+
+pub lab_is : (app : App) (rows : List Subcommand) → app ≡ app_before → map usage_of rows ≡ usages → with_subcommands app rows ≡ lab_app
+lab_is app rows before all =
+    let whole : with_usages app_before usages ≡ lab_app = refl in
+    usages_are app rows ∙ (ap₂ with_usages before all ∙ whole)

@@ -5,7 +5,7 @@ ghost use Rattle.command_line.specs.Lab.{app_before, lab_about, lab_app, lab_ver
 ghost use Rattle.command_line.specs.Subcommand.{with_subcommands};
 
 use crate::subcommand::Subcommand;
-use crate::subcommands::SUBCOMMANDS;
+use crate::subcommands::subcommands;
 use clap::Command;
 use std::alloc::{AllocError, Global};
 
@@ -13,11 +13,11 @@ use std::alloc::{AllocError, Global};
 const VERSION: &str = "1.0.0, proved with Rattle, logic dac8208d650f15bf";
 
 /// The program's command line.
-#[tactic(auto, unfolding(crate::specs::Subcommand::shape_for))]
+#[tactic(auto, using(crate::proofs::CommandLemmas::lab_is))]
 pub(crate) fn lab_command<'a>(alloc: Global) -> Result<Command<'a>, AllocError>
     ensures { IfOk result (λ c. app_of c ≡ lab_app) }
 {
-    with_subcommands(alloc, bare_command(alloc)?, SUBCOMMANDS)
+    with_subcommands(alloc, bare_command(alloc)?, subcommands())
 }
 
 /// The program with these subcommands.
