@@ -6,7 +6,7 @@ use crate::texts::{colluding, idle, signing};
 use crate::timing::nanoseconds;
 use crate::told::{Messages, audited, freely, scenario_of, told_freely};
 use anyhow::{Result, bail};
-use round::Scenario;
+use roster::Scenario;
 use signed::{SignedWorld, play_signed};
 use std::alloc::Global;
 use std::rt::Clock;

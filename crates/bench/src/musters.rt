@@ -5,7 +5,7 @@ use crate::texts::{colluding, idle};
 use crate::timing::nanoseconds;
 use crate::told::{Messages, scenario_of};
 use anyhow::{Result, bail};
-use round::Scenario;
+use roster::Scenario;
 use std::rt::Clock;
 use std::sync::Wait;
 use std::thread;

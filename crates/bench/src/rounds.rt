@@ -1,13 +1,16 @@
 //! Times the contexts of a round, and the delivery of its letters.
 ghost use Rattle.std.specs.Prelude.{◌≡◌, ◌≤◌, suc, List, IfOk, length};
-ghost use Rattle.round.specs.Letters.{Letter as LetterSeen};
-ghost use Rattle.round.specs.Told.{AreLettersOf, AreRoundsOf, WasTold};
+ghost use Rattle.letter.specs.Letters.{Letter as LetterSeen};
+ghost use Rattle.letter.specs.Origin.{AreLettersOf, AreRoundsOf};
+ghost use Rattle.delivery.specs.Told.{WasTold};
 
 use crate::median::median;
 use crate::timing::{TIMES, nanoseconds, report_time};
 use crate::told::{Messages, freely, played, scenario_of};
 use anyhow::{Result, bail};
-use round::{Letter, Round, Scenario, Told, are_letters_of, are_rounds_of};
+use delivery::Told;
+use letter::{Letter, Round, are_letters_of, are_rounds_of};
+use roster::Scenario;
 use std::alloc::{AllocError, Global};
 use std::rt::Clock;
 use std::time::Instant;

@@ -7,7 +7,7 @@ use crate::{campaigns, musters, trees};
 use anyhow::Result;
 use combine::Rule;
 use label::Label;
-use round::Scenario;
+use roster::Scenario;
 use std::rt::Clock;
 use std::sync::Wait;
 use std::thread::Threads;

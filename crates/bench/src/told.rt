@@ -1,7 +1,7 @@
 //! Campaigns of oral and of signed messages: their scenarios, their chronicles, and the texts of these.
 
 use anyhow::{Result, bail};
-use round::Scenario;
+use roster::Scenario;
 use scenario::{Campaign, read, read_any};
 use signed::{SignedChronicle, play_signed};
 use std::alloc::{AllocError, Global};

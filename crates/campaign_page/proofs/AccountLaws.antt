@@ -27,7 +27,7 @@ use Rattle.label.specs.Labels.{on, others}
 use Rattle.insn.specs.declared.insn.Insn.{Insn}
 use Rattle.insn.specs.Program.{slots_of}
 use Rattle.retold.specs.Retold.{traitors_of}
-use Rattle.round.specs.Scenario.{Scenario, program_of}
+use Rattle.roster.specs.Scenario.{Scenario, program_of}
 use Rattle.trace.specs.Text.{chronicle_text}
 use Rattle.world.specs.Chronicle.{Chronicle}
 use Rattle.world.specs.declared.schedule.Repeat.{Repeat}

@@ -18,7 +18,7 @@ use Rattle.insn.specs.Program.{slots_of}
 use Rattle.label.specs.Labels.{on}
 use Rattle.page.specs.Page.{begun_lines, cell, fold, head, heading, lines, page, paragraph, picture, row, table}
 use Rattle.retold.specs.Retold.{traitors_of}
-use Rattle.round.specs.Scenario.{Scenario, program_of}
+use Rattle.roster.specs.Scenario.{Scenario, program_of}
 use Rattle.trace.specs.Text.{chronicle_text}
 use Rattle.world.specs.Chronicle.{Chronicle}
 use Rattle.world.specs.declared.schedule.Repeat.{Repeat}

@@ -13,7 +13,7 @@ use book::Heard;
 use diagram::campaign_svg;
 use diagram::layout::width;
 use page::{finish, put_heading, put_lines, put_paragraph, put_picture, start};
-use round::Scenario;
+use roster::Scenario;
 use std::alloc::{AllocError, Global};
 use trace::{Latch, write_chronicle};
 use world::{Chronicle, Schedule};

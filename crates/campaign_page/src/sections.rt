@@ -4,7 +4,7 @@ ghost use Rattle.std.specs.List.{range_with_len};
 ghost use Rattle.campaign_page.specs.Account.{lieutenants_heading, no_programs, programs_heading, programs_told, lieutenant_part, lieutenant_words, lieutenants_part, explained_told, program_part, program_told, programs_part, traitor_words, why_part, elsewhere_words, general_name, view_of};
 ghost use Rattle.label.specs.Labels.{on};
 ghost use Rattle.retold.specs.Retold.{traitors_of};
-ghost use Rattle.round.specs.Scenario.{program_of};
+ghost use Rattle.roster.specs.Scenario.{program_of};
 
 use crate::calls::explanation;
 use crate::listing::put_tree;
@@ -14,7 +14,7 @@ use drawing::View;
 use insn::Program;
 use page::{put_begun_lines, put_fold_end, put_fold_start, put_heading, put_lines, put_paragraph};
 use retold::traitors;
-use round::Scenario;
+use roster::Scenario;
 use std::alloc::{AllocError, Global};
 use world::Chronicle;
 

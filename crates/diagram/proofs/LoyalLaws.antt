@@ -14,8 +14,8 @@ use Rattle.book.specs.Table.{MessageTable, told}
 use Rattle.book.proofs.Places.{all_flat}
 use Rattle.book.proofs.TreeLemmas.{place_of_tree}
 use Rattle.drawing.proofs.PlaceLemmas.{place_next, teller_told}
-use Rattle.round.specs.Letters.{messages}
-use Rattle.round.specs.Scenario.{Scenario, is_traitor}
+use Rattle.letter.specs.Letters.{messages}
+use Rattle.roster.specs.Scenario.{Scenario, is_traitor}
 use Rattle.tables.specs.Laws.{IsTableOf}
 use Rattle.tables.proofs.Reread.{apart_first, first_label, place_from}
 use Rattle.world.specs.World.{opening, run}

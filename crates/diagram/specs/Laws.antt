@@ -4,8 +4,8 @@ use Rattle.std.specs.List.{All, list_any}
 use Rattle.label.specs.Oral.{taken}
 use Rattle.markup.specs.Grammar.{IsElement}
 use Rattle.book.specs.Table.{MessageTable, told}
-use Rattle.round.specs.Letters.{messages}
-use Rattle.round.specs.Scenario.{Scenario, IsScenario, is_traitor}
+use Rattle.letter.specs.Letters.{messages}
+use Rattle.roster.specs.Scenario.{Scenario, IsScenario, is_traitor}
 use Rattle.tables.specs.Laws.{IsTableOf}
 use Rattle.world.specs.Agreement.{IsFinished}
 use Rattle.world.specs.Chronicle.{Chronicle}

@@ -4,7 +4,7 @@ use Rattle.std.specs.Fmt.{decimal}
 use Rattle.std.specs.List.{range_with_len}
 use Rattle.board.specs.Board.{Access}
 use Rattle.book.specs.Table.{MessageTable}
-use Rattle.round.specs.Scenario.{Scenario, is_traitor}
+use Rattle.roster.specs.Scenario.{Scenario, is_traitor}
 use Rattle.world.specs.Chronicle.{Chronicle}
 use Rattle.diagram.specs.declared.stroke.Stroke.{Stroke}
 use Rattle.diagram.specs.Bands.{bands}

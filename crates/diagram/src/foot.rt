@@ -8,7 +8,7 @@ use crate::legend::put_legend;
 use crate::shapes::{
     put_group_end, put_group_start, put_line, put_mark, put_text_end, put_text_start, put_words,
 };
-use round::Scenario;
+use roster::Scenario;
 use std::alloc::AllocError;
 use world::{Chronicle, Verdict};
 

@@ -18,7 +18,7 @@ use crate::stroke::Stroke;
 use crate::words::{put_copied, put_general, role_words};
 use board::Access;
 use book::Heard;
-use round::Scenario;
+use roster::Scenario;
 use std::alloc::{AllocError, Global};
 use world::Chronicle;
 

@@ -5,10 +5,10 @@ use Rattle.std.specs.Prelude.{slice_get, slice_index_or, ◌==◌, filter, sum_b
 use Rattle.std.proofs.lemmas.List.Sums.{sum_by-le, sum_by-cons}
 use Rattle.insn.specs.declared.insn.Insn.{Insn}
 use Rattle.board.specs.Board.{Access}
-use Rattle.round.specs.Scenario.{Scenario, IsScenario, program_of}
-use Rattle.round.specs.Letters.{Letter}
-use Rattle.round.specs.Activation.{Activation, started, Turn, Goes, Asks, Ended, turn}
-use Rattle.round.specs.Runs.{Onward, Runs}
+use Rattle.roster.specs.Scenario.{Scenario, IsScenario, program_of}
+use Rattle.letter.specs.Letters.{Letter}
+use Rattle.letter.specs.Activation.{Activation, started, Turn, Goes, Asks, Ended, turn}
+use Rattle.letter.specs.Runs.{Onward, Runs}
 use Rattle.world.specs.declared.event.Event.{Event}
 use Rattle.world.specs.Kind.{Kind, opening, run}
 use Rattle.world.specs.Campaigns.{AreCampaigns}

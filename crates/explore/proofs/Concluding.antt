@@ -5,8 +5,8 @@ use Rattle.std.specs.Ordering.{is_gt}
 use Rattle.std.proofs.Math.Nat.{mul-zero, mul-one}
 use Rattle.std.proofs.lemmas.Slice.Eq.{bytes_eq-Decides}
 use Rattle.std.proofs.lemmas.List.Sums.{sum_by-cons, count_by-le-length}
-use Rattle.round.specs.Letters.{messages}
-use Rattle.round.specs.Scenario.{Scenario, IsScenario}
+use Rattle.letter.specs.Letters.{messages}
+use Rattle.roster.specs.Scenario.{Scenario, IsScenario}
 use Rattle.world.specs.Chronicle.{decisions}
 use Rattle.world.specs.declared.event.Event.{Event}
 use Rattle.world.specs.declared.event.Event.TheVariants.{Tick}

@@ -2,7 +2,7 @@
 use Rattle.std.proofs.Common.{◌≡◌, ℕ, suc, ◌≤◌, List, length, map, All, Some, arith}
 use Rattle.std.proofs.lemmas.List.Elements.{All-map}
 use Rattle.insn.specs.declared.insn.Insn.{Insn}
-use Rattle.round.specs.Scenario.{Scenario, IsScenario, program_of}
+use Rattle.roster.specs.Scenario.{Scenario, IsScenario, program_of}
 use Rattle.world.specs.Kind.{opening}
 use Rattle.world.specs.World.{oral_kind}
 use Rattle.world.proofs.Campaigns.{oral_campaigns}

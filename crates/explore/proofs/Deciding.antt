@@ -1,7 +1,7 @@
 -- The laws of orders.
 use Rattle.std.proofs.Common.{◌≡◌, ℕ, suc, List, sym, ap, subst, ◌∙◌}
 use Rattle.world.specs.declared.event.Event.{Event}
-use Rattle.round.specs.Scenario.{Scenario, IsScenario}
+use Rattle.roster.specs.Scenario.{Scenario, IsScenario}
 use Rattle.world.specs.Kind.{Kind, World, opening, run}
 use Rattle.world.specs.KindLists.{IsComplete, replayed, names_in}
 use Rattle.world.specs.Campaigns.{AreCampaigns}

@@ -1,6 +1,6 @@
 -- Whoever chooses who makes the next access, one after another, comes to the order of a complete run.
 use Rattle.std.proofs.Common.{◌≡◌, ℕ, zero, suc, List, [], ◌∷◌, ◌++◌, true, false, refl, sym, ap, subst, ◌∙◌, append-nil, arith}
-use Rattle.round.specs.Scenario.{Scenario, IsScenario}
+use Rattle.roster.specs.Scenario.{Scenario, IsScenario}
 use Rattle.world.specs.Kind.{Kind, World, opening}
 use Rattle.world.specs.KindLists.{replayed, names_in}
 use Rattle.world.specs.Campaigns.{IsCampaign, AreCampaigns}

@@ -7,10 +7,10 @@ use Rattle.label.specs.Oral.{heard}
 use Rattle.semantics.specs.Relay.{oral}
 use Rattle.board.specs.Board.{reply, next}
 use Rattle.outbox.specs.Contents.{Contents}
-use Rattle.round.specs.Scenario.{Scenario, program_of, shape_of}
-use Rattle.round.specs.Letters.{Letter, messages, letter_of, told_by, tells, telling}
-use Rattle.round.specs.Contexts.{context_of, context_bytes, context_numbers}
-use Rattle.round.specs.Activation.{started, Turn, Goes, Asks, Ended, turn}
+use Rattle.roster.specs.Scenario.{Scenario, program_of, shape_of}
+use Rattle.letter.specs.Letters.{Letter, messages, letter_of, told_by, tells, telling}
+use Rattle.letter.specs.Contexts.{context_of, context_bytes, context_numbers}
+use Rattle.letter.specs.Activation.{started, Turn, Goes, Asks, Ended, turn}
 use Rattle.world.specs.declared.event.Event.{Event}
 use Rattle.world.specs.declared.event.Event.TheVariants.{Tick, Post, Close}
 use Rattle.world.specs.declared.part.Part.{Part}

@@ -4,9 +4,9 @@ use Rattle.std.specs.Prelude.{slice_get, ◌==◌}
 use Rattle.std.proofs.lemmas.Bool.Decides.{eqb_tells}
 use Rattle.world.specs.declared.event.Event.{Event}
 use Rattle.world.specs.declared.event.Event.TheVariants.{Tick, Post, Close}
-use Rattle.round.specs.Activation.{Activation, Turn, Goes, Asks, Ended, turn}
-use Rattle.round.specs.Scenario.{Scenario}
-use Rattle.round.proofs.Going.{ended_over}
+use Rattle.letter.specs.Activation.{Activation, Turn, Goes, Asks, Ended, turn}
+use Rattle.roster.specs.Scenario.{Scenario}
+use Rattle.letter.proofs.Going.{ended_over}
 use Rattle.world.specs.declared.part.Part.TheVariants.{Acting}
 use Rattle.world.specs.Kind.{World, happen, posting, run}
 use Rattle.world.specs.KindLists.{IsMove, AreMoves, wound_up}

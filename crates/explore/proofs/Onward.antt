@@ -1,7 +1,7 @@
 -- What one step of a layer makes of what its states stand for.
 use Rattle.std.proofs.Common.{◌≡◌, ℕ, suc, ◌≤◌, List, [], ◌∷◌, ◌++◌, length, true, refl, sym, ◌∙◌, arith}
 use Rattle.std.specs.Prelude.{slice_get}
-use Rattle.round.specs.Scenario.{Scenario, IsScenario}
+use Rattle.roster.specs.Scenario.{Scenario, IsScenario}
 use Rattle.world.specs.Kind.{World, opening}
 use Rattle.world.specs.World.{oral_kind}
 use Rattle.explore.specs.Orders.{will_ask, behind, IsRoundFrom}

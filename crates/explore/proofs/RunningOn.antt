@@ -4,9 +4,9 @@ use Rattle.std.specs.Prelude.{slice_get, slice_set, replicate, ◌==◌}
 use Rattle.std.proofs.lemmas.Bool.Decides.{eqb_tells}
 use Rattle.board.specs.Board.{reply}
 use Rattle.world.specs.declared.event.Event.TheVariants.{Tick, Post}
-use Rattle.round.specs.Activation.{Activation, Turn, Goes, Asks, Ended, turn}
-use Rattle.round.specs.Scenario.{Scenario}
-use Rattle.round.proofs.Going.{over_ended, ended_over}
+use Rattle.letter.specs.Activation.{Activation, Turn, Goes, Asks, Ended, turn}
+use Rattle.roster.specs.Scenario.{Scenario}
+use Rattle.letter.proofs.Going.{over_ended, ended_over}
 use Rattle.world.specs.declared.part.Part.{Part}
 use Rattle.world.specs.declared.part.Part.TheVariants.{Acting, Silent, Posted}
 use Rattle.world.specs.Kind.{World, happen, posting, run, served, ticked}

@@ -3,7 +3,7 @@ use Rattle.std.proofs.Common.{◌≡◌, ℕ, zero, suc, ◌+◌, ◌<◌, List,
 use Rattle.std.specs.Prelude.{slice_get, filter, nat_lt, replicate}
 use Rattle.std.proofs.lemmas.Bool.{lt-ltb}
 use Rattle.insn.specs.declared.insn.Insn.{Insn}
-use Rattle.round.specs.Scenario.{Scenario, IsScenario, program_of}
+use Rattle.roster.specs.Scenario.{Scenario, IsScenario, program_of}
 use Rattle.world.specs.declared.event.Event.{Event}
 use Rattle.world.specs.declared.event.Event.TheVariants.{Tick}
 use Rattle.world.specs.declared.part.Part.{Part}

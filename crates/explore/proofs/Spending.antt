@@ -24,9 +24,9 @@ use Rattle.semantics.specs.Limits.{board_words}
 use Rattle.semantics.specs.Outbox.{Choice}
 use Rattle.semantics.specs.State.{Cause, State, Outcome, Next, Ask, Exit, Trap, given, value_at}
 use Rattle.semantics.proofs.Walk.{changed_walk, step_walk}
-use Rattle.round.specs.Activation.{Activation, Turn, Goes, Asks, Ended, has_ended, turn, turned}
-use Rattle.round.specs.Scenario.{Scenario, program_of}
-use Rattle.round.proofs.Going.{over_ended, turn_within}
+use Rattle.letter.specs.Activation.{Activation, Turn, Goes, Asks, Ended, has_ended, turn, turned}
+use Rattle.roster.specs.Scenario.{Scenario, program_of}
+use Rattle.letter.proofs.Going.{over_ended, turn_within}
 use Rattle.world.specs.declared.event.Event.{Event}
 use Rattle.world.specs.declared.event.Event.TheVariants.{Tick}
 use Rattle.world.specs.declared.part.Part.{Part}

@@ -6,7 +6,7 @@ use Rattle.std.proofs.Math.Nat.{mul-add, mul-zero, one-mul}
 use Rattle.std.proofs.lemmas.List.{get_or_append_left, get_or_push, reverse-append, reverse-reverse}
 use Rattle.std.proofs.lemmas.List.Sums.{sum_by_push, sum_by-cons}
 use Rattle.std.proofs.lemmas.List.Elements.{All-weaker, All-nil, All-push}
-use Rattle.round.specs.Scenario.{Scenario, IsScenario}
+use Rattle.roster.specs.Scenario.{Scenario, IsScenario}
 use Rattle.world.specs.declared.part.Part.{Part}
 use Rattle.world.specs.Kind.{World, opening}
 use Rattle.world.specs.KindHeld.{IsReached}

@@ -3,7 +3,7 @@ use Rattle.std.proofs.Common.{◌≡◌, ℕ, ◌<◌, List, [], ◌∷◌, ◌+
 use Rattle.std.specs.Prelude.{slice_get, OnOk}
 use Rattle.std.proofs.lemmas.List.{get_or_default}
 use Rattle.world.specs.declared.part.Part.{Part}
-use Rattle.round.specs.Scenario.{Scenario, IsScenario}
+use Rattle.roster.specs.Scenario.{Scenario, IsScenario}
 use Rattle.world.specs.Kind.{World, opening, run}
 use Rattle.world.specs.KindLists.{wound_up}
 use Rattle.world.specs.Playing.{program_length}

@@ -2,11 +2,11 @@
 use Rattle.std.proofs.Common.{◌≡◌, ℕ, zero, suc, ◌+◌, ◌-◌, ◌≤◌, List, [], length, true, false, refl, sym, ap, subst, ◌∙◌, Option, Some, None, Ok, Result, arith, zero-add}
 use Rattle.std.specs.Prelude.{slice_get, replicate}
 use Rattle.board.specs.Board.{IsBoard}
-use Rattle.round.specs.Activation.{Activation, Turn, Goes, Asks, Ended, turn}
+use Rattle.letter.specs.Activation.{Activation, Turn, Goes, Asks, Ended, turn}
 use Rattle.round.specs.Running.{Pauses}
-use Rattle.round.specs.Runs.{Onward, Runs}
-use Rattle.round.specs.Scenario.{Scenario, IsScenario}
-use Rattle.round.proofs.Going.{ended_over}
+use Rattle.letter.specs.Runs.{Onward, Runs}
+use Rattle.roster.specs.Scenario.{Scenario, IsScenario}
+use Rattle.letter.proofs.Going.{ended_over}
 use Rattle.world.specs.declared.event.Event.TheVariants.{Tick}
 use Rattle.world.specs.declared.part.Part.{Part}
 use Rattle.world.specs.declared.part.Part.TheVariants.{Acting, Silent, Posted}

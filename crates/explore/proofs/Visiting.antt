@@ -3,7 +3,7 @@ use Rattle.std.proofs.Common.{◌≡◌, ℕ, suc, ◌+◌, ◌≤◌, List, [],
 use Rattle.std.specs.Prelude.{cond, bytes_eq}
 use Rattle.std.proofs.lemmas.List.Sums.{sum_by-append}
 use Rattle.std.proofs.lemmas.List.Elements.{All-from_recursion, All-weaker}
-use Rattle.round.specs.Scenario.{Scenario, IsScenario}
+use Rattle.roster.specs.Scenario.{Scenario, IsScenario}
 use Rattle.world.specs.Kind.{Kind, opening, run}
 use Rattle.world.specs.KindLists.{IsComplete, replayed}
 use Rattle.world.specs.Campaigns.{AreCampaigns}

@@ -5,17 +5,17 @@ use Rattle.std.proofs.lemmas.Bool.{lt-ltb}
 use Rattle.std.proofs.lemmas.Bool.Decides.{eqb_tells}
 use Rattle.board.specs.Board.{IsBoard, Access, words_after, IsLegal}
 use Rattle.world.specs.declared.event.Event.{Event}
-use Rattle.round.specs.Scenario.{Scenario, IsScenario}
-use Rattle.round.specs.Letters.{Letter}
-use Rattle.round.specs.Activation.{Activation, Turn, Goes, Asks, Ended, turn, has_ended}
-use Rattle.round.specs.Runs.{Onward, Runs}
+use Rattle.roster.specs.Scenario.{Scenario, IsScenario}
+use Rattle.letter.specs.Letters.{Letter}
+use Rattle.letter.specs.Activation.{Activation, Turn, Goes, Asks, Ended, turn, has_ended}
+use Rattle.letter.specs.Runs.{Onward, Runs}
 use Rattle.world.specs.declared.part.Part.{Part}
 use Rattle.world.specs.declared.part.Part.TheVariants.{Acting, Silent, Posted}
 use Rattle.world.specs.Kind.{Kind, World, begun, opening, round_open, accesses_of, run}
 use Rattle.world.specs.KindAccounted.{IsAccountedRound, AreAccounted}
 use Rattle.world.specs.KindLists.{IsComplete, ticks_named, names_events, names_in}
 use Rattle.world.proofs.Moves.{moves_same, moves_board, moves_keep, AllParts}
-use Rattle.round.proofs.Going.{over_ended, going_zero, IsGoing}
+use Rattle.letter.proofs.Going.{over_ended, going_zero, IsGoing}
 use Rattle.world.proofs.Due.{Due, due_lasts}
 use Rattle.world.proofs.Complete.{Within, WithinAfter, turn_left, due_within}
 use Rattle.world.proofs.Lasting.{IsOnTime, named_moves, names_moves, opening_due, round_done}

@@ -5,7 +5,7 @@ use Rattle.std.proofs.Math.Nat.{add-mul, mul-suc, mul-zero}
 use Rattle.std.proofs.lemmas.Bool.{ltb-true, ltb-false, cases_Bool}
 use Rattle.std.proofs.lemmas.List.Sums.{sum_by_push, sum_by-set, get_or-le-sum_by}
 use Rattle.std.proofs.lemmas.List.Elements.{All-push, All-set}
-use Rattle.round.specs.Scenario.{Scenario}
+use Rattle.roster.specs.Scenario.{Scenario}
 use Rattle.world.specs.Kind.{World, opening}
 use Rattle.world.specs.World.{oral_kind}
 use Rattle.explore.specs.Merging.{AreAlike}

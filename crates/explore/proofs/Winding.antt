@@ -5,8 +5,8 @@ use Rattle.std.proofs.lemmas.Bool.{lt-ltb}
 use Rattle.std.proofs.Math.Seq.{drop-append_seam}
 use Rattle.std.proofs.lemmas.List.{append_cancel_left}
 use Rattle.board.specs.Board.{Access, words_after, IsLegal}
-use Rattle.round.specs.Scenario.{Scenario, program_of}
-use Rattle.round.specs.Letters.{Letter}
+use Rattle.roster.specs.Scenario.{Scenario, program_of}
+use Rattle.letter.specs.Letters.{Letter}
 use Rattle.world.specs.declared.event.Event.{Event}
 use Rattle.world.specs.declared.event.Event.TheVariants.{Close}
 use Rattle.world.specs.Campaigns.{IsCampaign}

@@ -1,6 +1,6 @@
 -- That what is found agrees (TOPLAS 1982, Theorem 1).
 use Rattle.std.specs.Prelude.{ℕ, All}
-use Rattle.round.specs.Scenario.{Scenario, IsScenario}
+use Rattle.roster.specs.Scenario.{Scenario, IsScenario}
 use Rattle.world.specs.Promises.{AgreeUnderBound}
 use Rattle.world.specs.World.{oral_kind}
 use Rattle.explore.specs.Outcomes.{oral_outcome}

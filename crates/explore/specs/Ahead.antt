@@ -1,6 +1,6 @@
 -- Activations that are run on before their time: turns that ask nothing, whenever they are taken (own).
 use Rattle.std.specs.Prelude.{ℕ, ◌≡◌, List, [], ◌∷◌, slice_get, Option, Some}
-use Rattle.round.specs.Activation.{Turn, Asks, turn}
+use Rattle.letter.specs.Activation.{Turn, Asks, turn}
 use Rattle.world.specs.declared.event.Event.TheVariants.{Tick}
 use Rattle.world.specs.declared.part.Part.{Part}
 use Rattle.world.specs.declared.part.Part.TheVariants.{Acting}

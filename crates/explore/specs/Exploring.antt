@@ -1,6 +1,6 @@
 -- What an exploration of a campaign's orders answers (own).
 use Rattle.std.specs.Prelude.{ℕ, ◌≡◌, ◌≢◌, ◌<◌, ◌≤◌, ◌-◌, ◌^◌, min, List, All, length, map, take, find, sum_by, count_by, bytes_eq, Option, Some}
-use Rattle.round.specs.Scenario.{Scenario}
+use Rattle.roster.specs.Scenario.{Scenario}
 use Rattle.world.specs.declared.event.Event.{Event}
 use Rattle.world.specs.Kind.{Kind}
 use Rattle.world.specs.KindLists.{IsComplete}

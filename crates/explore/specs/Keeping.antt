@@ -1,6 +1,6 @@
 -- An exploration with a schedule for each outcome (own).
 use Rattle.std.specs.Prelude.{ℕ, ◌≡◌, ◌≤◌, List, All, length, map}
-use Rattle.round.specs.Scenario.{Scenario}
+use Rattle.roster.specs.Scenario.{Scenario}
 use Rattle.world.specs.Kind.{Kind, opening}
 use Rattle.world.specs.Promises.{AgreeUnderBound}
 use Rattle.world.specs.World.{oral_kind}

@@ -2,7 +2,7 @@
 use Rattle.std.specs.Prelude.{ℕ, zero, suc, ◌≡◌, ◌≤◌, ◌*◌, ◌↔◌, ◌⊎◌, List, [], ◌∷◌, length, map, flat_map, filter, sum_by, slice_get, Option, None, Some}
 use Rattle.insn.specs.declared.insn.Insn.{Insn}
 use Rattle.label.specs.Labels.{generals}
-use Rattle.round.specs.Scenario.{Scenario, IsScenario}
+use Rattle.roster.specs.Scenario.{Scenario, IsScenario}
 use Rattle.world.specs.Kind.{Kind, World, opening}
 use Rattle.explore.specs.Orders.{IsOrder, will_ask, past, behind, IsRoundFrom}
 

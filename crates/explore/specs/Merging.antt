@@ -1,7 +1,7 @@
 -- Worlds of oral campaigns that go on alike: they differ in what was accessed and in how many steps, and in nothing
 -- that is told or that decides (own).
 use Rattle.std.specs.Prelude.{ℕ, ◌≡◌, List, [], ◌∷◌}
-use Rattle.round.specs.Letters.{Letter}
+use Rattle.letter.specs.Letters.{Letter}
 use Rattle.world.specs.declared.event.Event.{Event}
 use Rattle.world.specs.Kind.{World}
 use Rattle.world.specs.World.{oral_kind, run}

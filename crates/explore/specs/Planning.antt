@@ -1,6 +1,6 @@
 -- What becomes of names that are to make their accesses in their order (own).
 use Rattle.std.specs.Prelude.{ℕ, ◌≡◌, true, false, List, length, slice_get, Option, None, Some}
-use Rattle.round.specs.Scenario.{Scenario}
+use Rattle.roster.specs.Scenario.{Scenario}
 use Rattle.world.specs.Kind.{Kind, World, opening, run}
 use Rattle.world.specs.declared.event.Event.{Event}
 use Rattle.world.specs.KindLists.{IsComplete, listed, replayed, ticks_named, names_events}

@@ -2,7 +2,7 @@
 ghost use Rattle.std.specs.Prelude.{◌≡◌, ◌↔◌, IsTrue};
 ghost use Rattle.explore.specs.Merging.{AreAlike, RoundsAlike, TellAlike};
 
-use round::{Letter, Round};
+use letter::{Letter, Round};
 use world::{Part, Plays, World};
 
 /// Whether the letters are of one general and tell the same.

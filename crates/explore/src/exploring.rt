@@ -17,7 +17,7 @@ use crate::gathering::gather;
 use crate::layers::last_states;
 use crate::order::order_in;
 use crate::succession::next_order;
-use round::Scenario;
+use roster::Scenario;
 use std::alloc::{AllocError, Global};
 use world::replay;
 

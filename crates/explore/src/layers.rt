@@ -4,7 +4,7 @@ ghost use Rattle.explore.specs.Ahead.{IsRunOn};
 ghost use Rattle.explore.specs.Layers.{AreLayers, AreStatesOf, IsAsked, IsExpanded, IsPastOf, IsRoundOn, IsStep, reached};
 ghost use Rattle.explore.specs.Listing.{instructions, most_in_round};
 ghost use Rattle.explore.specs.Orders.{behind};
-ghost use Rattle.round.specs.Scenario.{program_of};
+ghost use Rattle.roster.specs.Scenario.{program_of};
 ghost use Rattle.world.specs.Kind.{opening};
 ghost use Rattle.world.specs.Playing.{lists_in, program_length};
 ghost use Rattle.world.specs.World.{oral_kind};
@@ -12,7 +12,7 @@ ghost use Rattle.world.specs.World.{oral_kind};
 use crate::layer::Layer;
 use crate::scheduling::{instructions, steps_to_access};
 use crate::state::{State, with_access};
-use round::Scenario;
+use roster::Scenario;
 use std::alloc::{AllocError, Global};
 use world::{Part, Plays, World, named_round, play_names, wind_up};
 

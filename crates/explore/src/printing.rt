@@ -17,7 +17,7 @@ use crate::recalling::recall_short;
 use crate::scheduled::Scheduled;
 use crate::scheduling::schedule_names;
 use itoa::Buffer;
-use round::Scenario;
+use roster::Scenario;
 use std::alloc::{AllocError, Global};
 use world::judging::{alike, loyal_decisions, obeyed};
 use world::{Entries, Repeat, Schedule};

@@ -6,7 +6,7 @@ ghost use Rattle.world.specs.Playing.{lists_in, program_length};
 ghost use Rattle.world.specs.World.{oral_kind};
 
 use crate::scheduled::{Line, Scheduled};
-use round::Scenario;
+use roster::Scenario;
 use std::alloc::{AllocError, Global};
 use world::{Entries, Part, Plays, Repeat, Schedule, World, parts, wind_up};
 

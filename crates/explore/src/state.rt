@@ -12,7 +12,7 @@ use crate::alike::are_alike;
 use crate::order::{compared, copied};
 use insn::Reg;
 use machine::Activation;
-use round::Scenario;
+use roster::Scenario;
 use semantics::Value;
 use std::alloc::{AllocError, Global};
 use std::marker::Model;

@@ -10,9 +10,9 @@ use Rattle.diagram.proofs.LoyalLaws.{blamed}
 use Rattle.retold.specs.Retold.{table_of}
 use Rattle.retold.proofs.Heard.{heard_is}
 use Rattle.retold.proofs.Tables.{numbers_within}
-use Rattle.round.specs.Letters.{messages}
-use Rattle.round.specs.Scenario.{Scenario, IsScenario}
-use Rattle.round.specs.Told.{ToldSeen, WasTold}
+use Rattle.letter.specs.Letters.{messages}
+use Rattle.roster.specs.Scenario.{Scenario, IsScenario}
+use Rattle.delivery.specs.Told.{ToldSeen, WasTold}
 use Rattle.signed_diagram.specs.Svg.{signed_svg}
 use Rattle.tables.specs.Hearing.{heard}
 use Rattle.tables.specs.Laws.{AreOrders, IsTableOf}

@@ -5,7 +5,7 @@ use Rattle.explore.specs.Exploring.{Exploration, IsExploration}
 use Rattle.explore.specs.Keeping.{IsKept}
 use Rattle.explore.specs.Outcomes.{oral_outcome}
 use Rattle.explore.specs.Text.{exploration_text}
-use Rattle.round.specs.Scenario.{Scenario, IsScenario}
+use Rattle.roster.specs.Scenario.{Scenario, IsScenario}
 use Rattle.world.specs.World.{oral_kind}
 use Rattle.scenario.specs.Told.{Tells}
 use Rattle.lab.specs.Exploring.{IsExplored, KeepsOrders, limit}

@@ -1,6 +1,6 @@
 -- Accesses that are listed, and why they are refused.
 use Rattle.std.proofs.Common.{◌≡◌, List, ℕ, subst, sym}
-use Rattle.round.specs.Scenario.{Scenario as OralScenario}
+use Rattle.roster.specs.Scenario.{Scenario as OralScenario}
 use Rattle.retracing.specs.Arranged.{IfFault, IsUnarranged}
 use Rattle.retracing.specs.declared.fault.AccessesError.{AccessesError}
 use Rattle.retracing.specs.declared.fault.AccessesError.TheVariants as accesses

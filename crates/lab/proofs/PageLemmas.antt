@@ -4,8 +4,8 @@ use Rattle.book.specs.Grammar.{table_told}
 use Rattle.book.specs.Table.{MessageTable}
 use Rattle.campaign_page.specs.Account.{page_text}
 use Rattle.retold.specs.Retold.{table_of}
-use Rattle.round.specs.Scenario.{Scenario, IsScenario}
-use Rattle.round.specs.Told.{ToldSeen, WasTold}
+use Rattle.roster.specs.Scenario.{Scenario, IsScenario}
+use Rattle.delivery.specs.Told.{ToldSeen, WasTold}
 use Rattle.signed_page.specs.Account.{signed_page_text}
 use Rattle.tables.specs.Hearing.{heard}
 use Rattle.tables.specs.Laws.{AreOrders}

@@ -7,7 +7,7 @@ use Rattle.drawing.specs.Shown.{ordered}
 use Rattle.drawing.specs.declared.form.Form.{Form}
 use Rattle.drawing.specs.declared.node.View.{View}
 use Rattle.retold.specs.Retold.{table_of, traitors_of}
-use Rattle.round.specs.Scenario.{Scenario}
+use Rattle.roster.specs.Scenario.{Scenario}
 use Rattle.scenario.specs.Told.{Tells}
 use Rattle.world.specs.Chronicle.{Chronicle}
 use Rattle.lab.specs.Campaigns.{played}

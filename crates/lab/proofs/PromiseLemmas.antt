@@ -1,8 +1,8 @@
 -- What every campaign promises, by whatever schedule it is played, and each that is replayed.
 use Rattle.std.proofs.Common.{ℕ, ◌<◌, ◌≡◌, false, List, refl, subst, sym}
 use Rattle.label.specs.Oral.{IsFaithful, Messages}
-use Rattle.round.specs.Letters.{messages}
-use Rattle.round.specs.Scenario.{Scenario, IsScenario, is_traitor}
+use Rattle.letter.specs.Letters.{messages}
+use Rattle.roster.specs.Scenario.{Scenario, IsScenario, is_traitor}
 use Rattle.signed.specs.Kind.{signed_kind}
 use Rattle.signed.proofs.Promised.{promised_agree, promised_verdict, promised_well}
 use Rattle.signed.proofs.Worlds.{signed_campaigns}

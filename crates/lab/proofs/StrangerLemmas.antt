@@ -4,7 +4,7 @@ use Rattle.std.specs.Prelude.{None, Ok, Option, Some, find, slice_get}
 use Rattle.std.proofs.lemmas.Bool.{cases_Bool, cond-false, cond-true}
 use Rattle.book.specs.Grammar.{table_told}
 use Rattle.book.specs.Table.{MessageTable}
-use Rattle.round.specs.Scenario.{Scenario as Campaign}
+use Rattle.roster.specs.Scenario.{Scenario as Campaign}
 use Rattle.scenario.specs.Told.{Tells}
 use Rattle.tables.specs.Numbers.{HasGenerals as AreNumbersOf}
 use Rattle.lab.specs.Refusals.{RefusesFilled, RefusesForm, RefusesNaming, RefusesScenario, RefusesTable, RefusesTreeIn}

@@ -12,7 +12,7 @@ use Rattle.threads.specs.declared.error.MusterError.{MusterError}
 use Rattle.lab.specs.declared.failure.Failure.{Failure}
 use Rattle.lab.specs.declared.failure.Failure.TheVariants.{Read, Text, Refused, Write, Memory}
 use Rattle.lab.specs.declared.first_answer.FirstAnswer.TheVariants.{Muster}
-use Rattle.round.specs.Scenario.{Scenario}
+use Rattle.roster.specs.Scenario.{Scenario}
 use Rattle.command_line.specs.declared.tasks.Lieutenants.{Lieutenants}
 use Rattle.lab.specs.declared.hint.Hint.{Hint}
 use Rattle.lab.specs.declared.refusal.Refusal.{Refusal}

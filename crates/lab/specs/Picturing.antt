@@ -9,7 +9,7 @@ use Rattle.drawing.specs.declared.form.Form.TheVariants.{Lines, Graph, Svg}
 use Rattle.drawing.specs.declared.node.Style.TheVariants.{Ascii, Boxes}
 use Rattle.drawing.specs.declared.node.View.{View}
 use Rattle.retold.specs.Retold.{table_of, traitors_of}
-use Rattle.round.specs.Scenario.{Scenario}
+use Rattle.roster.specs.Scenario.{Scenario}
 use Rattle.scenario.specs.Told.{Tells}
 use Rattle.toml.specs.Parse.{parse_document}
 use Rattle.lab.specs.Campaigns.{played}

@@ -18,7 +18,7 @@ use Rattle.toml.specs.Parse.{parse_document}
 use Rattle.retracing.specs.Arranged.{IsUnarranged}
 use Rattle.retracing.specs.declared.fault.AccessesError.{AccessesError}
 use Rattle.retracing.specs.declared.fault.AccessesError.TheVariants as accesses
-use Rattle.round.specs.Scenario.{Scenario as OralScenario}
+use Rattle.roster.specs.Scenario.{Scenario as OralScenario}
 use Rattle.scenario.specs.Told.{Reads, ReadsAny, Tells}
 use Rattle.scenario.specs.declared.messages.Campaign.{Campaign}
 use Rattle.scenario.specs.declared.messages.Campaign.TheVariants.{Oral, Signed}

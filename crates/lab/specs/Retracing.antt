@@ -2,7 +2,7 @@
 use Rattle.std.specs.Prelude.{ℕ, List, [], Option, unwrap_or}
 use Rattle.retracing.specs.Arranged.{IsArranged}
 use Rattle.retracing.specs.Retraced.{IsRetraced}
-use Rattle.round.specs.Scenario.{Scenario}
+use Rattle.roster.specs.Scenario.{Scenario}
 use Rattle.scenario.specs.Told.{Tells}
 use Rattle.trace.specs.Laws.{IsSoundText}
 

@@ -8,7 +8,7 @@ use crate::playing::{with_decisions, with_signed_decisions};
 use crate::refusal::Refusal;
 use crate::texts::as_text;
 use command_line::Lieutenants;
-use round::Scenario;
+use roster::Scenario;
 use scenario::Campaign;
 use std::alloc::{AllocError, Global};
 use trace::{Latch, sound_chronicle, sound_signed_chronicle, write_verdict};

@@ -12,7 +12,7 @@ use crate::reading::read_second;
 use crate::scheduling::retraced;
 use crate::serving::scheduled;
 use crate::whys::{Traced, later};
-use round::Scenario;
+use roster::Scenario;
 use scenario::Campaign;
 use std::alloc::Global;
 use streams::Source;

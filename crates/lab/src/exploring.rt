@@ -5,7 +5,7 @@ ghost use Rattle.lab.specs.Refusals.{RefusesScenario, RefusesText};
 use crate::playing::campaign;
 use crate::refusal::Refusal;
 use explore::findings_agree;
-use round::Scenario;
+use roster::Scenario;
 use std::alloc::{AllocError, Global};
 
 /// What an oral campaign comes to in all orders of its accesses or, where there are more, in the `most` least ones.

@@ -1,5 +1,5 @@
 use command_line::{Account, Lieutenants};
-use round::Scenario;
+use roster::Scenario;
 use scenario::Campaign;
 use verify::Verified;
 

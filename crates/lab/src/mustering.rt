@@ -5,7 +5,7 @@ ghost use Rattle.lab.specs.Refusals.{RefusesMuster};
 use crate::playing::{chronicle_text, with_decisions};
 use crate::refusal::Refusal;
 use command_line::Lieutenants;
-use round::Scenario;
+use roster::Scenario;
 use std::alloc::Global;
 use std::sync::Wait;
 use std::thread::Threads;

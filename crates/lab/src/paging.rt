@@ -12,7 +12,7 @@ use crate::refusal::Refusal;
 use crate::texts::as_text;
 use campaign_page::page_text;
 use retold::{hearing, told_table};
-use round::Scenario;
+use roster::Scenario;
 use scenario::Campaign;
 use signed::{SignedChronicle, play_signed};
 use signed_page::signed_page_text;

@@ -14,7 +14,7 @@ use crate::strangers::know_tree;
 use command_line::Drawing;
 use drawing::{Form, Style, View, drawn, ordered, tree_drawn};
 use retold::{hearing, told_table, traitors};
-use round::Scenario;
+use roster::Scenario;
 use std::alloc::{AllocError, Global};
 use world::{Chronicle, Schedule, play};
 

@@ -15,7 +15,7 @@ use crate::refusal::Refusal;
 use crate::texts::as_text;
 use command_line::{Account, Lieutenants};
 use retold::table;
-use round::Scenario;
+use roster::Scenario;
 use scenario::Campaign;
 use signed::{SignedChronicle, explain_signed, play_signed};
 use std::alloc::{AllocError, Global};

@@ -6,7 +6,7 @@ ghost use Rattle.scenario.specs.declared.messages.Campaign.TheVariants.{Oral};
 use crate::playing::campaign;
 use crate::refusal::Refusal;
 use crate::texts::as_text;
-use round::Scenario;
+use roster::Scenario;
 use std::alloc::Global;
 
 /// The schedule by which the oral campaign has the chronicle that these bytes are the text of.

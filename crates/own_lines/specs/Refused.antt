@@ -6,7 +6,7 @@ use Rattle.command_line.specs.declared.tasks.Account.TheVariants.{Chronicle, Tab
 use Rattle.command_line.specs.declared.tasks.Task.{Task}
 use Rattle.command_line.specs.declared.tasks.Task.TheVariants.{Audit, Muster, Play}
 use Rattle.command_line.specs.Told.{file_of}
-use Rattle.round.specs.Scenario.{Scenario}
+use Rattle.roster.specs.Scenario.{Scenario}
 use Rattle.scenario.specs.Told.{Reads, ReadsAny}
 use Rattle.scenario.specs.Telling.{told}
 use Rattle.scenario.specs.declared.fault.ScenarioError.{ScenarioError}

@@ -9,7 +9,7 @@ use mathlib.Core.Option.{some, some-ne-none, some-injective}
 use lib.ListN.{get_elem?}
 use Rattle.crossbeam_queue.specs.Fifo.{Pushes, Pops, Forks, Merges, Learns}
 use Rattle.crossbeam_queue.proofs.Lists.{at_set}
-use Rattle.round.specs.Letters.{Letter}
+use Rattle.letter.specs.Letters.{Letter}
 use Rattle.post.specs.declared.known.Posted.{Posted}
 use Rattle.post.specs.declared.known.Known.{Known}
 use Rattle.post.specs.Delivery.{letters_of, AreDelivered, posted}

@@ -1,6 +1,6 @@
 -- What each general has posted, in order, is what came of him.
 use Rattle.std.specs.Prelude.{◌≡◌, ℕ, List, [], ◌∷◌, ◌==◌, filter}
-use Rattle.round.specs.Letters.{Letter}
+use Rattle.letter.specs.Letters.{Letter}
 use Rattle.post.specs.declared.known.Posted.{Posted}
 
 -- the letters of one general, in order

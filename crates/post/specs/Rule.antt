@@ -1,8 +1,9 @@
--- The rule of the post: what was taken, and then what is queued, is of each general what he has posted.
+-- The rule of the post: what was taken, and then what is queued, is of each general what he has posted. So where 1 has
+-- posted a and b, and 2 has posted c: with a taken, c and b may be queued, or b and c; b is never taken before a.
 use Rattle.std.specs.Prelude.{◌≡◌, ℕ, ◌<◌, ◌≤◌, Bool, true, false, List, [], ◌∷◌, ◌++◌, Option, Some, None}
 use mathlib.Core.Option.{some}
 use lib.ListN.{get_elem?}
-use Rattle.round.specs.Letters.{Letter}
+use Rattle.letter.specs.Letters.{Letter}
 use Rattle.post.specs.declared.known.Posted.{Posted}
 use Rattle.post.specs.declared.known.Known.{Known}
 use Rattle.post.specs.Delivery.{letters_of}

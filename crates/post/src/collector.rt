@@ -1,7 +1,7 @@
 //! The pass of the one who takes letters.
 use crate::known::Known;
 use crossbeam_queue::Pass;
-use round::Letter;
+use letter::Letter;
 use std::marker::Model;
 
 /// The leave to take letters. It takes no bytes, and there is one for each post.

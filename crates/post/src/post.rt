@@ -1,7 +1,7 @@
 //! The post. Of each general, letters are taken in the order in which he has posted them, each once.
 ghost use Rattle.std.specs.Prelude.{◌≡◌, ℕ, ◌<◌, ◌++◌, ◌∷◌, [], List, All, map, true, length, IfOk, IfErr, slice_index_or, MatchOption, MatchResult};
 ghost use Rattle.crossbeam_queue.specs.Passes.{view, IsPassOf};
-ghost use Rattle.round.specs.Letters.{Letter as LetterSeen};
+ghost use Rattle.letter.specs.Letters.{Letter as LetterSeen};
 ghost use Rattle.post.specs.Delivery.{AreDelivered, posted};
 ghost use Rattle.post.specs.Seen.{PosterSeen, poster_seen, collector_seen};
 
@@ -10,7 +10,7 @@ use crate::known::Known;
 use crate::poster::Poster;
 use crate::rule::{Hire, Put, Queue, Return, Took};
 use crossbeam_queue::Pass;
-use round::Letter;
+use letter::Letter;
 use std::alloc::{AllocError, Global};
 use std::marker::Model;
 use std::sync::Wait;

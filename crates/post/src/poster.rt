@@ -1,7 +1,7 @@
 //! The pass of one general.
 use crate::known::Known;
 use crossbeam_queue::Pass;
-use round::Letter;
+use letter::Letter;
 use std::marker::Model;
 
 /// One general's leave to post. It takes no bytes, and there is one for each general of a post.

@@ -2,7 +2,7 @@
 use crate::known::Known;
 use crossbeam_queue::RuledArrayQueue;
 use crossbeam_queue::protocol::{Join, Lesson, Outcome, Protocol, Split};
-use round::Letter;
+use letter::Letter;
 
 /// A queue under the rule.
 pub(crate) type Queue = RuledArrayQueue<Letter, Known, Delivery>;

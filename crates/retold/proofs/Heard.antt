@@ -9,9 +9,9 @@ use Rattle.book.proofs.Places.{is_place_of}
 use Rattle.book.proofs.TreeLemmas.{place_of_tree}
 use Rattle.combine.specs.declared.chosen.Rule.TheVariants.{Majority}
 use Rattle.tree.specs.LieutenantTree.{LieutenantTree, IsCampaign, IsPlace}
-use Rattle.round.specs.Scenario.{Scenario, IsScenario}
-use Rattle.round.specs.Letters.{Letter, messages}
-use Rattle.round.specs.Told.{IsTreeOf, ToldSeen, WasTold, lieutenant_at}
+use Rattle.roster.specs.Scenario.{Scenario, IsScenario}
+use Rattle.letter.specs.Letters.{Letter, messages}
+use Rattle.delivery.specs.Told.{IsTreeOf, ToldSeen, WasTold, lieutenant_at}
 use Rattle.tables.specs.Hearing.{heard}
 use Rattle.tables.proofs.Hearing.{heard_at, value_told}
 

@@ -3,9 +3,9 @@ use Rattle.std.proofs.Common.{ℕ, zero, suc, ◌+◌, ◌≡◌, List, [], ◌�
 use Rattle.std.specs.Prelude.{slice_get, sum_by}
 use Rattle.insn.specs.declared.insn.Insn.{Insn}
 use Rattle.board.specs.Board.{Access}
-use Rattle.round.specs.Scenario.{Scenario, IsScenario, program_of, shape_of}
-use Rattle.round.specs.Letters.{Letter}
-use Rattle.round.specs.Told.{AreLettersOf, AreRoundsOf}
+use Rattle.roster.specs.Scenario.{Scenario, IsScenario, program_of, shape_of}
+use Rattle.letter.specs.Letters.{Letter}
+use Rattle.letter.specs.Origin.{AreLettersOf, AreRoundsOf}
 use Rattle.world.specs.Accounted.{IsLetterOf, IsAccountedRound, AreAccounted}
 use Rattle.world.specs.Chronicle.{Chronicle, chronicle_of}
 use Rattle.world.specs.Lists.{listed, replayed}

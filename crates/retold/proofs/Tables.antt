@@ -15,9 +15,9 @@ use Rattle.book.specs.Grammar.{table_told}
 use Rattle.book.specs.Table.{AreNumbersWithin, MessageTable}
 use Rattle.book.proofs.Places.{is_place_of}
 use Rattle.tree.specs.LieutenantTree.{LieutenantTree}
-use Rattle.round.specs.Letters.{Letter, messages}
-use Rattle.round.specs.Scenario.{Scenario, IsScenario}
-use Rattle.round.specs.Told.{ToldSeen, WasTold}
+use Rattle.letter.specs.Letters.{Letter, messages}
+use Rattle.roster.specs.Scenario.{Scenario, IsScenario}
+use Rattle.delivery.specs.Told.{ToldSeen, WasTold}
 use Rattle.world.specs.Chronicle.{Chronicle, decision, decisions}
 use Rattle.tables.specs.Hearing.{heard}
 use Rattle.tables.specs.Laws.{IsTableOf}

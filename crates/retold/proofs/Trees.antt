@@ -17,9 +17,9 @@ use Rattle.book.specs.Table.{AreNumbersWithin, MessageTable}
 use Rattle.book.specs.Trees.{tree_of}
 use Rattle.book.proofs.Places.{is_place_of}
 use Rattle.book.proofs.TreeLemmas.{lieutenant_at as stands_at, tree_is}
-use Rattle.round.specs.Letters.{Letter, messages}
-use Rattle.round.specs.Scenario.{Scenario, IsScenario}
-use Rattle.round.specs.Told.{IsTreeOf, ToldSeen, WasTold, lieutenant_at}
+use Rattle.letter.specs.Letters.{Letter, messages}
+use Rattle.roster.specs.Scenario.{Scenario, IsScenario}
+use Rattle.delivery.specs.Told.{IsTreeOf, ToldSeen, WasTold, lieutenant_at}
 use Rattle.world.specs.Chronicle.{Chronicle}
 use Rattle.tables.specs.Hearing.{heard}
 use Rattle.tables.specs.Written.{table_text}

@@ -1,6 +1,6 @@
 -- Which chronicles have a table. The statement is the contract of a function of this crate.
 use Rattle.std.specs.Prelude.{List}
-use Rattle.round.specs.Scenario.{Scenario, IsScenario}
+use Rattle.roster.specs.Scenario.{Scenario, IsScenario}
 use Rattle.world.specs.declared.event.Event.{Event}
 use Rattle.world.specs.Chronicle.{chronicle_of}
 use Rattle.world.specs.Lists.{IsComplete}

@@ -5,9 +5,9 @@ use Rattle.book.specs.Decisions.{decisions_of}
 use Rattle.book.specs.Explained.{explained, explained_one}
 use Rattle.book.specs.Grammar.{table_told}
 use Rattle.book.specs.Table.{MessageTable}
-use Rattle.round.specs.Letters.{messages}
-use Rattle.round.specs.Scenario.{Scenario, is_traitor}
-use Rattle.round.specs.Told.{AreRoundsOf}
+use Rattle.letter.specs.Letters.{messages}
+use Rattle.roster.specs.Scenario.{Scenario, is_traitor}
+use Rattle.letter.specs.Origin.{AreRoundsOf}
 use Rattle.world.specs.Chronicle.{Chronicle, decisions}
 use Rattle.tables.specs.Answers.{ExplainsOne, ExplainsTable}
 use Rattle.tables.specs.Written.{table_text}

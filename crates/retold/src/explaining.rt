@@ -4,7 +4,7 @@ ghost use Rattle.retold.specs.Retold.{Explains, IsWhole, explained_of, traitors_
 
 use crate::retelling::{hearing, told_table};
 use book::{explain, explain_one};
-use round::Scenario;
+use roster::Scenario;
 use std::alloc::{AllocError, Global};
 use tables::TreeTable;
 use world::Chronicle;

@@ -2,9 +2,12 @@
 ghost use Rattle.std.specs.Prelude.{suc, ◌≡◌, IfOk, Ok, length, string_bytes};
 ghost use Rattle.book.specs.Grammar.{table_told};
 ghost use Rattle.retold.specs.Retold.{IsRetold, IsWhole, table_of};
-ghost use Rattle.round.specs.Told.{AreRoundsOf, WasTold};
+ghost use Rattle.letter.specs.Origin.{AreRoundsOf};
+ghost use Rattle.delivery.specs.Told.{WasTold};
 
-use round::{Round, Scenario, Told};
+use delivery::Told;
+use letter::Round;
+use roster::Scenario;
 use std::alloc::{AllocError, Global};
 use tables::{TreeTable, table_of};
 use world::Chronicle;

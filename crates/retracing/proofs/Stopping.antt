@@ -3,10 +3,10 @@ use Rattle.std.proofs.Common.{arith, length, length-append, ◌+◌, ◌<◌, �
 use Rattle.std.specs.Prelude.{slice_get}
 use Rattle.text.specs.Parts.{pieces}
 use Rattle.text.specs.Stop.{space}
-use Rattle.round.specs.Scenario.{Scenario, IsScenario}
+use Rattle.roster.specs.Scenario.{Scenario, IsScenario}
 use Rattle.world.specs.declared.schedule.Repeat.{Repeat}
 use Rattle.board.specs.Board.{Access, words_after}
-use Rattle.round.specs.Letters.{Letter}
+use Rattle.letter.specs.Letters.{Letter}
 use Rattle.world.specs.Campaigns.{IsCampaign}
 use Rattle.world.specs.Kind.{Kind, World, begun, opening}
 use Rattle.world.specs.KindLists.{names_events}

@@ -6,9 +6,9 @@ use Rattle.insn.specs.declared.insn.Insn.{Insn}
 use Rattle.board.specs.Board.{Access, reply}
 use Rattle.semantics.specs.State.{Outcome, Next, Ask, Exit, Trap}
 use Rattle.semantics.specs.Execution.{step}
-use Rattle.round.specs.Activation.{Activation, Turn, Goes, Asks, Ended, has_ended, started, turn, turned}
-use Rattle.round.specs.Letters.{Letter}
-use Rattle.round.specs.Scenario.{Scenario, program_of}
+use Rattle.letter.specs.Activation.{Activation, Turn, Goes, Asks, Ended, has_ended, started, turn, turned}
+use Rattle.letter.specs.Letters.{Letter}
+use Rattle.roster.specs.Scenario.{Scenario, program_of}
 use Rattle.world.specs.declared.event.Event.{Event}
 use Rattle.world.specs.declared.event.Event.TheVariants.{Tick, Post, Close}
 use Rattle.world.specs.declared.part.Part.{Part}

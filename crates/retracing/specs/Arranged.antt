@@ -1,6 +1,6 @@
 -- Schedules by which a campaign has listed accesses (own).
 use Rattle.std.specs.Prelude.{ℕ, zero, suc, ◌≡◌, List, [], ◌∷◌, ◌++◌, Option, Some, Ok, Err, option_and_then, slice_get, take}
-use Rattle.round.specs.Scenario.{Scenario}
+use Rattle.roster.specs.Scenario.{Scenario}
 use Rattle.world.specs.declared.schedule.Repeat.{Repeat}
 use Rattle.world.specs.Kind.{opening}
 use Rattle.world.specs.KindLists.{listed, replayed}

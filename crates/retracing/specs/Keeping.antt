@@ -1,7 +1,7 @@
 -- What is kept of an exploration can be played (own). The statement is the contract of a function of this crate.
 use Rattle.std.specs.Prelude.{ℕ, ◌≡◌, List}
 use Rattle.std.specs.List.{AllZip}
-use Rattle.round.specs.Scenario.{Scenario}
+use Rattle.roster.specs.Scenario.{Scenario}
 use Rattle.world.specs.declared.schedule.Repeat.{Repeat}
 use Rattle.world.specs.Chronicle.{chronicle_of}
 use Rattle.world.specs.Lists.{listed}

@@ -8,7 +8,7 @@ ghost use Rattle.world.specs.Playing.{lists_in};
 
 use crate::fault::{AccessFault, AccessesError};
 use explore::{Scheduled, recall_short, schedule_names, schedule_text};
-use round::Scenario;
+use roster::Scenario;
 use std::alloc::{AllocError, Global};
 use text::{Stop, decimal, piece};
 

@@ -3,7 +3,7 @@ ghost use Rattle.retracing.specs.Keeping.{KeptSchedulesPlay};
 ghost use Rattle.retracing.specs.Reading.{SchedulesAreRead};
 
 use explore::recall_short;
-use round::Scenario;
+use roster::Scenario;
 
 /// The text of a schedule is read as that schedule.
 pub fn schedules_are_read()

@@ -9,7 +9,7 @@ ghost use Rattle.trace.specs.declared.fault.TraceError.TheVariants.{Memory};
 
 use board::Access;
 use explore::{Scheduled, order_in, recall_short, schedule_names, schedule_text};
-use round::Scenario;
+use roster::Scenario;
 use std::alloc::{AllocError, Global};
 use trace::{TraceError, sound_chronicle};
 use world::Schedule;

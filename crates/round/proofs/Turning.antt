@@ -13,9 +13,9 @@ use Rattle.machine.specs.declared.stop.Stop.{Stop}
 use Rattle.machine.specs.declared.stop.Stop.TheVariants.{Asked, Exited, Limit}
 use Rattle.semantics.specs.Reached.{Reached}
 use Rattle.machine.specs.Advance.{IsOfRun, Leads, Requests, Advances}
-use Rattle.round.specs.Activation.{Activation, Turn, Goes, Asks, Ended, turned, turn, has_ended, is_reached}
-use Rattle.round.specs.Runs.{Onward, Runs, IsWithin}
-use Rattle.round.proofs.Patience.{runs_under}
+use Rattle.letter.specs.Activation.{Activation, Turn, Goes, Asks, Ended, turned, turn, has_ended, is_reached}
+use Rattle.letter.specs.Runs.{Onward, Runs, IsWithin}
+use Rattle.letter.proofs.Patience.{runs_under}
 use Rattle.round.specs.Running.{Stopped, IsBack, activation_of, Silently, Pauses, lesser}
 
 -- so many steps are counted

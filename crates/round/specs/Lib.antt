@@ -1,10 +1,1 @@
-pub mod Scenario
-pub mod Letters
-pub mod Contexts
-pub mod Activation
-pub mod Runs
-pub mod Laws
 pub mod Running
-pub mod Told
-pub mod Fronts
-pub mod Delivery

@@ -11,10 +11,10 @@ use Rattle.machine.specs.Advance.{IsOfRun}
 use Rattle.machine.specs.declared.stop.Stop.{Stop}
 use Rattle.machine.specs.declared.stop.Stop.TheVariants.{Asked, Exited, Limit}
 use Rattle.insn.specs.declared.insn.Insn.{Insn}
-use Rattle.round.specs.Letters.{Letter}
-use Rattle.round.specs.Contexts.{relay_told}
-use Rattle.round.specs.Runs.{Runs, AreFitting, IsRunOf, IsWithin}
-use Rattle.round.specs.Activation.{Activation, Turn, Goes, Asks, Ended, started, is_reached}
+use Rattle.letter.specs.Letters.{Letter}
+use Rattle.letter.specs.Contexts.{relay_told}
+use Rattle.letter.specs.Runs.{Runs, AreFitting, IsRunOf, IsWithin}
+use Rattle.letter.specs.Activation.{Activation, Turn, Goes, Asks, Ended, started, is_reached}
 
 abbrev pub standing : Activation → Standing
 standing a = record { relay = a.relay; state = a.state }

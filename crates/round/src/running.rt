@@ -3,22 +3,20 @@ ghost use Rattle.std.specs.Prelude.{◌≡◌, ◌<◌, ◌≤◌, ◌↔◌, If
 ghost use Rattle.std.specs.Arc.{arc_value};
 ghost use Rattle.semantics.specs.Outbox.{empty_outbox};
 ghost use Rattle.semantics.specs.Relay.{IsContext};
-ghost use Rattle.round.specs.Activation.{started, has_ended, is_reached};
-ghost use Rattle.round.specs.Letters.{Letter as Written};
-ghost use Rattle.round.specs.Contexts.{context_of};
-ghost use Rattle.round.specs.Told.{WasTold};
-ghost use Rattle.round.specs.Runs.{IsWithin, IsLetter};
+ghost use Rattle.letter.specs.Activation.{started, has_ended, is_reached};
+ghost use Rattle.letter.specs.Letters.{Letter as Written};
+ghost use Rattle.letter.specs.Contexts.{context_of};
+ghost use Rattle.delivery.specs.Told.{WasTold};
+ghost use Rattle.letter.specs.Runs.{IsWithin, IsLetter};
 ghost use Rattle.round.specs.Running.{letter_left};
 
-use crate::code::same_code;
-use crate::letter::Letter;
-use crate::scenario::Scenario;
-use crate::seat::Seat;
-use crate::told::Told;
 use board::Access;
+use delivery::Told;
+use letter::Letter;
 use machine::Activation;
 use mem::Context;
 use outbox::Outbox;
+use roster::{Scenario, Seat, same_code};
 use std::alloc::{AllocError, Global};
 use std::marker::Model;
 use std::sync::Arc;
@@ -36,7 +34,7 @@ pub struct Running {
 
 impl Model for Running {
     ghost use Rattle.std.specs.Arc.{arc_value};
-    ghost use Rattle.round.specs.Activation.{Activation as Activated};
+    ghost use Rattle.letter.specs.Activation.{Activation as Activated};
 
     ghost Value = { Activated };
 

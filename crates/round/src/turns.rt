@@ -7,7 +7,7 @@ ghost use Rattle.semantics.specs.Relay.{IsContext};
 ghost use Rattle.board.specs.Board.{reply};
 ghost use Rattle.machine.specs.Standing.{HasAsked, before};
 ghost use Rattle.machine.specs.Advance.{IsOfRun, IsAskOfRun, IsStopOfRun, IsCounted};
-ghost use Rattle.round.specs.Activation.{turn};
+ghost use Rattle.letter.specs.Activation.{turn};
 ghost use Rattle.round.specs.Running.{Stopped, IsBack, access_entered, moved, activation_of, Silently, Pauses, IsSameRun, lesser};
 
 use crate::running::Running;

@@ -4,7 +4,7 @@ use Rattle.std.specs.Option.{ok_or}
 use Rattle.toml.specs.Data.{Data, Items, Members, no_items, item, no_members, member, get_member, as_integer, as_str, as_array}
 use Rattle.combine.specs.declared.chosen.Rule.{Rule}
 use Rattle.combine.specs.Names.{default_rule, rule_named}
-use Rattle.round.specs.Scenario.{IsPatience}
+use Rattle.roster.specs.Scenario.{IsPatience}
 use Rattle.scenario.specs.declared.messages.Messages.{Messages}
 use Rattle.scenario.specs.declared.messages.Messages.TheVariants.{Oral, Signed}
 use Rattle.scenario.specs.declared.messages.Kinds.{Kinds}

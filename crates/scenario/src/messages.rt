@@ -1,5 +1,5 @@
 //! How the generals of a campaign send orders.
-use round::Scenario;
+use roster::Scenario;
 
 /// How orders are sent.
 #[derive(Clone, Copy, Debug, PartialEq, Eq)]

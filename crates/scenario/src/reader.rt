@@ -15,7 +15,7 @@ use crate::place::{Name, Place};
 use crate::tables::traitor;
 use crate::words::board;
 use combine::Rule;
-use round::{Scenario, Seat};
+use roster::{Scenario, Seat};
 use std::alloc::{AllocError, Global};
 use std::sync::Arc;
 use toml::{Table, Value};

@@ -13,7 +13,7 @@ use crate::fault::{Fault, ScenarioError};
 use crate::keys::{at, entry_is_known, general};
 use crate::place::{Name, Place};
 use crate::programs::{Written, accepted, program};
-use round::Seat;
+use roster::Seat;
 use std::alloc::Global;
 use toml::{Table, Value};
 use verify::Verified;

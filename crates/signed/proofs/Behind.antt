@@ -4,10 +4,10 @@ use Rattle.std.specs.Prelude.{nat_lt}
 use Rattle.std.proofs.lemmas.List.Elements.{All-append}
 use Rattle.insn.specs.declared.insn.Insn.{Insn}
 use Rattle.semantics.specs.Relay.{signed}
-use Rattle.round.specs.Scenario.{Scenario, program_of, shape_of}
-use Rattle.round.specs.Letters.{Letter, letter_of}
-use Rattle.round.specs.Contexts.{context_bytes, faithful_letter_with}
-use Rattle.round.specs.Activation.{started}
+use Rattle.roster.specs.Scenario.{Scenario, program_of, shape_of}
+use Rattle.letter.specs.Letters.{Letter, letter_of}
+use Rattle.letter.specs.Contexts.{context_bytes, faithful_letter_with}
+use Rattle.letter.specs.Activation.{started}
 use Rattle.world.specs.declared.part.Part.{Part}
 use Rattle.world.specs.declared.part.Part.TheVariants.{Acting}
 use Rattle.world.specs.Kind.{each, begins, loyal_letter}

@@ -4,8 +4,8 @@ use Rattle.std.specs.Prelude.{OnOk, OnErr, slice_get, replicate, ◌&&◌}
 use Rattle.std.specs.List.{list_all}
 use Rattle.board.specs.Board.{Access}
 use Rattle.board.specs.Ledger.{RecordedBoard}
-use Rattle.round.specs.Scenario.{Scenario, IsScenario}
-use Rattle.round.specs.Letters.{Letter}
+use Rattle.roster.specs.Scenario.{Scenario, IsScenario}
+use Rattle.letter.specs.Letters.{Letter}
 use Rattle.world.specs.declared.event.Event.TheVariants.{Tick, Post, Close}
 use Rattle.world.specs.Agreement.{IsFinished}
 use Rattle.world.specs.Kind.{World, opening, happen}

@@ -4,11 +4,11 @@ use Rattle.std.specs.Prelude.{slice_get, find, ◌==◌}
 use Rattle.std.specs.List.{range_with_len}
 use Rattle.std.proofs.lemmas.Bool.{cases_eq, ne_eqb, eq-eqb}
 use Rattle.board.specs.Board.{Access}
-use Rattle.round.specs.Scenario.{Scenario}
-use Rattle.round.specs.Letters.{Letter, letter_of}
-use Rattle.round.specs.Activation.{Activation}
+use Rattle.roster.specs.Scenario.{Scenario}
+use Rattle.letter.specs.Letters.{Letter, letter_of}
+use Rattle.letter.specs.Activation.{Activation}
 use Rattle.round.specs.Running.{letter_left}
-use Rattle.round.specs.Runs.{IsLetter}
+use Rattle.letter.specs.Runs.{IsLetter}
 use Rattle.world.specs.declared.draft.Draft.{Draft}
 use Rattle.world.specs.declared.draft.Draft.TheVariants.{Begun}
 use Rattle.world.specs.Closing.{letter_from, letters_from, AreDraftsOf}

@@ -8,9 +8,9 @@ use Rattle.semantics.specs.declared.entry.Entry.{Entry}
 use Rattle.semantics.specs.Relay.{Relay}
 use Rattle.semantics.specs.Entries.{is_sendable}
 use Rattle.semantics.proofs.SafetyLaws.{safe_of_sound}
-use Rattle.round.specs.Scenario.{Scenario, IsScenario, program_of}
-use Rattle.round.specs.Letters.{Letter, letter_of}
-use Rattle.round.specs.Activation.{Activation, started}
+use Rattle.roster.specs.Scenario.{Scenario, IsScenario, program_of}
+use Rattle.letter.specs.Letters.{Letter, letter_of}
+use Rattle.letter.specs.Activation.{Activation, started}
 use Rattle.world.specs.declared.event.Event.{Event}
 use Rattle.world.specs.declared.event.Event.TheVariants.{Close}
 use Rattle.world.specs.declared.part.Part.{Part}

@@ -10,8 +10,8 @@ use Rattle.insn.specs.declared.insn.Operand.TheVariants.{Immediate}
 use Rattle.insn.specs.declared.insn.Size.TheVariants.{Word}
 use Rattle.combine.specs.declared.chosen.Rule.TheVariants.{Majority}
 use Rattle.semantics.specs.Execution.{step}
-use Rattle.round.specs.Scenario.{Scenario}
-use Rattle.round.specs.Letters.{Letter}
+use Rattle.roster.specs.Scenario.{Scenario}
+use Rattle.letter.specs.Letters.{Letter}
 use Rattle.contexts.specs.Layout.{context_bytes}
 use Rattle.world.specs.declared.event.Event.TheVariants.{Tick, Post, Close}
 use Rattle.world.specs.declared.event.EventError.TheVariants.{NotOpen, NoGeneral}

@@ -3,8 +3,8 @@ use Rattle.std.proofs.Common.{◌≡◌, ℕ, suc, Bool, List, length, sym, ap, 
 use Rattle.std.proofs.lemmas.List.{length-map}
 use Rattle.label.specs.Lieutenants.{lieutenants, AgreeInList}
 use Rattle.board.specs.Ledger.{RecordedBoard}
-use Rattle.round.specs.Letters.{Letter}
-use Rattle.round.specs.Scenario.{Scenario, IsScenario, is_traitor}
+use Rattle.letter.specs.Letters.{Letter}
+use Rattle.roster.specs.Scenario.{Scenario, IsScenario, is_traitor}
 use Rattle.world.specs.declared.event.Event.{Event}
 use Rattle.world.specs.declared.part.Part.{Part}
 use Rattle.world.specs.declared.verdict.Verdict.{Verdict}

@@ -4,8 +4,8 @@ use Rattle.std.specs.List.{AllByRecursion}
 use Rattle.semantics.specs.Limits.{context_size, most_held}
 use Rattle.semantics.specs.Entries.{is_sendable}
 use Rattle.label.specs.Labels.{on}
-use Rattle.round.specs.Scenario.{Scenario, IsScenario, is_traitor}
-use Rattle.round.specs.Activation.{Activation}
+use Rattle.roster.specs.Scenario.{Scenario, IsScenario, is_traitor}
+use Rattle.letter.specs.Activation.{Activation}
 use Rattle.world.specs.declared.event.Event.{Event}
 use Rattle.world.specs.declared.event.Event.TheVariants.{Close}
 use Rattle.world.specs.declared.part.Part.TheVariants.{Acting}

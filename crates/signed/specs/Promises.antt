@@ -4,9 +4,9 @@ use Rattle.label.specs.Lieutenants.{AgreeInList}
 use Rattle.semantics.specs.Execution.{step}
 use Rattle.semantics.specs.State.{Cause, Trap}
 use Rattle.board.specs.Board.{Access, IsLegal}
-use Rattle.round.specs.Activation.{Activation, has_ended}
-use Rattle.round.specs.Letters.{Letter}
-use Rattle.round.specs.Scenario.{Scenario, is_traitor}
+use Rattle.letter.specs.Activation.{Activation, has_ended}
+use Rattle.letter.specs.Letters.{Letter}
+use Rattle.roster.specs.Scenario.{Scenario, is_traitor}
 use Rattle.world.specs.declared.event.Event.{Event}
 use Rattle.world.specs.declared.verdict.Verdict.{Verdict}
 use Rattle.world.specs.Agreement.{AreAlike, AreObedient}

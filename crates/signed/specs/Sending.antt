@@ -10,10 +10,10 @@ use Rattle.semantics.specs.Relay.{Relay, signed}
 use Rattle.semantics.specs.Entries.{entered}
 use Rattle.board.specs.Board.{Access}
 use Rattle.board.specs.Ledger.{RecordedBoard}
-use Rattle.round.specs.Scenario.{Scenario, program_of, shape_of}
-use Rattle.round.specs.Letters.{Letter}
-use Rattle.round.specs.Contexts.{context_bytes, faithful_letter_with}
-use Rattle.round.specs.Activation.{started}
+use Rattle.roster.specs.Scenario.{Scenario, program_of, shape_of}
+use Rattle.letter.specs.Letters.{Letter}
+use Rattle.letter.specs.Contexts.{context_bytes, faithful_letter_with}
+use Rattle.letter.specs.Activation.{started}
 use Rattle.world.specs.declared.event.Event.{Event}
 use Rattle.world.specs.declared.draft.Draft.{Draft}
 use Rattle.world.specs.declared.draft.Draft.TheVariants.{Begun, Whole, Missing}

@@ -1,14 +1,15 @@
 //! How a round begins.
 ghost use Rattle.std.specs.Prelude.{◌≡◌, ◌≤◌, ◌<◌, length, IfOk};
 ghost use Rattle.std.specs.Arc.{arc_value};
-ghost use Rattle.round.specs.Activation.{started};
-ghost use Rattle.round.specs.Scenario.{program_of};
+ghost use Rattle.letter.specs.Activation.{started};
+ghost use Rattle.roster.specs.Scenario.{program_of};
 ghost use Rattle.signed.specs.Sending.{begins_behind, beginnings_behind, context_behind, relay_behind, IsSent};
 
 use crate::briefing::{context, outbox};
 use crate::held::Held;
 use crate::outgoing::SentRound;
-use round::{Running, Scenario};
+use roster::Scenario;
+use round::Running;
 use std::alloc::{AllocError, Global};
 use std::sync::Arc;
 use verify::Verified;

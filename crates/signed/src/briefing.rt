@@ -6,7 +6,7 @@ use crate::held::Held;
 use crate::outgoing::SentRound;
 use contexts::context_telling;
 use outbox::Outbox;
-use round::Scenario;
+use roster::Scenario;
 use std::alloc::{AllocError, Global};
 
 /// The number at byte 28 of a context where orders are signed.

@@ -7,7 +7,8 @@ use crate::chain::Chain;
 use crate::outgoing::SentRound;
 use arrayvec::ArrayVec;
 use board::Access;
-use round::{Round, Scenario};
+use letter::Round;
+use roster::Scenario;
 use std::marker::Model;
 use world::Verdict;
 

@@ -6,11 +6,11 @@ ghost use Rattle.signed.specs.Sent.{held_behind};
 
 use crate::dispatch::dispatched;
 use crate::held::Held;
-use crate::letter::loyal_letter;
+use crate::loyal::loyal_letter;
 use crate::outgoing::{Sending, SentRound};
 use crate::signer::Signer;
 use board::Access;
-use round::Scenario;
+use roster::Scenario;
 use semantics::Entry;
 use std::alloc::{AllocError, Global};
 use world::Part;

@@ -12,7 +12,7 @@ use crate::outgoing::SentRound;
 use crate::sets;
 use arrayvec::ArrayVec;
 use outbox::Outbox;
-use round::Scenario;
+use roster::Scenario;
 
 /// Enters what a loyal general has to sign in the round behind these: the commander his order in the first; a
 /// lieutenant, in each round after one of the first m, the first chain that brought him each order that he added then.

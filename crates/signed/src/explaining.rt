@@ -13,7 +13,7 @@ use crate::acceptance::decided;
 use crate::accepted_chains::bringing;
 use crate::chain::Chain;
 use crate::chronicle::SignedChronicle;
-use round::Scenario;
+use roster::Scenario;
 use std::alloc::{AllocError, Global};
 use world::Verdict;
 use world::judging::traitors;

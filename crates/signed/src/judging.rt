@@ -8,7 +8,7 @@ use crate::acceptance::{accepted, decided};
 use crate::chronicle::SignedChronicle;
 use crate::signed_world::SignedWorld;
 use arrayvec::ArrayVec;
-use round::Scenario;
+use roster::Scenario;
 use world::Verdict;
 use world::judging::{alike, loyal_decisions, obeyed, traitors};
 

@@ -15,7 +15,7 @@ mod explaining;
 mod held;
 mod judging;
 mod laws;
-mod letter;
+mod loyal;
 mod outgoing;
 mod player;
 mod playing;

@@ -11,7 +11,7 @@ ghost use Rattle.world.specs.Schedules.{lines_by};
 
 use crate::chronicle::SignedChronicle;
 use crate::signed_world::SignedWorld;
-use round::Scenario;
+use roster::Scenario;
 use std::alloc::{AllocError, Global};
 use world::{Schedule, play_listed, play_named};
 

@@ -2,7 +2,7 @@
 ghost use Rattle.signed.specs.Kind.{signed_kind};
 
 use crate::signed_world::SignedWorld;
-use round::Scenario;
+use roster::Scenario;
 use std::alloc::AllocError;
 use world::{Part, Plays};
 

@@ -2,7 +2,8 @@
 use crate::outgoing::SentRound;
 use crate::signer::Signer;
 use board::Board;
-use round::{Round, Scenario};
+use letter::Round;
+use roster::Scenario;
 use std::alloc::Global;
 use std::marker::Model;
 use world::Part;

@@ -4,7 +4,7 @@ use Rattle.std.specs.Prelude.{◌==◌, bytes_eq, filter}
 use Rattle.std.proofs.lemmas.Bool.{and_from, or_left, or_right, eq-eqb}
 use Rattle.std.proofs.lemmas.Slice.Eq.{bytes_eq-Decides}
 use Rattle.label.specs.Labels.{on}
-use Rattle.round.specs.Scenario.{Scenario, IsScenario, is_traitor}
+use Rattle.roster.specs.Scenario.{Scenario, IsScenario, is_traitor}
 use Rattle.world.specs.Agreement.{IsFinished}
 use Rattle.world.specs.declared.event.Event.{Event}
 use Rattle.signed.specs.Accepted.{loyal_chains}

@@ -9,7 +9,7 @@ use Rattle.markup.specs.Tags.{element}
 use Rattle.markup.proofs.TextLemmas.{bare_text, decimal_text, text-flat_map}
 use Rattle.board.specs.Board.{Access}
 use Rattle.book.specs.Explained.{dotted}
-use Rattle.round.specs.Scenario.{Scenario}
+use Rattle.roster.specs.Scenario.{Scenario}
 use Rattle.world.specs.Chronicle.{Chronicle}
 use Rattle.world.specs.declared.verdict.Verdict.{Verdict}
 use Rattle.diagram.specs.declared.stroke.Stroke.{Stroke}

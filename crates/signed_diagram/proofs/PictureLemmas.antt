@@ -1,7 +1,7 @@
 -- A picture, piece by piece.
 use Rattle.std.proofs.Common.{ℕ, ◌+◌, ◌≡◌, List, ◌++◌, append_assoc, codes}
 use Rattle.board.specs.Board.{Access}
-use Rattle.round.specs.Scenario.{Scenario}
+use Rattle.roster.specs.Scenario.{Scenario}
 use Rattle.world.specs.Chronicle.{Chronicle}
 use Rattle.diagram.specs.declared.stroke.Stroke.{Stroke}
 use Rattle.diagram.specs.Layout.{top_of, width}

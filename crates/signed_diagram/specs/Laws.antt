@@ -1,7 +1,7 @@
 -- Laws of what is drawn. Each is the contract of a function of this crate.
 use Rattle.std.specs.Prelude.{ℕ, ◌<◌, ◌≡◌, true, false, List, ◌++◌, codes}
 use Rattle.markup.specs.Grammar.{IsElement}
-use Rattle.round.specs.Scenario.{Scenario, IsScenario, is_traitor}
+use Rattle.roster.specs.Scenario.{Scenario, IsScenario, is_traitor}
 use Rattle.world.specs.Agreement.{IsFinished}
 use Rattle.world.specs.Chronicle.{Chronicle}
 use Rattle.world.specs.declared.event.Event.{Event}

@@ -1,7 +1,7 @@
 -- A campaign of signed messages as a picture in SVG.
 use Rattle.std.specs.Prelude.{ℕ, ◌+◌, List, ◌++◌, flat_map, codes}
 use Rattle.board.specs.Board.{Access}
-use Rattle.round.specs.Scenario.{Scenario}
+use Rattle.roster.specs.Scenario.{Scenario}
 use Rattle.world.specs.Chronicle.{Chronicle}
 use Rattle.diagram.specs.Layout.{top_of, width}
 use Rattle.diagram.specs.Shapes.{text_at, title}

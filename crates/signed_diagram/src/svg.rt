@@ -13,7 +13,7 @@ use diagram::layout::{top_of, width};
 use diagram::shapes::{put_text_end, put_text_start, put_title_end, put_title_start, put_words};
 use diagram::svg::{look, put_box, put_campaign, put_heads, put_key_end, start};
 use diagram::words::put_copied;
-use round::Scenario;
+use roster::Scenario;
 use signed::SignedChronicle;
 use std::alloc::{AllocError, Global};
 

@@ -4,7 +4,7 @@ use Rattle.std.specs.Fmt.{decimal}
 use Rattle.std.specs.List.{range_with_len}
 use Rattle.diagram.specs.Foot.{place_of}
 use Rattle.page.specs.Page.{fold, heading, lines, page}
-use Rattle.round.specs.Scenario.{Scenario, is_traitor}
+use Rattle.roster.specs.Scenario.{Scenario, is_traitor}
 use Rattle.signed.specs.Explained.{acceptance_of}
 use Rattle.signed_diagram.specs.Foot.{bound_words}
 use Rattle.signed_diagram.specs.Svg.{signed_svg}

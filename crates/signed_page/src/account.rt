@@ -11,7 +11,7 @@ use campaign_page::{
     title,
 };
 use page::{finish, start};
-use round::Scenario;
+use roster::Scenario;
 use signed::SignedChronicle;
 use signed_diagram::signed_campaign_svg;
 use std::alloc::{AllocError, Global};

@@ -1,7 +1,8 @@
 //! Campaigns, oral and signed, and their texts.
 use arrayvec::ArrayVec;
 use board::Access;
-use round::{Letter, Round, Scenario};
+use letter::{Letter, Round};
+use roster::Scenario;
 use scenario::{Campaign, ScenarioError, read, read_any};
 use signed::{Chain, Held, SignedChronicle, SignedWorld, Signer, play_signed, replay_signed};
 use std::alloc::{AllocError, Global};

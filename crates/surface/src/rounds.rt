@@ -1,12 +1,15 @@
 //! Letters, what they tell, and what a general is told.
 ghost use Rattle.std.specs.Prelude.{◌≡◌, ◌<◌, ◌≤◌, length};
 ghost use Rattle.label.specs.Relay.{IsShape};
-ghost use Rattle.round.specs.Contexts.{IsToldTo, shape_told};
-ghost use Rattle.round.specs.Told.{AreDue, AreRoundsOf};
+ghost use Rattle.letter.specs.Contexts.{IsToldTo, shape_told};
+ghost use Rattle.letter.specs.Origin.{AreRoundsOf};
+ghost use Rattle.delivery.specs.Told.{AreDue};
 
 use board::Access;
+use delivery::{context_for, deliver};
 use label::Shape;
-use round::{Letter, Round, Scenario, context_for, deliver, loyal_letter};
+use letter::{Letter, Round, loyal_letter};
+use roster::Scenario;
 use std::alloc::{AllocError, Global};
 use tree::Tree;
 

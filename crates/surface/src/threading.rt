@@ -2,7 +2,8 @@
 ghost use Rattle.std.specs.Prelude.{◌≡◌, ◌<◌, [], All};
 
 use board::{Access, Board};
-use round::{Letter, Round, Scenario};
+use letter::{Letter, Round};
+use roster::Scenario;
 use semantics::{Reply, Request};
 use std::alloc::{AllocError, Global};
 use std::sync::Wait;

@@ -7,7 +7,7 @@ use Rattle.scenario.specs.declared.fault.ScenarioError.{ScenarioError}
 use Rattle.scenario.specs.declared.fault.ScenarioError.TheVariants.{Memory}
 use Rattle.scenario.specs.declared.messages.Campaign.{Campaign}
 use Rattle.scenario.specs.declared.messages.Campaign.TheVariants.{Oral, Signed}
-use Rattle.round.specs.Scenario.{Scenario, is_traitor}
+use Rattle.roster.specs.Scenario.{Scenario, is_traitor}
 use Rattle.signed.specs.Chronicle.{signed_chronicle_of}
 use Rattle.signed.specs.Kind.{played}
 use Rattle.world.specs.Chronicle.{chronicle_of}

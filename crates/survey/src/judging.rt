@@ -9,7 +9,7 @@ ghost use Rattle.world.specs.Promises.{IsWellUnderBound};
 use crate::family::Family;
 use crate::finding::Finding;
 use crate::wording::campaign_text;
-use round::Scenario;
+use roster::Scenario;
 use scenario::{Campaign, ScenarioError, read_any};
 use signed::play_signed;
 use std::alloc::{AllocError, Global};

@@ -5,7 +5,7 @@ use Rattle.std.specs.List.{find, remove}
 use Rattle.std.proofs.Math.Numerals.{add-one}
 use Rattle.std.proofs.lemmas.Bool.{eq-eqb, ne_eqb}
 use Rattle.std.proofs.lemmas.Bool.Decides.{eqb_tells}
-use Rattle.round.specs.Letters.{Letter}
+use Rattle.letter.specs.Letters.{Letter}
 use Rattle.world.specs.World.{each}
 use Rattle.world.specs.Accounted.{letter_by, letters_by}
 use Rattle.threads.specs.Taking.{without, left_by, left_by_all, left_rounds}

@@ -1,15 +1,17 @@
 //! Whether letters are accounted for.
 ghost use Rattle.std.specs.Prelude.{◌≡◌, ◌↔◌, ◌<◌, ◌≤◌, ℕ, suc, take, drop, min, sum_by, length, All, List, IsTrue, IfOk, OnOk};
-ghost use Rattle.round.specs.Scenario.{program_of};
-ghost use Rattle.round.specs.Letters.{Letter as LetterSeen};
-ghost use Rattle.round.specs.Contexts.{context_of, AreWords};
-ghost use Rattle.round.specs.Told.{WasTold};
+ghost use Rattle.roster.specs.Scenario.{program_of};
+ghost use Rattle.letter.specs.Letters.{Letter as LetterSeen};
+ghost use Rattle.letter.specs.Contexts.{context_of, AreWords};
+ghost use Rattle.delivery.specs.Told.{WasTold};
 ghost use Rattle.world.specs.World.{accesses_of};
 ghost use Rattle.world.specs.Accounted.{IsLetterOf, IsAccountedRound, AreAccounted};
 ghost use Rattle.threads.specs.Holding.{EndedInTime, Stands};
 
 use board::Access;
-use round::{Letter, Round, Scenario, Told};
+use delivery::Told;
+use letter::{Letter, Round};
+use roster::Scenario;
 use std::alloc::{AllocError, Global};
 
 /// Whether these are just one general's accesses, in their order.

@@ -4,7 +4,7 @@ ghost use Rattle.threads.specs.Answers.{ended_as, first_failure};
 ghost use Rattle.threads.specs.declared.error.MusterError.TheVariants.{Memory, Unaccounted, Spawn, Post};
 
 use crate::error::MusterError;
-use round::Letter;
+use letter::Letter;
 
 /// The error of the lowest general who has failed, where these are the generals' failures, ascending.
 pub(crate) fn first_failure(failures: &[Option<MusterError>]) -> Option<MusterError>

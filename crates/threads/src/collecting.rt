@@ -1,6 +1,6 @@
 //! The letters of a campaign whose generals stay in their threads for all rounds.
 ghost use Rattle.std.specs.Prelude.{◌≡◌, ℕ, ◌<◌, ◌≤◌, [], suc, length, slice_index_or, Err, IfOk, IfSome};
-ghost use Rattle.round.specs.Told.{WasTold};
+ghost use Rattle.delivery.specs.Told.{WasTold};
 ghost use Rattle.post.specs.Seen.{PosterSeen, poster_seen};
 ghost use Rattle.threads.specs.Inboxes.{AreOwn};
 
@@ -11,8 +11,10 @@ use crate::error::MusterError;
 use crate::gate::Gate;
 use crate::inbox::Closed;
 use arrayvec::ArrayVec;
+use delivery::Told;
+use letter::Round;
 use post::{Collector, Poster};
-use round::{Round, Scenario, Told};
+use roster::Scenario;
 use shared_board::{Room, SharedBoard, Witness};
 use std::alloc::Global;
 use std::sync::Wait;

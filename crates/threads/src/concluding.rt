@@ -1,8 +1,8 @@
 //! What a campaign comes to.
 ghost use Rattle.std.specs.Prelude.{◌≡◌, ◌≢◌, ◌≤◌, [], suc, All, List, length, IfOk, OnOk, IfErr};
 ghost use Rattle.board.specs.Board.{IsLegal};
-ghost use Rattle.round.specs.Letters.{Letter as LetterSeen, messages};
-ghost use Rattle.round.specs.Told.{WasTold};
+ghost use Rattle.letter.specs.Letters.{Letter as LetterSeen, messages};
+ghost use Rattle.delivery.specs.Told.{WasTold};
 ghost use Rattle.world.specs.Accounted.{AreAccounted};
 ghost use Rattle.world.specs.Chronicle.{decisions, chronicle_of};
 ghost use Rattle.world.specs.Lists.{IsComplete, replayed, names_in};
@@ -16,8 +16,10 @@ use crate::answers::accounted;
 use crate::error::MusterError;
 use arrayvec::ArrayVec;
 use board::{Access, Board};
+use delivery::Told;
+use letter::Round;
 use resolve::resolve_all;
-use round::{Round, Scenario, Told};
+use roster::Scenario;
 use std::alloc::{AllocError, Global};
 use std::thread;
 use std::thread::Threads;

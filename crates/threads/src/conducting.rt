@@ -1,8 +1,8 @@
 //! A campaign's rounds, conducted through the generals' camp.
 ghost use Rattle.std.specs.Prelude.{◌≡◌, ◌≢◌, ◌≤◌, ◌∷◌, [], suc, List, length, IsPermutation, IsSortedByKey, IfOk, IfErr};
 ghost use Rattle.std.specs.Ordering.{nat_cmp};
-ghost use Rattle.round.specs.Letters.{Letter as LetterSeen};
-ghost use Rattle.round.specs.Told.{WasTold};
+ghost use Rattle.letter.specs.Letters.{Letter as LetterSeen};
+ghost use Rattle.delivery.specs.Told.{WasTold};
 ghost use Rattle.world.specs.World.{each};
 ghost use Rattle.threads.specs.Duties.{duty_of};
 ghost use Rattle.threads.specs.Inboxes.{AreByGeneral, AreOwn};
@@ -12,8 +12,10 @@ use crate::answers::accounted;
 use crate::camp::Camp;
 use crate::error::MusterError;
 use crate::task::Task;
+use delivery::Told;
+use letter::{Letter, Round, are_letters_of};
 use post::{Collector, Post};
-use round::{Letter, Round, Scenario, Told, are_letters_of};
+use roster::Scenario;
 use shared_board::Room;
 use std::alloc::{AllocError, Global};
 use std::sync::Wait;

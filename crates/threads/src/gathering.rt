@@ -1,6 +1,7 @@
 //! The letters that a ledger accounts for.
 ghost use Rattle.std.specs.Prelude.{◌≡◌, ◌≢◌, suc, length, IfOk, OnOk, IfErr, MatchOption};
-ghost use Rattle.round.specs.Told.{WasTold, AreRoundsOf};
+ghost use Rattle.letter.specs.Origin.{AreRoundsOf};
+ghost use Rattle.delivery.specs.Told.{WasTold};
 ghost use Rattle.world.specs.Accounted.{rounds_of, IsAccounted};
 ghost use Rattle.threads.specs.declared.error.MusterError.TheVariants.{Unaccounted, Spawn, Post};
 
@@ -9,7 +10,9 @@ use crate::answers::{accounted, found};
 use crate::error::MusterError;
 use crate::taking::arrange;
 use board::Access;
-use round::{Letter, Round, Scenario, Told, are_letters_of};
+use delivery::Told;
+use letter::{Letter, Round, are_letters_of};
+use roster::Scenario;
 use std::alloc::{AllocError, Global};
 
 /// The letters by round, and in a round by general, where the ledger accounts for them: there is one for each general

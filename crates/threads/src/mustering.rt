@@ -2,7 +2,7 @@
 ghost use Rattle.std.specs.Prelude.{◌≡◌, ◌≤◌, suc, length, All, IfOk};
 ghost use mathlib.Core.List.{IsPrefix};
 ghost use Rattle.board.specs.Board.{IsLegal};
-ghost use Rattle.round.specs.Letters.{messages};
+ghost use Rattle.letter.specs.Letters.{messages};
 ghost use Rattle.world.specs.Chronicle.{decisions, chronicle_of};
 ghost use Rattle.world.specs.Lists.{IsComplete, replayed, names_in};
 ghost use Rattle.world.specs.Promises.{AgreeUnderBound, IsVerdictOn, IsWellUnderBound};
@@ -14,7 +14,7 @@ use crate::concluding::{conclude, judge};
 use crate::error::MusterError;
 use crate::gate::Gate;
 use board::Board;
-use round::Scenario;
+use roster::Scenario;
 use shared_board::{Room, SharedBoard, Unshared, Witness};
 use std::alloc::Global;
 use std::marker::Brand;

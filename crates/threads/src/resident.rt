@@ -1,6 +1,6 @@
 //! A general's thread through all rounds.
 ghost use Rattle.std.specs.Prelude.{◌≡◌, ◌≢◌, ◌++◌, ◌∷◌, [], Err, IfOk, IfErr};
-ghost use Rattle.round.specs.Letters.{Letter as LetterSeen};
+ghost use Rattle.letter.specs.Letters.{Letter as LetterSeen};
 ghost use Rattle.threads.specs.Duties.{IsDone};
 ghost use Rattle.threads.specs.Served.{AreAmong};
 ghost use Rattle.threads.specs.declared.error.MusterError.TheVariants.{Unaccounted, Spawn, Post as PostFull};
@@ -11,8 +11,8 @@ use crate::gate::{Gate, Gated};
 use crate::inbox::{Closed, Inbox};
 use crate::tally::Tally;
 use crate::task::Task;
+use letter::Letter;
 use post::{Post, Poster};
-use round::Letter;
 use shared_board::{Room, SharedBoard, Witness};
 use std::alloc::Global;
 use std::sync::Wait;

@@ -1,10 +1,13 @@
 //! What a general does in a round.
 ghost use Rattle.std.specs.Prelude.{◌≡◌, ◌<◌, ◌≤◌, ◌++◌, List, IfOk};
-ghost use Rattle.round.specs.Letters.{Letter as LetterSeen};
-ghost use Rattle.round.specs.Told.{WasTold};
+ghost use Rattle.letter.specs.Letters.{Letter as LetterSeen};
+ghost use Rattle.delivery.specs.Told.{WasTold};
 ghost use Rattle.threads.specs.Duties.{duty_of, IsDone};
 
-use round::{Letter, Scenario, Seat, Server, Told, live, loyal_letter};
+use delivery::Told;
+use letter::{Letter, loyal_letter};
+use roster::{Scenario, Seat};
+use round::{Server, live};
 use std::alloc::{AllocError, Global};
 use std::marker::Model;
 
@@ -22,7 +25,7 @@ pub(crate) struct Task {
 impl Model for Task {
     ghost use Rattle.std.specs.Prelude.{◌≡◌, length};
     ghost use Rattle.label.specs.Relay.{IsShape};
-    ghost use Rattle.round.specs.Contexts.{IsToldTo, shape_told};
+    ghost use Rattle.letter.specs.Contexts.{IsToldTo, shape_told};
     ghost use Rattle.threads.specs.Duties.{Duty};
 
     ghost Value = { Duty };

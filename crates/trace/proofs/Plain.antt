@@ -12,8 +12,8 @@ use Rattle.text.proofs.BytesLemmas.{all-weaker}
 use Rattle.semantics.specs.declared.request.Request.{Request}
 use Rattle.semantics.specs.declared.request.Request.TheVariants.{Get, Swap, Add, Cas, Copy}
 use Rattle.board.specs.Board.{Access}
-use Rattle.round.specs.Scenario.{Scenario, is_traitor}
-use Rattle.round.specs.Letters.{Letter}
+use Rattle.roster.specs.Scenario.{Scenario, is_traitor}
+use Rattle.letter.specs.Letters.{Letter}
 use Rattle.world.specs.declared.verdict.Verdict.{Verdict}
 use Rattle.world.specs.Chronicle.{Chronicle}
 use Rattle.label.specs.Lieutenants.{lieutenants}

@@ -6,7 +6,7 @@ use Rattle.std.proofs.lemmas.Grind.{flat_map-append}
 use Rattle.std.specs.Option.{option_map}
 use Rattle.insn.specs.declared.insn.Insn.{Insn}
 use Rattle.board.specs.Board.{Access}
-use Rattle.round.specs.Letters.{Letter}
+use Rattle.letter.specs.Letters.{Letter}
 use Rattle.trace.specs.Sinks.{Wrote}
 use Rattle.trace.specs.Text.{Word, Line, further, text, access_line, row_lines, letter_line, letter_lines, rounds_told}
 use Rattle.trace.specs.Lines.{author_line, round_line, round_told, row_line}

@@ -2,8 +2,8 @@
 use Rattle.std.proofs.Common.{◌≡◌, ℕ, List, [], ◌∷◌, ◌++◌, map, refl, sym, ap, ◌∙◌, append_assoc, Option}
 use Rattle.std.specs.Option.{option_map}
 use Rattle.std.specs.Prelude.{codes, decimal}
-use Rattle.round.specs.Letters.{Letter}
-use Rattle.round.specs.Scenario.{Scenario}
+use Rattle.letter.specs.Letters.{Letter}
+use Rattle.roster.specs.Scenario.{Scenario}
 use Rattle.signed.specs.Chains.{Chain}
 use Rattle.signed.specs.Sending.{dispatch_of}
 use Rattle.signed.specs.Sent.{Sent, sent_by}

@@ -2,7 +2,7 @@
 use Rattle.std.proofs.Common.{◌≡◌, ◌<◌, ℕ, suc, List, sym, ap, ◌∙◌, arith}
 use Rattle.std.specs.Prelude.{All}
 use Rattle.board.specs.Board.{Access}
-use Rattle.round.specs.Scenario.{Scenario, IsScenario}
+use Rattle.roster.specs.Scenario.{Scenario, IsScenario}
 use Rattle.world.specs.declared.event.Event.{Event}
 use Rattle.world.specs.Kind.{World}
 use Rattle.world.specs.KindLists.{IsComplete, names_in, replayed}

@@ -3,7 +3,7 @@ use Rattle.std.specs.Prelude.{ℕ, ◌≡◌, ◌<◌, ◌↔◌, true, All, Lis
 use Rattle.combine.specs.declared.chosen.Rule.{Rule}
 use Rattle.combine.specs.Names.{is_default}
 use Rattle.world.specs.declared.event.Event.{Event}
-use Rattle.round.specs.Scenario.{Scenario, IsScenario}
+use Rattle.roster.specs.Scenario.{Scenario, IsScenario}
 use Rattle.world.specs.World.{opening, run}
 use Rattle.world.specs.Lists.{IsComplete, names_in}
 use Rattle.world.specs.Chronicle.{Chronicle, chronicle_of}

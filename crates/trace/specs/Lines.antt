@@ -3,8 +3,8 @@ use Rattle.std.specs.Prelude.{ℕ, Bool, true, false, List, [], ◌∷◌, ◌++
 use Rattle.semantics.specs.declared.request.Request.{Request}
 use Rattle.semantics.specs.declared.request.Request.TheVariants.{Get, Swap, Add, Cas, Copy}
 use Rattle.board.specs.Board.{Access}
-use Rattle.round.specs.Letters.{Letter}
-use Rattle.round.specs.Scenario.{Scenario, is_traitor}
+use Rattle.letter.specs.Letters.{Letter}
+use Rattle.roster.specs.Scenario.{Scenario, is_traitor}
 use Rattle.trace.specs.Text.{Word, Line, access_line, letter_lines, place, decision_line}
 
 -- what was asked, before the equals sign

@@ -10,7 +10,7 @@ use crate::signed_auditing::signed_replayed;
 use crate::signed_chronicling::write_signed;
 use crate::sink::Latch;
 use crate::version::Version;
-use round::Scenario;
+use roster::Scenario;
 use signed::SignedChronicle;
 use std::alloc::{AllocError, Global};
 use world::Chronicle;

@@ -14,7 +14,7 @@ use crate::refusing::refusal;
 use crate::stops::FEED;
 use crate::version::Version;
 use combine::Rule;
-use round::Scenario;
+use roster::Scenario;
 use std::alloc::{AllocError, Global};
 use text::piece;
 use world::{Chronicle, Verdict, replay};

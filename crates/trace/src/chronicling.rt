@@ -13,7 +13,7 @@ use crate::lines::put_verdict;
 use crate::sink::Sink;
 use crate::version::{Version, version_by};
 use crate::writing::put_all;
-use round::Scenario;
+use roster::Scenario;
 use world::{Chronicle, Verdict};
 
 /// The campaign's numbers, which begin the second line.

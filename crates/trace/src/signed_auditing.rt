@@ -11,7 +11,7 @@ use crate::named::names;
 use crate::refusing::refusal;
 use crate::signed_chronicling::put_signed;
 use crate::stops::FEED;
-use round::Scenario;
+use roster::Scenario;
 use signed::{SignedChronicle, replay_signed};
 use std::alloc::{AllocError, Global};
 use text::piece;

@@ -13,7 +13,7 @@ use crate::lines::{put_order, put_verdict};
 use crate::signed_letters::put_signed_rounds;
 use crate::sink::Sink;
 use crate::writing::put_all;
-use round::Scenario;
+use roster::Scenario;
 use signed::SignedChronicle;
 
 /// The first two lines: the version and the campaign.

@@ -9,12 +9,12 @@ use Rattle.std.proofs.Math.Seq.{drop-append_seam}
 use Rattle.insn.specs.declared.insn.Insn.{Insn}
 use Rattle.board.specs.Board.{Access, words_after, IsLegal}
 use Rattle.world.specs.declared.event.Event.TheVariants.{Close}
-use Rattle.round.specs.Scenario.{Scenario, program_of}
-use Rattle.round.specs.Letters.{Letter}
-use Rattle.round.specs.Activation.{Activation, started, is_reached}
+use Rattle.roster.specs.Scenario.{Scenario, program_of}
+use Rattle.letter.specs.Letters.{Letter}
+use Rattle.letter.specs.Activation.{Activation, started, is_reached}
 use Rattle.world.specs.Part.{Part, Acting, Silent, Posted, owes_no_letter}
 use Rattle.world.specs.Kind.{Kind, loyal_letter, World, each, round_open, begins, begun, accesses_of, letters_at, round_letters, happen, run}
-use Rattle.round.specs.Runs.{Runs, IsWithin}
+use Rattle.letter.specs.Runs.{Runs, IsWithin}
 use Rattle.world.specs.KindAccounted.{IsLetterOf, IsAccountedRound}
 use Rattle.world.specs.KindLists.{names_events, wound_up, IsRipe}
 use Rattle.world.proofs.Kept.{Fits, IsKept}
@@ -23,8 +23,8 @@ use Rattle.world.proofs.Moves.{moves_same, then_same, moves_keep, run-append, Al
 use Rattle.world.proofs.Punctual.{all_posted}
 use Rattle.world.proofs.Complete.{posts, ends, posts_moves, ends_moves, ripens, part_within}
 use Rattle.world.proofs.Lasting.{IsOnTime, moves_due, close_open, names_moves}
-use Rattle.round.proofs.Stepping.{runs_steps}
-use Rattle.round.proofs.Patience.{under, runs_under}
+use Rattle.letter.proofs.Stepping.{runs_steps}
+use Rattle.letter.proofs.Patience.{under, runs_under}
 use Rattle.world.proofs.Following.{Act, of_first, Ways, Followed, follow, ways_last, moves_still, way_ended}
 use Rattle.world.proofs.Cutting.{entries_of, entries_below, AreBelow}
 use Rattle.world.specs.Campaigns.{IsCampaign}

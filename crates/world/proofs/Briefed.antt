@@ -6,10 +6,10 @@ use Rattle.std.proofs.lemmas.Bool.Decides.{eqb_tells}
 use Rattle.std.proofs.lemmas.Option.{slice_get_past}
 use Rattle.insn.specs.declared.insn.Insn.{Insn}
 use Rattle.semantics.specs.Relay.{oral}
-use Rattle.round.specs.Scenario.{Scenario, program_of, shape_of}
-use Rattle.round.specs.Letters.{Letter}
-use Rattle.round.specs.Contexts.{context_of}
-use Rattle.round.specs.Activation.{Activation, started}
+use Rattle.roster.specs.Scenario.{Scenario, program_of, shape_of}
+use Rattle.letter.specs.Letters.{Letter}
+use Rattle.letter.specs.Contexts.{context_of}
+use Rattle.letter.specs.Activation.{Activation, started}
 use Rattle.world.specs.Part.{Part, Acting, Silent, Posted}
 use Rattle.world.specs.World.{each, begins}
 use Rattle.world.specs.Held.{beginnings}

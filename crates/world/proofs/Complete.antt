@@ -9,15 +9,15 @@ use Rattle.board.specs.Board.{IsBoard, reply}
 use Rattle.board.proofs.Serving.{reply_fits, next_board}
 use Rattle.world.specs.declared.event.Event.{Event}
 use Rattle.world.specs.declared.event.Event.TheVariants.{Tick, Post, Close}
-use Rattle.round.specs.Scenario.{Scenario, program_of}
-use Rattle.round.specs.Activation.{Activation, Turn, Goes, Asks, Ended, turn, has_ended}
+use Rattle.roster.specs.Scenario.{Scenario, program_of}
+use Rattle.letter.specs.Activation.{Activation, Turn, Goes, Asks, Ended, turn, has_ended}
 use Rattle.world.specs.Part.{Part, Acting, Silent, Posted, owes_no_letter}
 use Rattle.world.specs.Kind.{Kind, World, happen, run, each, ticked, served, posting}
 use Rattle.world.specs.KindLists.{Throughout, AtClose, OwesNoLetter, HasEnded, post_of, ticks_of, IsMove, AreMoves, IsRipe}
 use Rattle.world.proofs.Kept.{Fits, IsKept}
 use Rattle.world.proofs.Listing.{set-here}
 use Rattle.world.proofs.Moves.{moves-append, moves_same, moves_board, run-append, AllParts, IsLasting, moves_keep}
-use Rattle.round.proofs.Going.{turn_within, IsGoing, TurnsTo, turn_safe, going_zero, over_ended, ended_over}
+use Rattle.letter.proofs.Going.{turn_within, IsGoing, TurnsTo, turn_safe, going_zero, over_ended, ended_over}
 use Rattle.world.proofs.Rounds.{run_kept}
 use Rattle.world.proofs.Due.{IsDue, Due, due_lasts}
 

@@ -12,9 +12,9 @@ use Rattle.combine.specs.Chosen.{combined_by}
 use Rattle.board.specs.Ledger.{RecordedBoard as Board}
 use Rattle.tree.specs.LieutenantTree.{LieutenantTree}
 use Rattle.resolve.specs.Decided.{Decides}
-use Rattle.round.specs.Scenario.{Scenario, IsScenario}
-use Rattle.round.specs.Letters.{Letter, messages}
-use Rattle.round.specs.Told.{ToldSeen, WasTold, lieutenant_at}
+use Rattle.roster.specs.Scenario.{Scenario, IsScenario}
+use Rattle.letter.specs.Letters.{Letter, messages}
+use Rattle.delivery.specs.Told.{ToldSeen, WasTold, lieutenant_at}
 use Rattle.world.specs.Part.{Part}
 use Rattle.world.specs.World.{World, each}
 use Rattle.world.specs.Reached.{world_of}

@@ -3,11 +3,11 @@ use Rattle.std.proofs.Common.{◌≡◌, ℕ, zero, suc, ◌<◌, List, ◌++◌
 use Rattle.std.specs.Prelude.{slice_get}
 use Rattle.std.proofs.lemmas.Option.{slice_get_read}
 use Rattle.board.specs.Board.{Access}
-use Rattle.round.specs.Scenario.{Scenario}
-use Rattle.round.specs.Letters.{Letter}
-use Rattle.round.specs.Activation.{Activation}
+use Rattle.roster.specs.Scenario.{Scenario}
+use Rattle.letter.specs.Letters.{Letter}
+use Rattle.letter.specs.Activation.{Activation}
 use Rattle.round.specs.Running.{letter_left}
-use Rattle.round.specs.Runs.{IsLetter}
+use Rattle.letter.specs.Runs.{IsLetter}
 use Rattle.world.specs.Part.{Part, Acting, Silent, Posted}
 use Rattle.world.specs.World.{each, accesses_of}
 use Rattle.world.specs.Held.{letter_held, letters_held, AreLetters}

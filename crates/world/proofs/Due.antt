@@ -4,14 +4,14 @@ use Rattle.insn.specs.declared.insn.Insn.{Insn}
 use Rattle.semantics.specs.declared.request.Request.{Request}
 use Rattle.semantics.specs.Call.{fits}
 use Rattle.semantics.proofs.SafetyLaws.{safe_of_sound}
-use Rattle.round.specs.Scenario.{Scenario, program_of}
-use Rattle.round.specs.Letters.{Letter}
-use Rattle.round.specs.Activation.{Activation, Turn, Goes, Asks, Ended, turn}
+use Rattle.roster.specs.Scenario.{Scenario, program_of}
+use Rattle.letter.specs.Letters.{Letter}
+use Rattle.letter.specs.Activation.{Activation, Turn, Goes, Asks, Ended, turn}
 use Rattle.world.specs.Part.{Part, Acting, Silent, Posted}
 use Rattle.world.specs.Kind.{Kind, begins, each}
 use Rattle.world.proofs.Listing.{each-get_only}
 use Rattle.world.proofs.Moves.{AllParts, IsLasting}
-use Rattle.round.proofs.Going.{IsGoing, IsAfter, TurnsTo, turn_safe, going_zero, over_ended}
+use Rattle.letter.proofs.Going.{IsGoing, IsAfter, TurnsTo, turn_safe, going_zero, over_ended}
 use Rattle.world.specs.Campaigns.{IsCampaign}
 
 -- it runs its general's program, has some steps left at most, and is safe for these

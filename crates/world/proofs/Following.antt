@@ -7,15 +7,15 @@ use Rattle.semantics.specs.declared.request.Request.{Request}
 use Rattle.board.specs.Board.{IsBoard, Access, words_after, IsLegal}
 use Rattle.world.specs.declared.event.Event.{Event}
 use Rattle.world.specs.declared.event.Event.TheVariants.{Tick, Post, Close}
-use Rattle.round.specs.Scenario.{Scenario}
-use Rattle.round.specs.Letters.{Letter}
-use Rattle.round.specs.Activation.{Activation, Turn, Goes, Asks, Ended, turn, has_ended}
+use Rattle.roster.specs.Scenario.{Scenario}
+use Rattle.letter.specs.Letters.{Letter}
+use Rattle.letter.specs.Activation.{Activation, Turn, Goes, Asks, Ended, turn, has_ended}
 use Rattle.world.specs.Part.{Part, Acting, Silent, Posted}
 use Rattle.world.specs.Kind.{Kind, World, accesses_of, served, ticked, posting, happen, run}
-use Rattle.round.specs.Runs.{Onward, Runs}
+use Rattle.letter.specs.Runs.{Onward, Runs}
 use Rattle.world.specs.KindLists.{ticks_named, names_events, IsMove, AreMoves}
 use Rattle.world.proofs.Moves.{moves_same, moves_board, move_board, moves_keep, move_keeps, run-append, AllParts, IsLasting}
-use Rattle.round.proofs.Going.{over_ended}
+use Rattle.letter.proofs.Going.{over_ended}
 use Rattle.world.proofs.Due.{Due, due_lasts}
 use Rattle.world.proofs.Complete.{due_within}
 use Rattle.world.proofs.Lasting.{named_moves}

@@ -7,13 +7,14 @@ use Rattle.label.specs.Relay.{IsShape}
 use Rattle.board.specs.Board.{Access}
 use Rattle.board.specs.Ledger.{RecordedBoard}
 use Rattle.semantics.specs.Relay.{Relay}
-use Rattle.round.specs.Scenario.{Scenario, IsScenario, shape_of}
-use Rattle.round.specs.Letters.{Letter}
-use Rattle.round.specs.Contexts.{AreWords, IsToldTo, context_of, shape_told, letter_told, faithful_letter}
-use Rattle.round.specs.Activation.{Activation}
-use Rattle.round.specs.Told.{ToldSeen, WasTold, AreLettersOf}
-use Rattle.round.proofs.Contexts.{shape_is}
-use Rattle.round.proofs.Loyal.{shape_is_told, own_is_told, letter_is}
+use Rattle.roster.specs.Scenario.{Scenario, IsScenario, shape_of}
+use Rattle.letter.specs.Letters.{Letter}
+use Rattle.letter.specs.Contexts.{AreWords, IsToldTo, context_of, shape_told, letter_told, faithful_letter}
+use Rattle.letter.specs.Activation.{Activation}
+use Rattle.letter.specs.Origin.{AreLettersOf}
+use Rattle.delivery.specs.Told.{ToldSeen, WasTold}
+use Rattle.letter.proofs.Contexts.{shape_is}
+use Rattle.letter.proofs.Loyal.{shape_is_told, own_is_told, letter_is}
 use Rattle.world.specs.Part.{Part, Acting, Silent, Posted}
 use Rattle.world.specs.World.{oral_kind, World, each}
 use Rattle.world.specs.Reached.{IsHeld}

@@ -4,12 +4,12 @@ use Rattle.std.specs.Prelude.{slice_get, slice_set, replicate, OnOk, OnErr, nat_
 use Rattle.std.specs.List.{list_all}
 use Rattle.std.proofs.lemmas.Bool.{lt-ltb, ltb-true, ltb-false, cases_Bool}
 use Rattle.board.specs.Ledger.{RecordedBoard}
-use Rattle.round.specs.Scenario.{Scenario, IsScenario}
-use Rattle.round.specs.Letters.{Letter}
-use Rattle.round.specs.Activation.{Activation, Turn, Goes, Asks, Ended, turn}
-use Rattle.round.specs.Runs.{Onward, Runs, IsRunOf, IsWithin, IsLetter}
+use Rattle.roster.specs.Scenario.{Scenario, IsScenario}
+use Rattle.letter.specs.Letters.{Letter}
+use Rattle.letter.specs.Activation.{Activation, Turn, Goes, Asks, Ended, turn}
+use Rattle.letter.specs.Runs.{Onward, Runs, IsRunOf, IsWithin, IsLetter}
 use Rattle.round.specs.Running.{moved, Silently, Pauses}
-use Rattle.round.proofs.Stepping.{runs_steps}
+use Rattle.letter.proofs.Stepping.{runs_steps}
 use Rattle.world.specs.declared.event.Event.{Event}
 use Rattle.world.specs.declared.event.Event.TheVariants.{Tick, Post, Close}
 use Rattle.world.specs.Part.{Part, Acting, Silent, Posted, owes_no_letter}
@@ -19,7 +19,7 @@ use Rattle.board.specs.Board.{Access}
 use Rattle.world.specs.KindHeld.{ticked_of, posted_of, AheadTo, letter_held, letters_held, beginnings, AreLetters}
 use Rattle.round.specs.Running.{letter_left}
 use Rattle.world.specs.Safety.{IsPlaced, HasRun}
-use Rattle.round.proofs.Ends.{proved_patience_is_kept}
+use Rattle.letter.proofs.Ends.{proved_patience_is_kept}
 use Rattle.world.proofs.Standing.{parts_are_placed, activations_are_runs}
 use Rattle.world.proofs.Rounds.{run_kept, opening_kept}
 use Rattle.world.proofs.Listing.{set-here}

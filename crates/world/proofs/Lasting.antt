@@ -5,7 +5,7 @@ use Rattle.std.proofs.lemmas.Bool.{lt-ltb, ltb-true}
 use Rattle.insn.specs.declared.insn.Insn.{Insn}
 use Rattle.world.specs.declared.event.Event.{Event}
 use Rattle.world.specs.declared.event.Event.TheVariants.{Close}
-use Rattle.round.specs.Scenario.{Scenario, program_of}
+use Rattle.roster.specs.Scenario.{Scenario, program_of}
 use Rattle.world.specs.Part.{Part, Acting, Silent, Posted}
 use Rattle.world.specs.Kind.{Kind, World, begun, opening, round_open, round_letters, closing, happen, run}
 use Rattle.world.specs.KindLists.{first_line, later_lines, Throughout, AtClose, OwesNoLetter, HasEnded, IsComplete, wound_up, event_of, listed_rounds, listed, ticks_named, names_events, replayed_rounds, replayed, IsMove, AreMoves}

@@ -8,14 +8,14 @@ use Rattle.std.proofs.lemmas.Bool.{lt-ltb, le-ltb}
 use Rattle.world.specs.declared.event.Event.{Event}
 use Rattle.world.specs.declared.event.Event.TheVariants.{Post, Close}
 use Rattle.world.specs.declared.schedule.Repeat.{Repeat}
-use Rattle.round.specs.Scenario.{Scenario, program_of}
+use Rattle.roster.specs.Scenario.{Scenario, program_of}
 use Rattle.world.specs.Part.{Part, Acting, Silent, Posted}
 use Rattle.world.specs.Kind.{Kind, World, each, opening, posting, happen, run}
 use Rattle.world.specs.KindLists.{first_line, later_lines, event_of, post_of, ticks_of, wound_up, listed_rounds, listed, ticks_named, names_events, replayed_rounds, replayed}
 use Rattle.world.specs.Schedules.{entries_of, lines_by}
 use Rattle.world.specs.Playing.{line_events}
 use Rattle.world.proofs.Listing.{set-here}
-use Rattle.round.specs.Scenario.{IsScenario}
+use Rattle.roster.specs.Scenario.{IsScenario}
 use Rattle.world.specs.Agreement.{IsFinished}
 use Rattle.world.proofs.Lasting.{listed_complete, replayed_complete}
 use Rattle.world.proofs.Punctual.{punctual_full}

@@ -10,12 +10,12 @@ use Rattle.label.proofs.Ranks.{get_left, get_right}
 use Rattle.board.specs.Board.{Access, reply}
 use Rattle.world.specs.declared.event.Event.{Event}
 use Rattle.world.specs.declared.event.Event.TheVariants.{Tick, Post, Close}
-use Rattle.round.specs.Scenario.{Scenario, program_of, is_traitor}
-use Rattle.round.specs.Letters.{Letter}
-use Rattle.round.specs.Activation.{Activation, Turn, Goes, Asks, Ended, turn, started, is_reached}
+use Rattle.roster.specs.Scenario.{Scenario, program_of, is_traitor}
+use Rattle.letter.specs.Letters.{Letter}
+use Rattle.letter.specs.Activation.{Activation, Turn, Goes, Asks, Ended, turn, started, is_reached}
 use Rattle.world.specs.Part.{Part, Acting, Silent, Posted}
 use Rattle.world.specs.Kind.{Kind, loyal_letter, World, each, round_open, begins, begun, accesses_of, letters_at, round_letters, served, ticked, posting, happen}
-use Rattle.round.specs.Runs.{Runs}
+use Rattle.letter.specs.Runs.{Runs}
 use Rattle.world.specs.KindAccounted.{IsLetterOf, IsAccountedRound}
 use Rattle.world.specs.KindLists.{IsMove, IsRipe}
 use Rattle.world.proofs.Kept.{Fits, IsKept}
@@ -23,8 +23,8 @@ use Rattle.world.proofs.Listing.{each-get_only}
 use Rattle.world.proofs.Due.{IsDue}
 use Rattle.world.proofs.Complete.{part_within}
 use Rattle.world.proofs.Lasting.{IsOnTime}
-use Rattle.round.proofs.Stepping.{runs_steps}
-use Rattle.round.proofs.Patience.{under, runs_under, Kept, runs_kept, within_none}
+use Rattle.letter.proofs.Stepping.{runs_steps}
+use Rattle.letter.proofs.Patience.{under, runs_under, Kept, runs_kept, within_none}
 use Rattle.world.proofs.Ways.{access, Came}
 use Rattle.world.proofs.Cutting.{AreBelow}
 

@@ -4,8 +4,8 @@ use Rattle.std.proofs.lemmas.List.{length-map}
 use Rattle.label.specs.Oral.{Messages}
 use Rattle.label.specs.Lieutenants.{lieutenants, AgreeInList}
 use Rattle.board.specs.Ledger.{RecordedBoard}
-use Rattle.round.specs.Scenario.{Scenario, IsScenario, is_traitor}
-use Rattle.round.specs.Letters.{Letter, messages}
+use Rattle.roster.specs.Scenario.{Scenario, IsScenario, is_traitor}
+use Rattle.letter.specs.Letters.{Letter, messages}
 use Rattle.world.specs.declared.event.Event.{Event}
 use Rattle.world.specs.declared.verdict.Verdict.{Verdict}
 use Rattle.world.specs.Part.{Part}

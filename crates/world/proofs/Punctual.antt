@@ -4,7 +4,7 @@ use Rattle.std.specs.Prelude.{slice_get, ◌&&◌}
 use Rattle.std.specs.List.{list_all}
 use Rattle.world.specs.declared.event.Event.{Event}
 use Rattle.world.specs.declared.event.Event.TheVariants.{Tick, Post, Close}
-use Rattle.round.specs.Scenario.{Scenario}
+use Rattle.roster.specs.Scenario.{Scenario}
 use Rattle.world.specs.Part.{Part, owes_no_letter}
 use Rattle.world.specs.Kind.{Kind, World, opening, round_open, closing, happen, run}
 use Rattle.world.specs.KindLists.{Throughout, AtClose, OwesNoLetter, IsPunctual}

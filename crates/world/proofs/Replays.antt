@@ -3,14 +3,14 @@ use Rattle.std.proofs.Common.{◌≡◌, ◌≢◌, ℕ, zero, suc, ◌≤◌, L
 use Rattle.std.specs.Prelude.{slice_get, replicate}
 use Rattle.board.specs.Board.{IsBoard, Access, reply, next}
 use Rattle.world.specs.declared.event.Event.TheVariants.{Tick}
-use Rattle.round.specs.Letters.{Letter}
-use Rattle.round.specs.Activation.{Activation, Turn, Goes, Asks, Ended, turn, has_ended}
+use Rattle.letter.specs.Letters.{Letter}
+use Rattle.letter.specs.Activation.{Activation, Turn, Goes, Asks, Ended, turn, has_ended}
 use Rattle.world.specs.Part.{Part, Acting}
 use Rattle.world.specs.Kind.{Kind, World, served, ticked, happen, run}
-use Rattle.round.specs.Runs.{Onward, Runs}
+use Rattle.letter.specs.Runs.{Onward, Runs}
 use Rattle.world.specs.KindLists.{further_turns, until_access}
 use Rattle.world.proofs.Listing.{set-here, set-other}
-use Rattle.round.proofs.Going.{IsGoing, going_zero, over_ended}
+use Rattle.letter.proofs.Going.{IsGoing, going_zero, over_ended}
 use Rattle.world.proofs.Complete.{Within, WithinAfter, turn_left}
 use Rattle.world.proofs.Ways.{access}
 

@@ -3,10 +3,10 @@ use Rattle.std.proofs.Common.{◌≡◌, ℕ, suc, length, refl, Option, Some, N
 use Rattle.std.specs.Prelude.{slice_get}
 use Rattle.board.specs.Board.{IsBoard, reply}
 use Rattle.board.proofs.Serving.{reply_fits}
-use Rattle.round.specs.Activation.{Activation, Turn, Goes, Asks, Ended, turn}
-use Rattle.round.specs.Runs.{AreFitting}
-use Rattle.round.proofs.Going.{turn_within}
-use Rattle.round.proofs.Fitting.{fitting_more}
+use Rattle.letter.specs.Activation.{Activation, Turn, Goes, Asks, Ended, turn}
+use Rattle.letter.specs.Runs.{AreFitting}
+use Rattle.letter.proofs.Going.{turn_within}
+use Rattle.letter.proofs.Fitting.{fitting_more}
 use Rattle.world.specs.declared.event.Event.{Event}
 use Rattle.world.specs.declared.event.Event.TheVariants.{Tick, Post, Close}
 use Rattle.world.specs.Part.{Part, Acting, Silent, Posted}

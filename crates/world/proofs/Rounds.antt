@@ -8,9 +8,9 @@ use Rattle.insn.specs.declared.insn.Insn.{Insn}
 use Rattle.board.specs.Board.{IsBoard}
 use Rattle.world.specs.declared.event.Event.{Event}
 use Rattle.world.specs.declared.event.Event.TheVariants.{Tick, Post, Close}
-use Rattle.round.specs.Scenario.{Scenario, program_of}
-use Rattle.round.specs.Letters.{Letter, letter_of}
-use Rattle.round.specs.Activation.{Activation}
+use Rattle.roster.specs.Scenario.{Scenario, program_of}
+use Rattle.letter.specs.Letters.{Letter, letter_of}
+use Rattle.letter.specs.Activation.{Activation}
 use Rattle.world.specs.Part.{Part, Acting, Silent, Posted, owes_no_letter}
 use Rattle.world.specs.Kind.{Kind, loyal_letter, World, begins, opening, round_open, letters_at, round_letters, closing, happen, run, each}
 use Rattle.world.proofs.Kept.{Fits, Tells, IsKept}

@@ -9,15 +9,15 @@ use Rattle.insn.specs.declared.insn.Insn.{Insn}
 use Rattle.board.specs.Board.{Access, IsBoard}
 use Rattle.semantics.specs.Relay.{IsContext, Relay}
 use Rattle.label.proofs.Ranks.{get_left, get_right}
-use Rattle.round.specs.Scenario.{Scenario, program_of}
-use Rattle.round.specs.Letters.{Letter}
-use Rattle.round.specs.Contexts.{IsToldTo, shape_told, tells_oral}
-use Rattle.round.specs.Activation.{Activation, started}
-use Rattle.round.specs.Runs.{Runs, AreFitting, IsRunOf, IsLetter}
-use Rattle.round.proofs.Fitting.{fitting_from, fitting_among}
-use Rattle.round.proofs.Patience.{under, runs_under, within_none}
-use Rattle.round.proofs.Ends.{steps_taken, proved_patience_is_kept}
-use Rattle.round.proofs.Settled.{runs_settled, start_told}
+use Rattle.roster.specs.Scenario.{Scenario, program_of}
+use Rattle.letter.specs.Letters.{Letter}
+use Rattle.letter.specs.Contexts.{IsToldTo, shape_told, tells_oral}
+use Rattle.letter.specs.Activation.{Activation, started}
+use Rattle.letter.specs.Runs.{Runs, AreFitting, IsRunOf, IsLetter}
+use Rattle.letter.proofs.Fitting.{fitting_from, fitting_among}
+use Rattle.letter.proofs.Patience.{under, runs_under, within_none}
+use Rattle.letter.proofs.Ends.{steps_taken, proved_patience_is_kept}
+use Rattle.letter.proofs.Settled.{runs_settled, start_told}
 use Rattle.world.specs.declared.event.Event.{Event}
 use Rattle.world.specs.declared.event.Event.TheVariants.{Tick, Post, Close}
 use Rattle.world.specs.Part.{Part, Acting, Silent, Posted}

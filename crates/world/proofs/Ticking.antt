@@ -5,23 +5,23 @@ use Rattle.board.specs.Board.{IsBoard, reply}
 use Rattle.board.proofs.Serving.{reply_fits}
 use Rattle.world.specs.declared.event.Event.{Event}
 use Rattle.world.specs.declared.event.Event.TheVariants.{Tick}
-use Rattle.round.specs.Scenario.{Scenario}
-use Rattle.round.specs.Activation.{Activation, Turn, Goes, Asks, Ended, turn}
+use Rattle.roster.specs.Scenario.{Scenario}
+use Rattle.letter.specs.Activation.{Activation, Turn, Goes, Asks, Ended, turn}
 use Rattle.world.specs.Part.{Part, Acting, Silent, Posted}
 use Rattle.world.specs.Kind.{Kind, World, served, ticked, happen, run}
-use Rattle.round.specs.Runs.{Onward, Runs}
+use Rattle.letter.specs.Runs.{Onward, Runs}
 use Rattle.world.specs.KindLists.{further_turns, until_access, ticks_named}
 use Rattle.round.specs.Running.{Pauses}
 use Rattle.std.specs.Prelude.{OnOk}
 use Rattle.std.proofs.Common.{Result, Ok, Err}
-use Rattle.round.specs.Scenario.{IsScenario}
+use Rattle.roster.specs.Scenario.{IsScenario}
 use Rattle.world.specs.KindHeld.{AheadTo, IsReached}
 use Rattle.world.proofs.Lasting.{IsOnTime}
 use Rattle.world.proofs.Untrapped.{held}
 use Rattle.world.proofs.Listing.{set-here}
 use Rattle.world.specs.Playing.{IsStill, program_length}
-use Rattle.round.proofs.Going.{turn_within, over_ended, ended_over}
-use Rattle.round.proofs.Stepping.{runs_steps, turn_counts, CountsTurn}
+use Rattle.letter.proofs.Going.{turn_within, over_ended, ended_over}
+use Rattle.letter.proofs.Stepping.{runs_steps, turn_counts, CountsTurn}
 use Rattle.world.proofs.Due.{IsDue, due_few, due_lasts}
 use Rattle.world.specs.Campaigns.{AreCampaigns}
 

@@ -8,9 +8,9 @@ use Rattle.semantics.specs.Safety.{LeadsTo}
 use Rattle.semantics.proofs.SafetyLaws.{IsSafe-no_trap}
 use Rattle.world.specs.declared.event.Event.{Event}
 use Rattle.world.specs.declared.event.Event.TheVariants.{Tick, Post, Close}
-use Rattle.round.specs.Scenario.{Scenario, program_of}
-use Rattle.round.specs.Letters.{Letter}
-use Rattle.round.specs.Activation.{Activation, has_ended}
+use Rattle.roster.specs.Scenario.{Scenario, program_of}
+use Rattle.letter.specs.Letters.{Letter}
+use Rattle.letter.specs.Activation.{Activation, has_ended}
 use Rattle.world.specs.Part.{Part, Acting, Silent, Posted}
 use Rattle.world.specs.Kind.{Kind, loyal_letter, World, each, begun, opening, round_open, letters_at, round_letters, closing, happen, run}
 use Rattle.world.specs.Safety.{IsShort, ActivationsAreSafe}

@@ -7,16 +7,16 @@ use Rattle.board.specs.Board.{Access, reply, next, words_after, IsLegal}
 use Rattle.board.proofs.Histories.{words_after-snoc, IsLegal-snoc}
 use Rattle.world.specs.declared.event.Event.{Event}
 use Rattle.world.specs.declared.event.Event.TheVariants.{Tick, Post, Close}
-use Rattle.round.specs.Scenario.{program_of}
-use Rattle.round.specs.Activation.{Activation, Turn, Goes, Asks, Ended, turn}
+use Rattle.roster.specs.Scenario.{program_of}
+use Rattle.letter.specs.Activation.{Activation, Turn, Goes, Asks, Ended, turn}
 use Rattle.world.specs.Part.{Part, Acting, Silent, Posted}
 use Rattle.world.specs.Kind.{Kind, World, accesses_of, served, ticked, posting, happen, run}
-use Rattle.round.specs.Runs.{Onward, Runs}
+use Rattle.letter.specs.Runs.{Onward, Runs}
 use Rattle.world.specs.KindLists.{OwesNoLetter, HasEnded, IsMove, AreMoves}
 use Rattle.world.proofs.Kept.{Fits}
 use Rattle.world.proofs.Moves.{set-cases, SameRound}
-use Rattle.round.proofs.Going.{over_ended}
-use Rattle.round.proofs.Runnings.{StopsAt, Runs-snoc, Runs-same}
+use Rattle.letter.proofs.Going.{over_ended}
+use Rattle.letter.proofs.Runnings.{StopsAt, Runs-snoc, Runs-same}
 use Rattle.world.proofs.Accesses.{of_mine, of_other}
 
 -- one access

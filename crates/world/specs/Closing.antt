@@ -6,12 +6,12 @@ use Rattle.semantics.specs.Limits.{context_size}
 use Rattle.insn.specs.declared.insn.Insn.{Insn}
 use Rattle.board.specs.Board.{Access}
 use Rattle.semantics.specs.Relay.{oral}
-use Rattle.round.specs.Scenario.{Scenario, program_of, shape_of}
-use Rattle.round.specs.Letters.{Letter}
-use Rattle.round.specs.Contexts.{faithful_letter}
-use Rattle.round.specs.Activation.{Activation, started}
+use Rattle.roster.specs.Scenario.{Scenario, program_of, shape_of}
+use Rattle.letter.specs.Letters.{Letter}
+use Rattle.letter.specs.Contexts.{faithful_letter}
+use Rattle.letter.specs.Activation.{Activation, started}
 use Rattle.round.specs.Running.{letter_left}
-use Rattle.round.specs.Runs.{IsLetter}
+use Rattle.letter.specs.Runs.{IsLetter}
 pub use Rattle.world.specs.declared.draft.Draft.{Draft}
 pub use Rattle.world.specs.declared.draft.Draft.TheVariants.{Begun, Whole, Missing}
 use Rattle.world.specs.Part.{Part, Acting, Silent, Posted}

@@ -2,8 +2,8 @@
 -- a world is and does, World.antt says.
 use Rattle.std.specs.Prelude.{ℕ, List, Option}
 use Rattle.board.specs.Board.{Access}
-use Rattle.round.specs.Scenario.{Scenario}
-use Rattle.round.specs.Letters.{Letter}
+use Rattle.roster.specs.Scenario.{Scenario}
+use Rattle.letter.specs.Letters.{Letter}
 use Rattle.world.specs.Part.{Part}
 use Rattle.world.specs.World.{oral_kind}
 use Rattle.world.specs.KindHeld as held

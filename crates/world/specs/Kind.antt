@@ -6,10 +6,10 @@ use Rattle.insn.specs.declared.insn.Insn.{Insn}
 use Rattle.board.specs.Board.{Access, reply, next}
 use Rattle.semantics.specs.Relay.{Relay}
 use Rattle.semantics.specs.declared.entry.Entry.{Entry}
-use Rattle.round.specs.Scenario.{Scenario, program_of}
-use Rattle.round.specs.Letters.{Letter}
-use Rattle.round.specs.Contexts.{faithful_letter_with}
-use Rattle.round.specs.Activation.{Activation, started, Turn, Goes, Asks, Ended, turn}
+use Rattle.roster.specs.Scenario.{Scenario, program_of}
+use Rattle.letter.specs.Letters.{Letter}
+use Rattle.letter.specs.Contexts.{faithful_letter_with}
+use Rattle.letter.specs.Activation.{Activation, started, Turn, Goes, Asks, Ended, turn}
 use Rattle.world.specs.declared.event.Event.{Event}
 use Rattle.world.specs.declared.event.Event.TheVariants.{Tick, Post, Close}
 use Rattle.world.specs.declared.event.EventError.{EventError}

@@ -4,8 +4,8 @@ use Rattle.insn.specs.declared.insn.Insn.{Insn}
 use Rattle.board.specs.Board.{Access}
 use Rattle.world.specs.declared.event.Event.{Event}
 use Rattle.world.specs.declared.event.Event.TheVariants.{Tick, Post, Close}
-use Rattle.round.specs.Scenario.{Scenario, program_of}
-use Rattle.round.specs.Activation.{Activation, Turn, Goes, Asks, Ended, turn, has_ended}
+use Rattle.roster.specs.Scenario.{Scenario, program_of}
+use Rattle.letter.specs.Activation.{Activation, Turn, Goes, Asks, Ended, turn, has_ended}
 use Rattle.world.specs.Part.{Part, Acting, owes_no_letter}
 use Rattle.world.specs.Kind.{Kind, World, each, opening, happen, run}
 

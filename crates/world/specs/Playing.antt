@@ -1,11 +1,11 @@
 -- How a world is played on (own).
 use Rattle.std.specs.Prelude.{ℕ, ◌≡◌, nat_lt, true, List, map, filter, Option, Some, None, length}
 use Rattle.world.specs.declared.event.Event.{Event}
-use Rattle.round.specs.Scenario.{Scenario, program_of}
+use Rattle.roster.specs.Scenario.{Scenario, program_of}
 use Rattle.world.specs.Lists.{event_of}
 use Rattle.std.proofs.Common.{Vec}
 use Rattle.std.specs.Global.{Global}
-use Rattle.round.specs.Activation.{has_ended}
+use Rattle.letter.specs.Activation.{has_ended}
 use Rattle.world.specs.Part.{Part, Acting}
 
 -- nobody acts there, or his activation has ended

@@ -1,8 +1,8 @@
 -- Worlds of oral campaigns that come about, as code holds them (own).
 use Rattle.std.specs.Prelude.{ℕ, Bool, List}
 use Rattle.board.specs.Ledger.{RecordedBoard}
-use Rattle.round.specs.Scenario.{Scenario}
-use Rattle.round.specs.Letters.{Letter}
+use Rattle.roster.specs.Scenario.{Scenario}
+use Rattle.letter.specs.Letters.{Letter}
 use Rattle.world.specs.Part.{Part}
 use Rattle.world.specs.World.{World, oral_kind}
 use Rattle.world.specs.KindHeld as held

@@ -3,10 +3,10 @@ use Rattle.std.specs.Prelude.{ℕ, suc, Bool, List, [], length, Option}
 use Rattle.insn.specs.declared.insn.Insn.{Insn}
 use Rattle.board.specs.Board.{Access}
 use Rattle.semantics.specs.Relay.{oral}
-use Rattle.round.specs.Scenario.{Scenario, shape_of}
-use Rattle.round.specs.Letters.{Letter, telling}
-use Rattle.round.specs.Contexts.{context_of, took}
-use Rattle.round.specs.Activation.{Activation}
+use Rattle.roster.specs.Scenario.{Scenario, shape_of}
+use Rattle.letter.specs.Letters.{Letter, telling}
+use Rattle.letter.specs.Contexts.{context_of, took}
+use Rattle.letter.specs.Activation.{Activation}
 use Rattle.world.specs.declared.event.Event.{Event}
 use Rattle.world.specs.Part.{Part}
 use Rattle.world.specs.Kind as kind

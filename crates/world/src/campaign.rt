@@ -1,6 +1,6 @@
 //! Campaigns from a scenario to their chronicle, and from their opening to their end in a world of whichever kind.
 ghost use Rattle.std.specs.Prelude.{◌≡◌, IfOk, ◌<◌, [], suc, OnOk, replicate, slice_get, slice_index_or};
-ghost use Rattle.round.specs.Letters.{messages};
+ghost use Rattle.letter.specs.Letters.{messages};
 ghost use Rattle.world.specs.Agreement.{IsFinished};
 ghost use Rattle.world.specs.Chronicle.{decisions, chronicle_of};
 ghost use Rattle.world.specs.Lists.{listed, replayed};
@@ -9,7 +9,7 @@ ghost use Rattle.world.specs.Promises.{AgreeUnderBound, IsVerdictOn, IsWellUnder
 ghost use Rattle.world.specs.Schedules.{lines_by, entries_of};
 ghost use Rattle.world.specs.World.{opening, run};
 ghost use Rattle.world.specs.declared.event.Event.TheVariants.{Tick, Post, Close};
-ghost use Rattle.round.specs.Scenario.{program_of};
+ghost use Rattle.roster.specs.Scenario.{program_of};
 ghost use Rattle.world.specs.Kind.{each, happen, run as run_of};
 ghost use Rattle.world.specs.KindLists.{event_of, post_of, ticks_of, wound_up, listed_rounds, replayed_rounds, ticks_named, names_events};
 
@@ -18,7 +18,7 @@ use crate::parts;
 use crate::plays::Plays;
 use crate::schedule::{Repeat, Schedule};
 use crate::world::World;
-use round::Scenario;
+use roster::Scenario;
 use std::alloc::{AllocError, Global};
 
 /// The chronicle of the scenario's campaign by a schedule: in each round its entries one by one, then the letters of

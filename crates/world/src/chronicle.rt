@@ -6,7 +6,8 @@ use crate::judging::verdict;
 use crate::verdict::Verdict;
 use arrayvec::ArrayVec;
 use board::Access;
-use round::{Round, Scenario};
+use letter::Round;
+use roster::Scenario;
 use std::marker::Model;
 
 /// What is told of a finished campaign: its letters, its accesses, the lieutenants' decisions and the verdict on them.

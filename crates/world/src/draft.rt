@@ -1,6 +1,6 @@
 //! What is written of a general's letter before his activation is taken apart.
 use board::Access;
-use round::Letter;
+use letter::Letter;
 use std::marker::Model;
 
 /// One general's accesses of a round, seen as their list.

@@ -2,11 +2,11 @@
 ghost use Rattle.std.specs.Prelude.{◌≡◌, ◌≢◌, ◌<◌, ◌≤◌, ◌+◌, ℕ, [], suc, List, Some, length, ◌++◌, ◌&&◌, drop, IfOk, slice_get, vec_len, vec_capacity};
 ghost use Rattle.std.specs.List.{list_all};
 ghost use Rattle.board.specs.Board.{Access as Entry};
-ghost use Rattle.round.specs.Activation.{Activation};
-ghost use Rattle.round.specs.Contexts.{faithful_letter};
+ghost use Rattle.letter.specs.Activation.{Activation};
+ghost use Rattle.letter.specs.Contexts.{faithful_letter};
 ghost use Rattle.round.specs.Running.{letter_left};
-ghost use Rattle.round.specs.Runs.{IsLetter};
-ghost use Rattle.round.specs.Told.{WasTold};
+ghost use Rattle.letter.specs.Runs.{IsLetter};
+ghost use Rattle.delivery.specs.Told.{WasTold};
 ghost use Rattle.world.specs.Closing.{AreDraftsOf, Begun, draft_of, drafts_held, letter_from, letters_from};
 ghost use Rattle.world.specs.Part.{Acting, owes_no_letter};
 ghost use Rattle.world.specs.World.{accesses_of};
@@ -14,7 +14,9 @@ ghost use Rattle.world.specs.World.{accesses_of};
 use crate::draft::{Draft, Transcript};
 use crate::part::Part;
 use board::Access;
-use round::{Letter, Round, Scenario, Told, loyal_letter};
+use delivery::Told;
+use letter::{Letter, Round, loyal_letter};
+use roster::Scenario;
 use std::alloc::{AllocError, Global};
 use std::mem::replace;
 

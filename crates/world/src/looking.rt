@@ -2,7 +2,7 @@
 ghost use Rattle.std.specs.Prelude.{◌≡◌};
 
 use crate::world::World;
-use round::Round;
+use letter::Round;
 
 impl World {
     /// The board's words.

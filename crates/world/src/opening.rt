@@ -2,17 +2,20 @@
 ghost use Rattle.std.specs.Prelude.{◌≡◌, ◌<◌, ◌≤◌, ◌+◌, ◌++◌, ◌∷◌, [], suc, Some, length, slice_get, slice_set, IfOk, OnOk, vec_len, vec_capacity};
 ghost use Rattle.std.specs.Arc.{arc_value};
 ghost use Rattle.semantics.specs.Relay.{oral};
-ghost use Rattle.round.specs.Activation.{started};
-ghost use Rattle.round.specs.Scenario.{program_of, shape_of};
-ghost use Rattle.round.specs.Told.{WasTold};
+ghost use Rattle.letter.specs.Activation.{started};
+ghost use Rattle.roster.specs.Scenario.{program_of, shape_of};
+ghost use Rattle.delivery.specs.Told.{WasTold};
 ghost use Rattle.world.specs.Closing.{blank, blanks, zeros};
 ghost use Rattle.world.specs.Held.{beginnings};
 ghost use Rattle.world.specs.World.{begins};
 
 use crate::part::Part;
+use delivery::Told;
+use letter::Round;
 use mem::Context;
 use outbox::Outbox;
-use round::{Round, Running, Scenario, Told};
+use roster::Scenario;
+use round::Running;
 use std::alloc::{AllocError, Global};
 use std::sync::Arc;
 use verify::Verified;

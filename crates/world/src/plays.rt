@@ -8,7 +8,7 @@ ghost use Rattle.world.specs.World.{oral_kind};
 
 use crate::part::Part;
 use crate::world::World;
-use round::Scenario;
+use roster::Scenario;
 use std::alloc::AllocError;
 
 /// A world that can be played on, turn by turn, post by post and close by close.

@@ -10,7 +10,9 @@ use crate::opening::{blanks, brief};
 use crate::part::Part;
 use crate::parts;
 use board::Board;
-use round::{Round, Scenario, Told};
+use delivery::Told;
+use letter::Round;
+use roster::Scenario;
 use std::alloc::{AllocError, Global};
 use std::marker::Model;
 
@@ -39,7 +41,7 @@ impl Model for World {
 
     ghost Value = { WorldSeen };
 
-    ghost use Rattle.round.specs.Told.{WasTold};
+    ghost use Rattle.delivery.specs.Told.{WasTold};
     ghost use Rattle.world.specs.Reached.{world_of, IsHeld};
 
     ghost view = { λ w. world_of w.scenario w.closed.items w.board w.opened w.parts.items w.full };

@@ -3,7 +3,7 @@
 use crate::texts::{COLLUDING_AND_LOOKING, LOOKING, SETTING, SEVEN, SEVEN_AND_SIXTEEN_STEPS};
 use crate::threaded::{AGREED, count, mustered, replays, seven_adders, word};
 use board::Access;
-use round::Letter;
+use letter::Letter;
 use semantics::Request;
 use std::alloc::Global;
 use std::sync::Wait;

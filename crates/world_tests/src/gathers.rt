@@ -3,7 +3,7 @@
 use crate::texts::{COLLUDING, SEVEN};
 use crate::threaded::{letters, mustered};
 use board::Access;
-use round::{Letter, Round};
+use letter::{Letter, Round};
 use std::alloc::{AllocError, Global};
 use std::sync::Wait;
 use std::thread::Threads;

@@ -2,8 +2,8 @@
 ghost use Rattle.std.specs.Prelude.{◌≡◌, IfSome};
 
 use crate::scenarios::{first_letters, played};
+use letter::Letter;
 use post::{Collector, Post, Poster};
-use round::Letter;
 use std::alloc::{AllocError, Global};
 use std::process::Abort;
 use std::sync::Wait;

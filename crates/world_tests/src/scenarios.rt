@@ -1,6 +1,7 @@
 //! Campaigns told by texts. Where memory is refused, there is none.
 
-use round::{Letter, Scenario};
+use letter::Letter;
+use roster::Scenario;
 use scenario::read;
 use std::alloc::{AllocError, Global};
 use trace::{Latch, read_schedule, write_chronicle};

@@ -2,7 +2,7 @@
 
 use crate::scenarios::joined;
 use crate::texts::{PASSING, SIGNING_TWICE, THREE_SIGNED};
-use round::Scenario;
+use roster::Scenario;
 use scenario::{Campaign, read_any};
 use signed::{Chain, SignedChronicle, SignedWorld};
 use std::alloc::Global;

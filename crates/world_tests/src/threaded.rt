@@ -2,7 +2,7 @@
 
 use crate::scenarios::{are_told_alike, told};
 use board::Access;
-use round::Letter;
+use letter::Letter;
 use semantics::Reply;
 use std::alloc::{AllocError, Global};
 use std::sync::Wait;

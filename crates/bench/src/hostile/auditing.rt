@@ -5,7 +5,7 @@ use crate::hostile::marks::{back, ready};
 use crate::hostile::outcome::{Outcome, Told, compared};
 use crate::told::{Messages, audited, told, told_freely};
 use anyhow::{Result, bail};
-use round::Scenario;
+use roster::Scenario;
 use std::alloc::{AllocError, Global};
 use std::str;
 use trace::TraceError;

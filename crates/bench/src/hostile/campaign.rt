@@ -4,7 +4,7 @@ use anyhow::{Result, bail};
 use asm::assemble;
 use codec::encode;
 use insn::Program;
-use round::Scenario;
+use roster::Scenario;
 use std::alloc::{AllocError, Global};
 use trace::read_schedule;
 use world::{Event, Schedule};

@@ -5,7 +5,7 @@ use crate::hostile::outcome::{Outcome, Told, compared, led};
 use crate::hostile::worlds::{Led, Made};
 use crate::told::{Messages, text, told_freely};
 use anyhow::{Result, bail};
-use round::Scenario;
+use roster::Scenario;
 use std::alloc::{AllocError, Global};
 use std::str;
 use std::sync::Wait;

@@ -5,7 +5,7 @@ use crate::hostile::marks::{back, ready};
 use crate::hostile::outcome::{Outcome, Told, compared};
 use crate::told::{Messages, played, told, told_freely};
 use anyhow::{Result, bail};
-use round::Scenario;
+use roster::Scenario;
 use scenario::{ScenarioError, read};
 use std::alloc::{AllocError, Global};
 use trace::{Fault, TraceError, read_schedule};

@@ -2,7 +2,7 @@
 use crate::told::{Messages, signed_text, text};
 use anyhow::{Result, bail};
 use arrayvec::ArrayVec;
-use round::Scenario;
+use roster::Scenario;
 use signed::{SignedChronicle, SignedWorld, play_signed};
 use std::alloc::{AllocError, Global};
 use world::{Chronicle, Event, EventError, Schedule, World, play};

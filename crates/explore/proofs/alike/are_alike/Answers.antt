@@ -1,6 +1,6 @@
 -- Words, activations, and what was told.
 use Rattle.std.proofs.Common.{List, ◌∙◌, sym, subst}
-use Rattle.round.specs.Letters.{Letter}
+use Rattle.letter.specs.Letters.{Letter}
 use Rattle.explore.specs.Merging.{RoundsAlike}
 use Rattle.explore.proofs.alike.are_alike.Goals as goal
 

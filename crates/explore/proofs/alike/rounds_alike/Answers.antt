@@ -1,6 +1,6 @@
 -- One round more, and all.
 use Rattle.std.proofs.Common.{List, subst, arith}
-use Rattle.round.specs.Letters.{Letter}
+use Rattle.letter.specs.Letters.{Letter}
 use Rattle.explore.specs.Merging.{TellAlike}
 use Rattle.explore.proofs.Comparing.{rounds_more, rounds_all}
 use Rattle.explore.proofs.alike.rounds_alike.Goals as goal

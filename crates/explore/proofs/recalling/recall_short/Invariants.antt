@@ -1,6 +1,6 @@
 use Rattle.std.proofs.Common.{◌≡◌, ◌<◌, ◌≤◌, ℕ, List, Some, length}
 use Rattle.insn.specs.declared.insn.Insn.{Insn}
-use Rattle.round.specs.Scenario.{program_of}
+use Rattle.roster.specs.Scenario.{program_of}
 use Rattle.explore.proofs.recalling.recall_short.Given as goal
 
 abbrev pub invariant-loop-general : goal.invariant-loop-general

@@ -1,5 +1,5 @@
 use Rattle.std.proofs.Common.{◌∙◌, sym}
-use Rattle.round.specs.Scenario.{is_traitor}
+use Rattle.roster.specs.Scenario.{is_traitor}
 use Rattle.retold.proofs.Named.{named_more, named_same}
 use Rattle.retold.proofs.explaining.traitors.Goals as goal
 use Rattle.retold.proofs.explaining.traitors.Goals.{then-is_traitor+in_ok-push, else-is_traitor}

@@ -1,6 +1,6 @@
 use Rattle.std.proofs.Common.{◌≡◌, filter}
 use Rattle.label.specs.Labels.{generals}
-use Rattle.round.specs.Scenario.{is_traitor}
+use Rattle.roster.specs.Scenario.{is_traitor}
 use Rattle.retold.proofs.explaining.traitors.Given as goal
 
 -- those among the generals so far

@@ -1,5 +1,5 @@
 use Rattle.std.proofs.Common.{take}
-use Rattle.round.specs.Told.{WasTold}
+use Rattle.delivery.specs.Told.{WasTold}
 use Rattle.retold.proofs.retelling.hear.Given as goal
 
 -- the rounds so far

@@ -1,6 +1,6 @@
 use Rattle.std.proofs.Common.{subst, sym}
-use Rattle.round.specs.Scenario.{Scenario}
-use Rattle.round.specs.Told.{WasTold}
+use Rattle.roster.specs.Scenario.{Scenario}
+use Rattle.delivery.specs.Told.{WasTold}
 use Rattle.retold.proofs.Trees.{filled_from, told_from, within_from}
 use Rattle.retold.proofs.retelling.told_table.Goals as goal
 

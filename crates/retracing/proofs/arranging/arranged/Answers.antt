@@ -6,7 +6,7 @@ use Rattle.explore.specs.declared.scheduled.Scheduled.TheVariants.{By}
 use Rattle.explore.specs.Planning.{IsPlan, IsScheduleOf}
 use Rattle.retracing.proofs.Retracing.{read_of}
 use Rattle.std.specs.Global.{Global}
-use Rattle.round.specs.Scenario.{Scenario}
+use Rattle.roster.specs.Scenario.{Scenario}
 use Rattle.world.specs.Kind.{opening}
 use Rattle.world.specs.Playing.{lists_in}
 use Rattle.world.specs.World.{oral_kind}

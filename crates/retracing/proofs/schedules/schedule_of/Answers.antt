@@ -1,5 +1,5 @@
 use Rattle.std.proofs.Common.{◌≡◌, ◌≤◌, ◌+◌, ◌∙◌, length, ap, subst, arith}
-use Rattle.round.specs.Scenario.{Scenario}
+use Rattle.roster.specs.Scenario.{Scenario}
 use Rattle.world.specs.Kind.{opening}
 use Rattle.world.specs.Playing.{lists_in}
 use Rattle.world.specs.World.{oral_kind}

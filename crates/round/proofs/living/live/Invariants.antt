@@ -1,7 +1,7 @@
 use Rattle.std.proofs.Common.{◌-◌}
 use Rattle.std.specs.Arc.{arc_value}
-use Rattle.round.specs.Activation.{started}
-use Rattle.round.specs.Contexts.{relay_told}
+use Rattle.letter.specs.Activation.{started}
+use Rattle.letter.specs.Contexts.{relay_told}
 use Rattle.round.specs.Running.{IsWayServed}
 use Rattle.round.proofs.living.live.Given as goal
 

@@ -1,6 +1,6 @@
 -- One part more.
 use Rattle.std.proofs.Common.{ap, ◌∷◌, []}
-use Rattle.round.specs.Scenario.{program_of}
+use Rattle.roster.specs.Scenario.{program_of}
 use Rattle.world.specs.declared.part.Part.{Part}
 use Rattle.world.proofs.Holding.{more_each}
 use Rattle.signed.specs.Sending.{begins_behind}

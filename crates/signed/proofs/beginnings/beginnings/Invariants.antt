@@ -1,5 +1,5 @@
 use Rattle.std.proofs.Common.{◌≡◌, ◌∷◌, []}
-use Rattle.round.specs.Scenario.{program_of}
+use Rattle.roster.specs.Scenario.{program_of}
 use Rattle.world.specs.Kind.{each}
 use Rattle.signed.specs.Sending.{begins_behind}
 use Rattle.signed.proofs.beginnings.beginnings.Given as goal

@@ -1,5 +1,5 @@
 use Rattle.std.proofs.Common.{◌≡◌, ◌∙◌, ◌∷◌, [], ap, refl, sym}
-use Rattle.round.specs.Scenario.{Scenario}
+use Rattle.roster.specs.Scenario.{Scenario}
 use Rattle.book.proofs.Gathering.{lines_no, lines_yes, off_first, on_first}
 use Rattle.signed.specs.Explained.{acceptance_lines}
 use Rattle.signed.proofs.explaining.all_lieutenants.Goals as goal

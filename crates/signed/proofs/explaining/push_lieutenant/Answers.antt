@@ -3,7 +3,7 @@ use Rattle.std.specs.Borrow.{Bor}
 use Rattle.std.specs.String.{string_bytes}
 use Rattle.std.proofs.lemmas.Result.{on_ok_weaker}
 use Rattle.book.specs.Explained.{head_line}
-use Rattle.round.specs.Scenario.{Scenario, is_traitor}
+use Rattle.roster.specs.Scenario.{Scenario, is_traitor}
 use Rattle.signed.specs.Chains.{Chain}
 use Rattle.signed.specs.Sending.{lent}
 use Rattle.signed.proofs.VerdictLines.{acceptance_whole}

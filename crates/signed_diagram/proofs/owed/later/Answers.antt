@@ -1,6 +1,6 @@
 use Rattle.std.proofs.Common.{◌≡◌, ◌<◌, ◌∙◌, ap, map, arith, sym}
 use Rattle.std.proofs.lemmas.Result.{IfOk-weaker}
-use Rattle.round.specs.Scenario.{Scenario}
+use Rattle.roster.specs.Scenario.{Scenario}
 use Rattle.signed.specs.Accepted.{added}
 use Rattle.signed.specs.Chains.{signed_also}
 use Rattle.signed.specs.Sent.{delivered, sent_in}

@@ -1,7 +1,7 @@
 use Rattle.std.proofs.Common.{◌≡◌, ◌≤◌}
 use Rattle.std.specs.Prelude.{count_by}
 use Rattle.std.specs.List.{range_with_len}
-use Rattle.round.specs.Scenario.{is_traitor}
+use Rattle.roster.specs.Scenario.{is_traitor}
 use Rattle.survey.proofs.judging.traitors_in.Given as goal
 
 abbrev pub invariant-loop-general : goal.invariant-loop-general

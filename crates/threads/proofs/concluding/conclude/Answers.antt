@@ -1,6 +1,6 @@
 use Rattle.std.proofs.Common.{◌≡◌, ℕ, suc, List, All, refl, sym, ap, subst, ◌∙◌}
 use Rattle.board.specs.Board.{Access, IsLegal}
-use Rattle.round.specs.Letters.{Letter, messages}
+use Rattle.letter.specs.Letters.{Letter, messages}
 use Rattle.world.specs.Lists.{replayed, names_in}
 use Rattle.world.specs.Chronicle.{Chronicle, decisions, chronicle_of}
 use Rattle.world.specs.Replay.{replay_of}

@@ -1,7 +1,7 @@
 -- The key that is sorted by is the general.
 use Rattle.std.proofs.Common.{rules}
 use Rattle.std.proofs.lemmas.List.Sorted.{answers_always}
-use Rattle.round.specs.Letters.{Letter}
+use Rattle.letter.specs.Letters.{Letter}
 use Rattle.threads.proofs.conducting.by_general.Goals as goal
 
 pub returns-clause-ascending : goal.returns-clause-ascending

@@ -1,5 +1,5 @@
 use Rattle.std.proofs.Common.{◌≡◌, length}
-use Rattle.round.specs.Told.{WasTold}
+use Rattle.delivery.specs.Told.{WasTold}
 use Rattle.threads.proofs.conducting.conduct.Given as goal
 
 abbrev pub invariant-loop-round : goal.invariant-loop-round

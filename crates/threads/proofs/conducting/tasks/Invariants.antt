@@ -1,6 +1,6 @@
 use Rattle.std.proofs.Common.{◌≡◌, ◌∷◌, [], List, length}
-use Rattle.round.specs.Letters.{Letter}
-use Rattle.round.specs.Told.{WasTold}
+use Rattle.letter.specs.Letters.{Letter}
+use Rattle.delivery.specs.Told.{WasTold}
 use Rattle.world.specs.World.{each}
 use Rattle.threads.specs.Duties.{duty_of}
 use Rattle.threads.specs.Inboxes.{AreByGeneral}

@@ -1,5 +1,5 @@
 use Rattle.std.proofs.Common.{take}
-use Rattle.round.specs.Told.{WasTold}
+use Rattle.delivery.specs.Told.{WasTold}
 use Rattle.threads.proofs.gathering.deliver_all.Given as goal
 
 abbrev pub invariant-loop-row : goal.invariant-loop-row

@@ -1,7 +1,7 @@
 use Rattle.std.proofs.Common.{rules, ◌≡◌, ◌+◌, ℕ, suc, Bool, List, [], ◌∷◌, Option, Some, None, Result, Ok, Err, true, false, refl, sym, subst, ◌∙◌, arith}
 use Rattle.std.specs.Prelude.{IfErr, MatchBool, MatchOption}
-use Rattle.round.specs.Letters.{Letter}
-use Rattle.round.specs.Told.{AreRoundsOf}
+use Rattle.letter.specs.Letters.{Letter}
+use Rattle.letter.specs.Origin.{AreRoundsOf}
 use Rattle.world.specs.World.{each}
 use Rattle.world.specs.Accounted.{letters_by, rounds_of, AreAccounted}
 use Rattle.threads.specs.Taking.{IsGrid}

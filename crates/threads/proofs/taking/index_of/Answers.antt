@@ -1,7 +1,7 @@
 use Rattle.std.proofs.Common.{◌≡◌, true, false, ap, sym, ◌∙◌, Some, refl}
 use Rattle.std.specs.Prelude.{slice_get}
 use Rattle.std.proofs.lemmas.Option.{slice_get_read}
-use Rattle.round.specs.Letters.{Letter}
+use Rattle.letter.specs.Letters.{Letter}
 use Rattle.threads.proofs.Taken.{found_at, none_more}
 use Rattle.threads.proofs.taking.index_of.Goals as goal
 use Rattle.threads.proofs.taking.index_of.Goals.{else-letter-general-via-then-letter-general+else-letter-round, else-letter-general-via-else-letter-general}

@@ -1,8 +1,8 @@
 use Rattle.std.proofs.Common.{ℕ, List, [], ◌∷◌, ◌∙◌, ap}
 use Rattle.label.specs.Lieutenants.{lieutenants}
 use Rattle.board.specs.Board.{Access}
-use Rattle.round.specs.Scenario.{Scenario}
-use Rattle.round.specs.Letters.{Letter}
+use Rattle.roster.specs.Scenario.{Scenario}
+use Rattle.letter.specs.Letters.{Letter}
 use Rattle.world.specs.declared.verdict.Verdict.{Verdict}
 use Rattle.trace.specs.Text.{decision_lines, head_lines, lines_in, round_lines, text, text_in, verdict_line}
 use Rattle.trace.proofs.WrittenLemmas.{then_wrote, wrote-same}

@@ -1,6 +1,6 @@
 use Rattle.std.proofs.Common.{ℕ, List, [], ◌∷◌, ◌∙◌, ap}
 use Rattle.label.specs.Lieutenants.{lieutenants}
-use Rattle.round.specs.Scenario.{Scenario}
+use Rattle.roster.specs.Scenario.{Scenario}
 use Rattle.signed.specs.Sent.{sent_in}
 use Rattle.world.specs.declared.verdict.Verdict.{Verdict}
 use Rattle.trace.specs.SignedText.{head_lines, letter_lines, signed_lines, signed_text}

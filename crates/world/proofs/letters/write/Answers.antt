@@ -2,7 +2,7 @@
 use Rattle.std.proofs.Common.{◌≡◌, ℕ, ◌++◌, ◌∙◌, refl, sym, ap, subst, Option, Some, None, arith}
 use Rattle.std.specs.Prelude.{slice_get}
 use Rattle.std.proofs.lemmas.Option.{slice_get_past}
-use Rattle.round.specs.Runs.{IsLetter}
+use Rattle.letter.specs.Runs.{IsLetter}
 use Rattle.round.specs.Running.{letter_left}
 use Rattle.world.specs.Part.{Part}
 use Rattle.world.specs.Closing.{Draft, Begun, Whole, Missing, letter_from}

@@ -1,8 +1,8 @@
 -- What is left is a letter.
 use Rattle.std.proofs.Common.{◌∙◌, ap, sym, subst}
-use Rattle.round.specs.Activation.{Activation}
-use Rattle.round.specs.Letters.{Letter}
-use Rattle.round.specs.Runs.{IsLetter}
+use Rattle.letter.specs.Activation.{Activation}
+use Rattle.letter.specs.Letters.{Letter}
+use Rattle.letter.specs.Runs.{IsLetter}
 use Rattle.round.specs.Running.{letter_left}
 use Rattle.round.proofs.running.Running.into_letter.Goals as goal
 

@@ -4,7 +4,7 @@ use Rattle.std.specs.Prelude.{◌&&◌}
 use Rattle.std.specs.List.{list_all}
 use Rattle.world.specs.declared.event.Event.TheVariants.{Close}
 use Rattle.world.specs.Part.{Part, owes_no_letter}
-use Rattle.round.specs.Letters.{Letter}
+use Rattle.letter.specs.Letters.{Letter}
 use Rattle.world.specs.World.{oral_kind, World, happen}
 use Rattle.world.specs.Reached.{world_of}
 use Rattle.world.specs.Held.{letters_held, beginnings}

@@ -1,0 +1,13 @@
+pub mod Prolonging
+pub mod Delivering
+pub mod EachTree
+pub mod Walking
+pub mod Descending
+pub mod Striking
+pub mod Gathering
+pub mod Naming
+pub mod Together
+pub mod TreeTables
+pub mod Filling
+pub mod Forgetting
+pub mod Values

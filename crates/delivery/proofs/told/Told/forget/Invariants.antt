@@ -1,0 +1,10 @@
+use Rattle.std.proofs.Common.{◌≡◌}
+use Rattle.tree.specs.LieutenantTree.{blank}
+use Rattle.delivery.proofs.EachTree.{AreChangedTo}
+use Rattle.delivery.proofs.told.Told.forget.Given as goal
+
+abbrev pub invariant-loop-index : goal.invariant-loop-index
+invariant-loop-index l = record {
+  rounds : l.self-inside.rounds ≡ l.initial.self-inside.rounds;
+  trees : AreChangedTo l.initial.self-inside.trees.items (λ M. blank M l.initial.self-inside.rounds) l.index l.self-inside.trees.items;
+}

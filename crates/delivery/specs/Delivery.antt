@@ -1,0 +1,132 @@
+-- Letters by their generals, and what of a round has been told (own).
+use Rattle.std.specs.Borrow.{Bor}
+use Rattle.std.specs.Prelude.{ℕ, suc, ◌+◌, ◌-◌, ◌*◌, ◌<◌, ◌≤◌, ◌≡◌, true, false, nat_lt, if◌then◌else◌, List, length, take, slice_index, slice_index_or, slice_get, Option, None, Some}
+use Rattle.label.specs.Labels.{on, others, labels}
+use Rattle.label.specs.Oral.{Messages}
+use Rattle.tree.specs.LieutenantTree.{LieutenantTree, IsCampaign, IsFilled, SameCampaign}
+use Rattle.outbox.specs.Contents.{order_at}
+use Rattle.outbox.specs.Rows.{RowOrders, order_in}
+use Rattle.letter.specs.Letters.{Letter, letter_of}
+use Rattle.delivery.specs.Told.{AreDue, told_now, heard_also, round_of}
+use Rattle.delivery.specs.Fronts.{IsFront, under}
+use Rattle.delivery.specs.declared.front.Front.{Front}
+
+-- for each general the index of his letter, or past the last
+abbrev pub AreLetterIndices : List Letter → List ℕ → Type 0
+AreLetterIndices letters indices =
+    (length indices ≡ 13) × ((g : ℕ) → g < 13 → slice_get letters (slice_index indices g) ≡ letter_of letters g)
+
+-- what a letter tells p of the label of that rank among those that it relays
+abbrev pub order_in_letter : Option Letter → ℕ → ℕ → Option ℕ
+order_in_letter None rank p = None
+order_in_letter (Some l) rank p = order_at l.outbox.relay l.outbox.rows rank p
+
+-- t is filled from some N, which is M except at labels of length k; of these, the ones of rank below i have what the
+-- letters tell
+pub record IsPartly (M : Messages) (letters : List Letter) (n c p k i : ℕ) (t : LieutenantTree) : Type 0 where
+  pub N : Messages
+  pub filled : IsFilled t N
+  pub others : (w : List ℕ) → (length w ≡ k → ⊥) → N w p ≡ M w p
+  pub done : (j : ℕ) (w : List ℕ) → j < i → slice_get (labels n c p k) j ≡ Some w → N w p ≡ told_now letters w p
+
+-- if t has the letters' values at the labels of length k and rank below i, u has them at those below j
+pub record FillsFromTo (t : LieutenantTree) (letters : List Letter) (k i j : ℕ) (u : LieutenantTree) : Type 0 where
+  pub same : SameCampaign t u
+  pub partly : (M : Messages) → IsPartly M letters t.generals t.commander t.general k i t →
+      IsPartly M letters t.generals t.commander t.general k j u
+
+-- the first rank of the labels of a length that begin with this one, and the rank past them
+abbrev pub first_under : LieutenantTree → Front → ℕ → ℕ
+first_under t f k = slice_index f.ranks t.general * under t.generals f.size (k - f.size)
+
+abbrev pub past_under : LieutenantTree → Front → ℕ → ℕ
+past_under t f k = suc (slice_index f.ranks t.general) * under t.generals f.size (k - f.size)
+
+-- lists of one length, of which those that stand at one index are so
+pub record AreEach (Are : LieutenantTree → LieutenantTree → Type 0) (old new : List LieutenantTree) : Type 0 where
+  pub count : length new ≡ length old
+  pub each : (j : ℕ) (t u : LieutenantTree) → slice_get old j ≡ Some t → slice_get new j ≡ Some u → Are t u
+
+-- the tree is told the letters
+pub record IsTold (letters : List Letter) (t u : LieutenantTree) : Type 0 where
+  pub same : SameCampaign t u
+  pub filled : (M : Messages) → IsFilled t M → IsFilled u (heard_also M letters)
+
+-- the trees are of that campaign, and the letters are due to them
+pub record IsDueIn (n c : ℕ) (letters : List Letter) (t : LieutenantTree) : Type 0 where
+  pub kind : IsCampaign t
+  pub generals : t.generals ≡ n
+  pub commander : t.commander ≡ c
+  pub due : AreDue t letters
+
+abbrev pub AreDueIn : ℕ → ℕ → List Letter → List LieutenantTree → Type 0
+AreDueIn n c letters trees = (j : ℕ) (t : LieutenantTree) → slice_get trees j ≡ Some t → IsDueIn n c letters t
+
+-- no two trees are of one lieutenant
+abbrev pub AreApart : List LieutenantTree → Type 0
+AreApart trees = (i j : ℕ) (t u : LieutenantTree) → slice_get trees i ≡ Some t → slice_get trees j ≡ Some u →
+    t.general ≡ u.general → i ≡ j
+
+-- for the lieutenant of each tree its index, for each other general an index past the last
+pub record AreTreeIndices (trees : List LieutenantTree) (table : List ℕ) : Type 0 where
+  pub long : length table ≡ 13
+  pub found : (i : ℕ) (t : LieutenantTree) → slice_get trees i ≡ Some t → slice_index table t.general ≡ i
+  pub only : (g : ℕ) (t : LieutenantTree) → g < 13 → slice_get trees (slice_index table g) ≡ Some t → t.general ≡ g
+
+-- a label that is shorter than those of the round of these letters, with what a walk from it down to the labels of that
+-- round needs:
+-- where each general's letter stands, and trees of the campaign to which the letters are due
+pub record IsRoute (n : ℕ) (letters : List Letter) (indices : List ℕ) (k : ℕ) (f : Front)
+    (trees : List LieutenantTree) : Type 0 where
+  pub few : n ≤ 13
+  pub size : k ≡ round_of letters
+  pub small : k ≤ 5
+  pub indexed : AreLetterIndices letters indices
+  pub short : f.size < k
+  pub c : ℕ
+  pub w : List ℕ
+  pub inside : c < n
+  pub front : IsFront n c w f
+  pub due : AreDueIn n c letters trees
+
+-- the generals off a label, the first so many of these, each with its row in his letter
+pub record Tellers : Type 0 where
+  pub count : ℕ
+  pub generals : List ℕ
+  pub rows : List (Bor RowOrders)
+
+-- of those who are off a label the ones below x, each with the label's row in his letter, or one that tells nobody
+-- where there is none
+pub record AreTellers (letters : List Letter) (n : ℕ) (f : Front) (x : ℕ) (t : Tellers) : Type 0 where
+  pub long : length t.generals ≡ 13
+  pub wide : length t.rows ≡ 13
+  pub few : t.count ≤ x
+  pub names : (c : ℕ) (w : List ℕ) → IsFront n c w f → take t.count t.generals ≡ others x w
+  pub rows : (i p : ℕ) (r : Bor RowOrders) → i < t.count → slice_get t.rows i ≡ Some r →
+      order_in p r.now ≡ order_in_letter (letter_of letters (slice_index t.generals i))
+      (slice_index f.ranks (slice_index t.generals i)) p
+
+-- the rows of those who are off a label, of whom the tree's lieutenant is the one of that number
+pub record AreTellersOf (letters : List Letter) (t : LieutenantTree) (f : Front) (i : ℕ)
+    (rows : List (Bor RowOrders)) : Type 0 where
+  pub count : ℕ
+  pub generals : List ℕ
+  pub all : AreTellers letters t.generals f t.generals (record { count = count; generals = generals; rows = rows })
+  pub within : i < count
+  pub own : slice_index generals i ≡ t.general
+
+-- what was told of the labels that begin with this one: nothing where the tree's lieutenant stands on it
+pub record IsToldUnder (letters : List Letter) (k : ℕ) (f : Front) (t u : LieutenantTree) : Type 0 where
+  pub on : slice_index_or f.on t.general false ≡ true → u ≡ t
+  pub off : slice_index_or f.on t.general false ≡ false →
+      FillsFromTo t letters k (first_under t f k) (past_under t f k) u
+
+-- a shorter label that lacks the tree's lieutenant, in the round of these letters
+pub record IsWalk (t : LieutenantTree) (letters : List Letter) (indices : List ℕ) (k : ℕ) (f : Front) : Type 0 where
+  pub due : AreDue t letters
+  pub size : k ≡ round_of letters
+  pub indexed : AreLetterIndices letters indices
+  pub short : f.size < k
+  pub w : List ℕ
+  pub front : IsFront t.generals t.commander w f
+  pub off : on w t.general ≡ false

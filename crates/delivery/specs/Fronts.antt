@@ -1,0 +1,19 @@
+-- A label as its ranks tell it (own).
+use Rattle.std.specs.Prelude.{ℕ, zero, suc, ◌-◌, ◌*◌, ◌<◌, ◌≡◌, false, List, length, slice_get, slice_index, slice_index_or, Some}
+use Rattle.label.specs.Labels.{on, labels}
+use Rattle.label.specs.Oral.{IsLabel}
+use Rattle.delivery.specs.declared.front.Front.{Front}
+
+-- who stands on the label, and for each general off it, its place among the labels of its length that lack him
+pub record IsFront (n c : ℕ) (w : List ℕ) (f : Front) : Type 0 where
+  pub label : IsLabel n c w
+  pub size : f.size ≡ length w
+  pub wide : length f.on ≡ 13
+  pub long : length f.ranks ≡ 13
+  pub marks : (x : ℕ) → x < n → slice_index_or f.on x false ≡ on w x
+  pub stands : (x : ℕ) → x < n → on w x ≡ false → slice_get (labels n c x (length w)) (slice_index f.ranks x) ≡ Some w
+
+-- how many labels of n generals begin with one of k and have so many more, where one general is lacked
+unfoldable pub under : ℕ → ℕ → ℕ → ℕ
+under n k zero = 1
+under n k (suc more) = (n - 1 - k) * under n (suc k) more

@@ -1,0 +1,109 @@
+//! Who is off a label, and what the others' letters tell of it.
+ghost use Rattle.std.specs.Prelude.{◌≡◌, ◌<◌, ◌≤◌, ◌+◌, [], ℕ, List, Some, length, slice_get};
+ghost use Rattle.std.specs.Borrow.{Bor};
+ghost use Rattle.outbox.specs.Rows.{RowOrders, order_in, order_of_row};
+ghost use Rattle.letter.specs.Letters.{Letter as LetterSeen, letter_of};
+ghost use Rattle.delivery.specs.Delivery.{AreLetterIndices, AreTellers, AreTellersOf, FillsFromTo, IsWalk, first_under, order_in_letter, past_under};
+ghost use Rattle.delivery.specs.Told.{lieutenant_at};
+
+use crate::front::Front;
+use letter::Letter;
+use outbox::Row;
+use tree::Tree;
+
+/// Lists the generals off the front, ascending, of so many, and for each the row of the label in his letter, or
+/// `nobody` where there is none: how many they are. What stands behind them means nothing.
+///
+/// They are listed where the caller keeps them: to move them would take as long as to list them. Each general is
+/// written behind those before him, and stays there where he is off the front: who is changes from label to label, and
+/// a branch on it would be guessed wrong.
+pub(crate) fn list_tellers<'a>(
+    letters: &'a [Letter],
+    indices: &[usize; 13],
+    generals: u8,
+    front: &Front,
+    names: &mut [u8],
+    rows: &mut [&'a Row],
+    nobody: &'a Row,
+) -> usize
+    requires few { generals ≤ 13 }
+    requires nobody { nobody.now ≡ [] }
+    requires on { length front.now.on ≡ 13 }
+    requires ranks { length front.now.ranks ≡ 13 }
+    requires long { length names.old ≡ 13 }
+    requires wide { length rows.old ≡ 13 }
+    ensures few { result ≤ 13 }
+    ensures long { length names.new ≡ 13 }
+    ensures wide { length rows.new ≡ 13 }
+    ensures tellers { AreLetterIndices letters.now indices.now →
+        AreTellers letters.now generals front.now generals (record {
+          count = result;
+          generals = names.new;
+          rows = rows.new;
+        }) }
+{
+    let mut count = 0;
+    for general in 0..generals {
+        let number = usize::from(general);
+        names[count] = general;
+        rows[count] = row_in(letters, indices, general, front.ranks[number]).unwrap_or(nobody);
+        count += usize::from(!front.on[number]);
+    }
+    count
+}
+
+/// Fills in what the generals off a label tell the tree's lieutenant of it, each with himself behind it. The
+/// lieutenant is the one of number `own` among them.
+pub(crate) fn fill_children(own: usize, rows: &[&Row], size: u8, tree: &mut Tree, front: &Front)
+    requires told { (letters : List LetterSeen) × (indices : List ℕ) × IsWalk tree.old letters indices size front.now
+        × AreTellersOf letters tree.old front.now own rows.now }
+    requires last { front.now.size + 1 ≡ size }
+    ensures { (letters : List LetterSeen) (indices : List ℕ) → IsWalk tree.old letters indices size front.now →
+        AreTellersOf letters tree.old front.now own rows.now
+        → FillsFromTo tree.old letters size (first_under tree.old front.now size)
+        (past_under tree.old front.now size) tree.new }
+{
+    let space = tree.space();
+    let width = usize::from(space.generals).saturating_sub(usize::from(size));
+    let first = front.ranks[usize::from(space.general)] * width as u32;
+    tree.set_run(size, first, width, |index| {
+        order_past(rows, own, index, space.general)
+    });
+}
+
+/// What the row at this index tells a receiver, where the row of number `own` is passed over.
+fn order_past(rows: &[&Row], own: usize, index: usize, receiver: u8) -> Option<u32>
+    requires { index + 1 < length rows.now }
+    ensures { (row : Bor RowOrders) → slice_get rows.now (lieutenant_at own index) ≡ Some row →
+        result ≡ order_in receiver row.now }
+{
+    let number = if index < own { index } else { index + 1 };
+    rows[number].order(u32::from(receiver))
+}
+
+/// The row of the label of that rank in a general's letter, where there is one.
+pub(crate) fn row_in<'a>(
+    letters: &'a [Letter],
+    indices: &[usize; 13],
+    general: u8,
+    rank: u32,
+) -> Option<&'a Row>
+    requires { general < 13 }
+    ensures { (receiver : ℕ) → AreLetterIndices letters.now indices.now →
+        order_of_row result receiver ≡ order_in_letter (letter_of letters.now general) rank receiver }
+{
+    match letters.get(indices[usize::from(general)]) {
+        Some(letter) => letter.outbox.orders(rank),
+        None => None,
+    }
+}
+
+/// What a row, where there is one, tells a receiver.
+pub(crate) fn order_in_row(row: Option<&Row>, receiver: u8) -> Option<u32>
+    ensures { result ≡ order_of_row row.entry receiver }
+{
+    match row {
+        Some(row) => row.order(u32::from(receiver)),
+        None => None,
+    }
+}

@@ -1,0 +1,238 @@
+ghost use Rattle.std.specs.Prelude.{◌≡◌, ◌≢◌, ◌<◌, ◌≤◌, ◌++◌, ◌∷◌, [], suc, List, IfOk, OnOk, length, take, vec_capacity};
+ghost use Rattle.letter.specs.Letters.{Letter as LetterSeen};
+ghost use Rattle.letter.specs.Contexts.{context_of, AreWords};
+ghost use Rattle.letter.specs.Origin.{AreLettersOf, AreRoundsOf};
+ghost use Rattle.delivery.specs.Told.{WasTold, lieutenant_at};
+
+use crate::delivery::deliver_to_all;
+use contexts::write_context;
+use letter::{Letter, Round};
+use mem::Context;
+use roster::Scenario;
+use std::alloc::{AllocError, Global};
+use std::marker::Model;
+use tree::Tree;
+
+/// What the letters of closed rounds have told the lieutenants: a tree for each, ascending, filled round by round.
+#[derive(Drop)]
+pub struct Told {
+    /// How many rounds were told.
+    rounds: u8,
+    trees: Vec<Tree>,
+}
+
+impl Model for Told {
+    ghost use Rattle.delivery.specs.Told.{ToldSeen};
+
+    ghost Value = { ToldSeen };
+
+    ghost view = { λ t. record { rounds = t.rounds; trees = t.trees.items } };
+}
+
+impl Told {
+    /// Nothing is told yet. Nothing that is told later takes memory.
+    ///
+    /// # Errors
+    ///
+    /// `AllocError` where the memory for a tree is refused.
+    pub fn new(alloc: Global, scenario: &Scenario) -> Result<Told, AllocError>
+        ensures { IfOk result (WasTold scenario.now []) }
+    {
+        let generals = scenario.generals();
+        let bound = scenario.bound();
+        let commander = scenario.commander();
+        let mut trees = Vec::with_capacity(alloc, 12)?;
+        for index in 0..generals - 1 {
+            let general = lieutenant_at(commander, index);
+            trees.push(Tree::new(alloc, generals, bound, commander, general)?)?;
+        }
+        Ok(Told { rounds: 0, trees })
+    }
+
+    /// How many rounds were told.
+    pub fn rounds(&self) -> u8
+        ensures { result ≡ self.now.rounds }
+    {
+        self.rounds
+    }
+
+    /// The lieutenants' trees, ascending.
+    pub fn trees(&self) -> &[Tree]
+        ensures { result.now ≡ self.now.trees }
+    {
+        self.trees.as_slice()
+    }
+
+    /// Takes in the letters of one round more.
+    pub fn deliver(&mut self, scenario: &Scenario, letters: &[Letter])
+        requires told { (before : List (List LetterSeen)) × WasTold scenario.now before self.old }
+        requires left { self.old.rounds ≤ scenario.now.bound }
+        requires letters { AreLettersOf scenario.now (suc self.old.rounds) letters.now }
+        ensures { (before : List (List LetterSeen)) → WasTold scenario.now before self.old →
+            WasTold scenario.now (before ++ letters.now ∷ []) self.new }
+    {
+        scenario.recall();
+        deliver_to_all(
+            letters,
+            scenario.generals(),
+            scenario.commander(),
+            self.trees.as_mut_slice(),
+        );
+        self.rounds += 1;
+    }
+
+    /// Takes back the letters of the round that was told last. It takes no memory.
+    pub fn forget(&mut self, scenario: &Scenario)
+        requires told { (before : List (List LetterSeen)) × (letters : List LetterSeen)
+            × WasTold scenario.now (before ++ letters ∷ []) self.old }
+        ensures { (before : List (List LetterSeen)) → (letters : List LetterSeen) →
+            WasTold scenario.now (before ++ letters ∷ []) self.old → WasTold scenario.now before self.new }
+    {
+        scenario.recall();
+        for index in 0..self.trees.len() {
+            self.trees[index].clear(self.rounds);
+        }
+        self.rounds -= 1;
+    }
+
+    /// What a general is told as the next round begins.
+    ///
+    /// # Errors
+    ///
+    /// `AllocError` where the memory for the 4,096 bytes is refused.
+    pub fn context(
+        &self,
+        alloc: Global,
+        scenario: &Scenario,
+        general: u8,
+    ) -> Result<Vec<u8>, AllocError>
+        requires told { (before : List (List LetterSeen)) × WasTold scenario.now before self.now }
+        requires left { self.now.rounds ≤ scenario.now.bound }
+        requires general { general < scenario.now.generals }
+        ensures context { IfOk result (λ bytes. (before : List (List LetterSeen)) →
+            WasTold scenario.now before self.now → bytes.items ≡ context_of scenario.now before general) }
+        ensures words { OnOk result ((before : List (List LetterSeen)) → WasTold scenario.now before self.now →
+            AreWords scenario.now before general) }
+    {
+        self.context_after(alloc, scenario, general, self.rounds)
+    }
+
+    /// What a general was told as the round behind the first so many began. The rounds told since change nothing of it:
+    /// it tells of the labels of one length alone, and each round fills in labels of its own length.
+    ///
+    /// # Errors
+    ///
+    /// `AllocError` where the memory for the 4,096 bytes is refused.
+    pub fn context_after(
+        &self,
+        alloc: Global,
+        scenario: &Scenario,
+        general: u8,
+        rounds: u8,
+    ) -> Result<Vec<u8>, AllocError>
+        requires told { (before : List (List LetterSeen)) × WasTold scenario.now before self.now }
+        requires passed { rounds ≤ self.now.rounds }
+        requires left { rounds ≤ scenario.now.bound }
+        requires general { general < scenario.now.generals }
+        ensures context { IfOk result (λ bytes. (before : List (List LetterSeen)) →
+            WasTold scenario.now before self.now → bytes.items ≡ context_of scenario.now (take rounds before) general) }
+        ensures words { OnOk result ((before : List (List LetterSeen)) → WasTold scenario.now before self.now →
+            AreWords scenario.now (take rounds before) general) }
+    {
+        let mut bytes = Vec::with_capacity(alloc, Context::BYTES)?;
+        self.write_context_after(scenario, general, rounds, &mut bytes);
+        Ok(bytes)
+    }
+
+    /// [`Told::context_after`] in place of what the vector held, which has room for it. It takes no memory.
+    pub fn write_context_after(
+        &self,
+        scenario: &Scenario,
+        general: u8,
+        rounds: u8,
+        bytes: &mut Vec<u8>,
+    )
+        requires room { 4096 ≤ vec_capacity bytes.old }
+        requires told { (before : List (List LetterSeen)) × WasTold scenario.now before self.now }
+        requires passed { rounds ≤ self.now.rounds }
+        requires left { rounds ≤ scenario.now.bound }
+        requires general { general < scenario.now.generals }
+        ensures context { (before : List (List LetterSeen)) → WasTold scenario.now before self.now →
+            bytes.new.items ≡ context_of scenario.now (take rounds before) general }
+        ensures words { (before : List (List LetterSeen)) → WasTold scenario.now before self.now →
+            AreWords scenario.now (take rounds before) general }
+    {
+        let bound = scenario.bound();
+        if rounds == 0 {
+            return write_first_context(scenario, general, bytes);
+        }
+        let commander = scenario.commander();
+        let shape = scenario.shape(general, rounds + 1);
+        if general == commander {
+            return write_context(bytes, shape, bound, &[]);
+        }
+        let tree = &self.trees[usize::from(lieutenant_index(commander, general))];
+        write_context(bytes, shape, bound, tree.level(rounds));
+    }
+}
+
+/// What a general is told as the round behind these begins.
+///
+/// # Errors
+///
+/// `AllocError` where the memory for a tree or for the 4,096 bytes is refused.
+pub fn context_for(
+    alloc: Global,
+    scenario: &Scenario,
+    general: u8,
+    before: &[Round],
+) -> Result<Vec<u8>, AllocError>
+    requires left { length before.now ≤ scenario.now.bound }
+    requires general { general < scenario.now.generals }
+    requires letters { AreRoundsOf scenario.now before.now }
+    ensures context { IfOk result (λ bytes. bytes.items ≡ context_of scenario.now before.now general) }
+    ensures words { OnOk result (AreWords scenario.now before.now general) }
+{
+    let mut told = Told::new(alloc, scenario)?;
+    for round in before {
+        told.deliver(scenario, round.letters());
+    }
+    told.context(alloc, scenario, general)
+}
+
+/// What a general is told as the first round begins, in place of what the vector held, which has room for it: the
+/// commander his order, the others nothing.
+fn write_first_context(scenario: &Scenario, general: u8, bytes: &mut Vec<u8>)
+    requires room { 4096 ≤ vec_capacity bytes.old }
+    requires general { general < scenario.now.generals }
+    ensures { bytes.new.items ≡ context_of scenario.now [] general }
+{
+    let bound = scenario.bound();
+    let shape = scenario.shape(general, 1);
+    if general == scenario.commander() {
+        return write_context(bytes, shape, bound, &[Some(scenario.order())]);
+    }
+    write_context(bytes, shape, bound, &[]);
+}
+
+/// The lieutenant at an index, from 0, among those under the commander.
+fn lieutenant_at(commander: u8, index: u8) -> u8
+    requires { index < 255 }
+    ensures { result ≡ lieutenant_at commander index }
+{
+    if index < commander { index } else { index + 1 }
+}
+
+/// The index of a lieutenant among those under the commander.
+fn lieutenant_index(commander: u8, general: u8) -> u8
+    requires { general ≢ commander }
+    ensures there { lieutenant_at commander result ≡ general }
+    ensures low { result ≤ general }
+    ensures past { commander < general → result < general }
+{
+    if general < commander {
+        general
+    } else {
+        general - 1
+    }
+}

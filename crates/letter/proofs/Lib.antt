@@ -1,0 +1,14 @@
+pub mod Lists
+pub mod Contexts
+pub mod Telling
+pub mod Fronts
+pub mod Loyal
+pub mod Senders
+pub mod Stepping
+pub mod Patience
+pub mod Runnings
+pub mod Going
+pub mod Settled
+pub mod Ends
+pub mod Fitting
+pub mod Answered

@@ -1,0 +1,14 @@
+-- Of which campaign and round letters are (own).
+use Rattle.std.specs.Prelude.{ℕ, suc, ◌≡◌, List, slice_get, Some}
+use Rattle.roster.specs.Scenario.{Scenario, shape_of}
+use Rattle.letter.specs.Letters.{Letter}
+
+-- the letters are of this round of the campaign
+abbrev pub AreLettersOf : Scenario → ℕ → List Letter → Type 0
+AreLettersOf s round letters = (i : ℕ) (l : Letter) → slice_get letters i ≡ Some l →
+    (l.round ≡ round) × (l.outbox.relay.shape ≡ shape_of s l.general round)
+
+-- the letters of each of these rounds are of that round
+abbrev pub AreRoundsOf : Scenario → List (List Letter) → Type 0
+AreRoundsOf s before =
+    (i : ℕ) (letters : List Letter) → slice_get before i ≡ Some letters → AreLettersOf s (suc i) letters

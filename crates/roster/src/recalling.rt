@@ -1,0 +1,26 @@
+//! Calls that do nothing at run time: each recalls, for the proof of its caller, what the type of its argument keeps.
+ghost use Rattle.std.specs.Prelude.{◌≡◌, ℕ, List, Option, Some, IfSome, slice_get};
+ghost use Rattle.insn.specs.declared.insn.Insn.{Insn};
+ghost use Rattle.semantics.specs.Run.{IsSound};
+ghost use Rattle.roster.specs.Scenario.{IsScenario};
+
+use crate::scenario::Scenario;
+use crate::seat::Seat;
+
+impl Scenario {
+    /// Does nothing. What a scenario's type keeps: its limits.
+    pub fn recall(&self)
+        ensures { IsScenario self.now }
+    {
+        let _generals = self.generals();
+    }
+}
+
+/// Does nothing. The programs of seats are sound.
+pub(crate) fn recall_sound(seats: &[Seat])
+    ensures { (i : ℕ) (program : List Insn) → slice_get seats.now i ≡ Some (Some program) → IsSound program }
+{
+    for seat in seats {
+        let _sound = seat.program();
+    }
+}

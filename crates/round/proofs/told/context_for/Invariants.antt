@@ -1,6 +1,0 @@
-use Rattle.std.proofs.Common.{take}
-use Rattle.round.specs.Told.{WasTold}
-use Rattle.round.proofs.told.context_for.Given as goal
-
-abbrev pub invariant-loop-round : goal.invariant-loop-round
-invariant-loop-round l = WasTold l.scenario (take l.round-index l.before) l.told

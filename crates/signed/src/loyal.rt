@@ -1,0 +1,44 @@
+//! Loyal generals' letters.
+ghost use Rattle.std.specs.Prelude.{◌≡◌, ◌≤◌, ◌<◌, length, IfOk};
+ghost use Rattle.signed.specs.Sending.{letter_behind, IsSent};
+
+use crate::briefing::{context, outbox};
+use crate::entering::enter;
+use crate::held::Held;
+use crate::outgoing::SentRound;
+use letter::Letter;
+use roster::{Scenario, Seat};
+use std::alloc::{AllocError, Global};
+
+/// A loyal general's letter of the round behind these.
+///
+/// # Errors
+///
+/// `AllocError` where memory is refused.
+pub(crate) fn loyal_letter(
+    alloc: Global,
+    scenario: &Scenario,
+    sent: &[SentRound],
+    general: u8,
+) -> Result<Letter, AllocError>
+    requires left { length sent.now ≤ scenario.now.bound }
+    requires inside { general < scenario.now.generals }
+    requires sent { IsSent scenario.now sent.now }
+    ensures { IfOk result (λ letter. letter ≡ letter_behind scenario.now sent.now general) }
+{
+    scenario.recall();
+    let held = Held::behind(alloc, sent, general)?;
+    let context = context(alloc, scenario, sent, general, &held)?;
+    let mut outbox = outbox(alloc, scenario, sent, general, &held)?;
+    enter(&mut outbox, scenario, sent, general, &held);
+    Ok(Letter {
+        general: u32::from(general),
+        round: sent.len() as u32 + 1,
+        context,
+        program: Seat::new(None),
+        transcript: Vec::new(alloc),
+        steps: 0,
+        outbox,
+        exited: true,
+    })
+}
