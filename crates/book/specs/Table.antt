@@ -1,5 +1,5 @@
 -- A message table as a value, and the messages that it tells.
-use Rattle.std.specs.Prelude.{ℕ, ◌+◌, ◌<◌, ◌≤◌, ◌==◌, ◌&&◌, Bool, List, option_map, find, bytes_eq}
+use Rattle.std.specs.Prelude.{ℕ, ◌+◌, ◌<◌, ◌≤◌, ◌==◌, ◌&&◌, Bool, List, option_map, find, bytes_eq as same_label}
 use Rattle.combine.specs.declared.chosen.Rule.{Rule}
 use Rattle.label.specs.Oral.{Messages}
 use Rattle.book.specs.declared.message.Message.{Message}
@@ -21,7 +21,7 @@ pub record MessageTable : Type 0 where
 
 -- the message is of this label and receiver
 abbrev pub is_about : List ℕ → ℕ → Message → Bool
-is_about w p message = message.receiver == p && bytes_eq message.label w
+is_about w p message = message.receiver == p && same_label message.label w
 
 -- the messages of a list: the first that is about a place tells its order, and nothing came where none is
 unfoldable pub told : List Message → Messages

@@ -1,6 +1,6 @@
 -- The words that name rules.
-use Rattle.std.specs.Prelude.{ℕ, ◌≡◌, ◌&&◌, nat_le, Bool, true, false, if◌then◌else◌, List, bytes_eq, codes, Option, None, Some}
-use Rattle.std.specs.List.{list_all}
+use Rattle.std.specs.Prelude.{ℕ, ◌≡◌, ◌↔◌, ◌&&◌, nat_le, Bool, true, false, if◌then◌else◌, List, [], ◌∷◌, bytes_eq, codes, count_by, Option, None, Some}
+use Rattle.std.specs.List.{join_by, list_all}
 use Rattle.combine.specs.declared.chosen.Rule.{Rule}
 use Rattle.combine.specs.declared.chosen.Rule.TheVariants.{Majority, Median}
 
@@ -14,9 +14,13 @@ abbrev pub rule_named : List ℕ → Option Rule
 rule_named word = if bytes_eq word (codes "majority") then Some Majority
     else (if bytes_eq word (codes "median") then Some Median else None)
 
+-- all rules, in the order in which their words are listed
+abbrev pub every_rule : List Rule
+every_rule = Majority ∷ Median ∷ []
+
 -- all words, as a sentence lists them
 abbrev pub rule_names : List ℕ
-rule_names = codes "majority or median"
+rule_names = join_by rule_name (codes " or ") every_rule
 
 -- the rule where none is named
 abbrev pub default_rule : Rule
@@ -30,8 +34,11 @@ is_default _ = false
 abbrev pub is_small : ℕ → Bool
 is_small c = nat_le 97 c && nat_le c 122
 
--- a word is small letters, and names the rule whose word it is
+-- a rule's word is small letters, names that rule, and no other word does; each is listed once, and one rule alone is
+-- that where none is named
 pub record NamesAreWords : Type 0 where
   pub letters : (rule : Rule) → list_all is_small (rule_name rule) ≡ true
   pub read : (rule : Rule) → rule_named (rule_name rule) ≡ Some rule
-  pub default : (rule : Rule) → is_default rule ≡ true → rule ≡ default_rule
+  pub only : (word : List ℕ) (rule : Rule) → rule_named word ≡ Some rule → word ≡ rule_name rule
+  pub listed : (rule : Rule) → count_by (λ other. bytes_eq (rule_name other) (rule_name rule)) every_rule ≡ 1
+  pub default : (rule : Rule) → (is_default rule ≡ true) ↔ (rule ≡ default_rule)

@@ -15,7 +15,8 @@ pub fn median_is_middle()
     ensures { MedianIsMiddle }
 {}
 
-/// The word of a rule is small letters, and names that rule; one is the rule where none is named.
+/// The word of a rule is small letters, names that rule, and no other word does; each is listed once, and one
+/// rule alone is that where none is named.
 pub fn names_are_words()
     ensures { NamesAreWords }
 {}

@@ -1,7 +1,7 @@
 //! What a list of orders comes to.
-ghost use Rattle.std.specs.Prelude.{◌≡◌, find, unwrap_or, ℕ};
+ghost use Rattle.std.specs.Prelude.{◌≡◌, find};
 ghost use Rattle.combine.specs.Outcome.{agreed_or, outcome_order, outcome_head};
-ghost use Rattle.combine.specs.Rule.{is_most};
+ghost use Rattle.combine.specs.Rule.{is_most, majority};
 
 use crate::majority::is_in_most;
 
@@ -38,10 +38,10 @@ impl Outcome {
     }
 }
 
-/// What a list comes to whose order is the one in more than half of its places, or where there is none another.
+/// What a list comes to whose majority is this order.
 pub(crate) fn by_most(orders: &[u32], order: u32) -> Outcome
-    ensures { (other : ℕ) → order ≡ unwrap_or (find (is_most orders.now) orders.now) other →
-        result ≡ agreed_or other (find (is_most orders.now) orders.now) }
+    requires { order ≡ majority orders.now }
+    ensures { result ≡ agreed_or 0 (find (is_most orders.now) orders.now) }
 {
     if is_in_most(orders, order) {
         Outcome::Agreed(order)

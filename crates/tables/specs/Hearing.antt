@@ -1,11 +1,11 @@
 -- What lieutenants' trees tell together.
-use Rattle.std.specs.Prelude.{ℕ, ◌==◌, List, ◌∷◌, length, find, bytes_eq, Option, None, Some, cond}
+use Rattle.std.specs.Prelude.{ℕ, ◌==◌, List, ◌∷◌, length, find, bytes_eq as same_label, Option, None, Some, cond}
 use Rattle.label.specs.Labels.{labels}
 use Rattle.tree.specs.LieutenantTree.{LieutenantTree, level_of}
 
 -- what stands beside the label
 abbrev pub beside : List ℕ → List (List ℕ) → List (Option ℕ) → Option ℕ
-beside w (v ∷ vs) (x ∷ xs) = cond (bytes_eq v w) x (beside w vs xs)
+beside w (v ∷ vs) (x ∷ xs) = cond (same_label v w) x (beside w vs xs)
 beside w _ _ = None
 
 -- what a tree has of a label: of those of its length the value at its rank

@@ -91,7 +91,7 @@ impl Setting {
             round,
         } = self.shape;
         let taken = self.taken.as_slice();
-        // The eight numbers with which a context begins (`context_numbers` of `round`): behind the round how many
+        // The eight numbers with which a context begins (`context_numbers` of `contexts`): behind the round how many
         // labels are relayed, how many receivers each has, and 0, as orders are oral.
         let header = [
             generals,

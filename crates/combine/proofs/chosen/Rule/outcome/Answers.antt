@@ -8,7 +8,7 @@ pub returns-in-Majority-clause-value : goal.returns-in-Majority-clause-value
 unfolding majority
 returns-in-Majority-clause-value c =
     let it : c.combine-order.result ≡ majority c.args.orders.now = rw c.in-Majority.is at c.combine-order.ensures in
-    rw c.in-Majority.is (c.by_most.ensures 0 it)
+    rw c.in-Majority.is c.by_most.ensures
 
 pub returns-in-Majority-clause-order : goal.returns-in-Majority-clause-order
 returns-in-Majority-clause-order c =
