@@ -95,12 +95,12 @@ swap_code Big = 0xdc
 swap_code Reversed = 0xd7
 
 -- the units of an instruction: one, or two of a wide one. An opcode is code, source bit and class, or mode, size and
--- class: {ADD, K, ALU64} is 0x07, dst += imm; {NEG, K, ALU} 0x84, dst = -dst; {MOV, X, ALU} with offset 8 or 16 moves and
--- extends the sign; {END, ..} 0xd4, 0xdc and 0xd7 swap (section 4.2); {IMM, DW, LD} is 0x18, dst = imm64 (section 5.4);
--- {JA, K, JMP} 0x05, PC += offset; {JA, K, JMP32} 0x06, PC += imm; {CALL, K, JMP} 0x85, call helper function by static
--- ID; {EXIT, K, JMP} 0x95, return (section 4.3); {MEM, size, LDX} 0x61, dst = *(unsigned size *) (src + offset);
--- {MEMSX, size, LDX} 0x81, dst = *(signed size *) (src + offset); {MEM, size, ST} 0x62, *(size *) (dst + offset) = imm;
--- {MEM, size, STX} 0x63, *(size *) (dst + offset) = src (sections 5.1 and 5.2)
+-- class: {ADD, K, ALU64} is 0x07, dst += imm; {NEG, K, ALU} 0x84, dst = -dst; {MOV, X, ALU} with offset 8 or 16 moves
+-- and extends the sign; {END, ..} 0xd4, 0xdc and 0xd7 swap (section 4.2); {IMM, DW, LD} is 0x18, dst = imm64 (section
+-- 5.4); {JA, K, JMP} 0x05, PC += offset; {JA, K, JMP32} 0x06, PC += imm; {CALL, K, JMP} 0x85, call helper function by
+-- static ID; {EXIT, K, JMP} 0x95, return (section 4.3); {MEM, size, LDX} 0x61, dst = *(unsigned size *) (src +
+-- offset); {MEMSX, size, LDX} 0x81, dst = *(signed size *) (src + offset); {MEM, size, ST} 0x62, *(size *) (dst +
+-- offset) = imm; {MEM, size, STX} 0x63, *(size *) (dst + offset) = src (sections 5.1 and 5.2)
 abbrev pub spelling : Insn → List Fields
 spelling (Arithmetic w o dst (Immediate n)) =
     fields (operation_code o + alu_class w) dst 0 (operation_offset o) (cast_unsigned w32 n) ∷ []
