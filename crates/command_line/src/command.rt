@@ -17,7 +17,6 @@ const ABOUT: &str =
 const VERSION: &str = "1.0.0, proved with Rattle, logic dac8208d650f15bf";
 
 /// The program's command line.
-#[tactic(auto, using(crate::proofs::CommandLemmas::lab_is))]
 pub(crate) fn lab_command<'a>(alloc: Global) -> Result<Command<'a>, AllocError>
     ensures shape { IfOk result (λ c. app_of c ≡ lab_app) }
     ensures about { IfOk result (λ c. option_map (λ text. text.now) (out-Command c).about ≡ Some lab_about) }
