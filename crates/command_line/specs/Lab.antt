@@ -1,5 +1,5 @@
 -- The command line as `clap` is told of it.
-use Rattle.std.specs.Prelude.{Bool, true, false, List, ◌++◌, Option, Some, None, codes, find, if◌then◌else◌, map, option_map, slice_get}
+use Rattle.std.specs.Prelude.{Bool, true, false, List, [], ◌++◌, Option, Some, None, codes, find, if◌then◌else◌, map, option_map, slice_get}
 use Rattle.std.specs.Option.{option_map_or}
 use Rattle.std.specs.Str.{bytes_eq}
 use Rattle.clap.specs.declared.builder.action.ArgAction.TheVariants.{SetTrue}
