@@ -118,7 +118,8 @@ is_itself (Some known) key = bytes_eq known key
 abbrev pub entry_sentence : Option (List ℕ) → List ℕ → List ℕ
 entry_sentence known key =
     if is_itself known key
-    then codes "this key does not go with the table's others: a table has one program, and `general` or `generals`; `generals` is a list, a file's name a text, and `entry` goes with `elf`"
+    then codes "this key does not go with the table's others: a table has one program, and `general` or `generals`; "
+    ++ codes "`generals` is a list, a file's name a text, and `entry` goes with `elf`"
     else codes "a traitor's table has no such key"
 
 abbrev pub other_than : Option (List ℕ) → List ℕ → Option (List ℕ)

@@ -251,7 +251,8 @@ fn entry_sentence(known: Option<&'static str>, word: &[u8]) -> &'static str
     ensures { result.now ≡ entry_sentence (option_map (λ k. k.now) known.entry) word.now }
 {
     if is_itself(known, word) {
-        "this key does not go with the table's others: a table has one program, and `general` or `generals`; `generals` is a list, a file's name a text, and `entry` goes with `elf`"
+        "this key does not go with the table's others: a table has one program, and `general` or `generals`; \
+         `generals` is a list, a file's name a text, and `entry` goes with `elf`"
     } else {
         "a traitor's table has no such key"
     }
