@@ -80,7 +80,7 @@ fn range_sentence(alloc: Global, name: Name) -> Result<String, AllocError>
     let sentence = match name {
         Name::Rule => {
             let names = Rule::names();
-            return format!(in alloc; "a rule is {names}");
+            return format!(in alloc; "a rule is one of these texts, in quotation marks: {names}");
         }
         Name::Generals => "there are 2 to 13 generals",
         Name::Bound => "a bound is 0 to 4, and at most generals - 2",
