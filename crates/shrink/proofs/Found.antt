@@ -1,9 +1,9 @@
 -- The results of many seeds.
-use Rattle.std.proofs.Common.{ℕ, zero, suc, ◌+◌, ◌-◌, ◌<◌, ◌≤◌, ◌≡◌, ◌≢◌, ◌∙◌, List, [], ◌∷◌, ◌++◌, ap, map, subst, sym, arith, Ok, Err, Option, None, Some, ◌⊎◌, ⊎_elim}
+use Rattle.std.proofs.Common.{ℕ, zero, suc, ◌+◌, ◌-◌, ◌<◌, ◌≤◌, ◌≡◌, ◌≢◌, ◌∙◌, List, [], ◌∷◌, ◌++◌, ap, map, length, get_or, take, drop, subst, sym, arith, Ok, Err, Option, None, Some, ◌⊎◌, ⊎_elim}
 use Rattle.std.specs.declared.result.Result.{Result}
 use Rattle.std.specs.List.{All, AllZip, range_with_len}
 use Rattle.std.proofs.lemmas.Bool.{cases_lt}
-use Rattle.std.proofs.lemmas.List.{map-append}
+use Rattle.std.proofs.lemmas.List.{length-map}
 use Rattle.std.proofs.lemmas.List.Elements.{All-head, All-tail}
 use Rattle.scenario.specs.declared.fault.ScenarioError.{ScenarioError}
 use Rattle.scenario.specs.declared.fault.ScenarioError.TheVariants.{Memory}
@@ -58,9 +58,25 @@ first_refused plots first end answers e other h is =
     let high = at.before in
     record { seed = at.seed; behind = low; before = omega (arith, low, high); refused = at.refused; earlier = at.earlier }
 
--- one answer more
-pub answers_on : {X : Type 0} (come : List (Result X ScenarioError)) (found : List X) (x : X) → come ≡ map Ok found → come ++ Ok x ∷ [] ≡ map Ok (found ++ x ∷ [])
-answers_on come found x is = ap (λ all. all ++ Ok x ∷ []) is ∙ sym (map-append Ok found (x ∷ []))
+-- the first error among the answers, behind those that were taken
+behind_good : (found : List (Option Breach)) (answers : List (Result (Option Breach) ScenarioError)) (e : ScenarioError) → map Ok found ≡ take (length found) answers → length found < length answers
+    → Err e ≡ get_or answers (length found) (Err e) → answers ≡ map Ok found ++ Err e ∷ drop (suc (length found)) answers
+behind_good [] [] e so lt at = absurd (omega arith)
+behind_good [] (r ∷ rs) e so lt at = ap (λ all. all ∷ rs) (sym at)
+behind_good (o ∷ os) [] e so lt at = absurd (omega arith)
+behind_good (o ∷ os) (r ∷ rs) e so lt at =
+    let first : Ok o ≡ r = cc in
+    let later : map Ok os ≡ take (length os) rs = cc in
+    ap (λ x. x ∷ rs) (sym first) ∙ ap (λ xs. Ok o ∷ xs) (behind_good os rs e later (omega arith) at)
+
+pub first_error : (found : List (Option Breach)) (answers taken : List (Result (Option Breach) ScenarioError)) (e : ScenarioError) → taken ≡ map Ok found → taken ≡ take (length taken) answers
+    → length taken < length answers → Err e ≡ get_or answers (length taken) (Err e) → IsFirstError answers e
+first_error found answers taken e is so lt at =
+    let many : length taken ≡ length found = ap length is ∙ length-map found Ok in (
+      found,
+      drop (suc (length found)) answers,
+      behind_good found answers e (sym is ∙ so ∙ ap (λ n. take n answers) many) (subst (λ n. n < length answers) many lt) (subst (λ n. Err e ≡ get_or answers n (Err e)) many at),
+    )
 
 -- where nothing is left of any of them, agreement is broken in none
 sound_one : (f : ℕ → Plot) (seed : ℕ) (o : Option Breach) → o ≡ None → IsShrunk f seed o → ComesWell (f seed)

@@ -1,9 +1,10 @@
 -- Walks over a campaign, on which what can be taken out is.
-use Rattle.std.proofs.Common.{ℕ, ◌+◌, ◌-◌, ◌<◌, ◌≤◌, ◌≡◌, ◌∙◌, length, arith, refl, subst, inl, inr, ap}
+use Rattle.std.proofs.Common.{ℕ, ◌+◌, ◌-◌, ◌<◌, ◌≡◌, ◌∙◌, length, arith, refl, subst, inl, inr, ap}
+use Rattle.std.specs.Prelude.{IfNone, IfSome, Option, None, Some, false, is_some}
 use Rattle.std.proofs.lemmas.List.{get_or-set_same, length-set}
 use Rattle.std.proofs.lemmas.List.Edits.{length-remove}
 use Rattle.survey.specs.Plot.{Plot, Traitor}
-use Rattle.shrink.specs.Shrinking.{ComesWell, IsBroken, IsWalked, IsWithoutFirst, LieWalk, LieWalks, ShrinksTo, TraitorWalk, all_end, further, lie_out, lie_stays, lies_end, nobody, nothing_more, one_then, quieter, traitor_at, traitor_out, traitor_stays, traitors_end, without_lie, without_traitor}
+use Rattle.shrink.specs.Shrinking.{ComesWell, IsBroken, IsWalked, IsWithoutFirst, IsWithoutFirstLie, IsWithoutFirstTraitor, LieWalk, LieWalks, ShrinksTo, TraitorWalk, TraitorsAreNeeded, further, lie_out, lie_stays, lies_end, nobody, one_then, quieter, traitor_at, traitor_out, traitor_stays, without_lie, without_traitor}
 
 -- what is left of a walk that has come so far
 abbrev pub TraitorsSoFar : Plot → ℕ → Plot → Type 0
@@ -66,3 +67,13 @@ one_more p left next place lt walk far q rest = far q (one_then place left next 
 -- the first is taken out, and the walks follow
 pub walked_on : (p left smaller next : Plot) → IsWithoutFirst left smaller → IsWalked smaller next → ShrunkSoFar p left → ShrunkSoFar p next
 walked_on p left smaller next first walk far q rest = far q (further left smaller next first walk rest)
+
+-- the first traitor is taken out; or the first statement, where there is no such traitor
+pub first_traitor : (p : Plot) (o : Option Plot) → IfSome o (IsWithoutFirstTraitor p) → IfSome o (IsWithoutFirst p)
+first_traitor p None h = tt
+first_traitor p (Some q) h = inl h
+
+pub first_lie : (p : Plot) (fewer : Option Plot) → is_some fewer ≡ false → IfNone fewer (TraitorsAreNeeded p) → (o : Option Plot) → IfSome o (IsWithoutFirstLie p) → IfSome o (IsWithoutFirst p)
+first_lie p (Some q) none needed o h = absurd cc
+first_lie p None none needed None h = tt
+first_lie p None none needed (Some q) h = inr (needed, h)

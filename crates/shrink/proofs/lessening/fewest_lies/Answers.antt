@@ -1,7 +1,8 @@
-use Rattle.std.proofs.Common.{◌∙◌, refl}
+use Rattle.std.proofs.Common.{◌∙◌, arith, refl}
 use Rattle.shrink.specs.Shrinking.{all_end, whole}
 use Rattle.shrink.proofs.Parts.{part_on, refused_on}
 use Rattle.shrink.proofs.Walks.{one_more, walk_keeps}
+use Rattle.std.proofs.lemmas.Grind.{common_steps}
 use Rattle.std.proofs.lemmas.Result.{err_from_is_err_and}
 use Rattle.shrink.proofs.lessening.fewest_lies.Goals as goal
 
@@ -13,11 +14,11 @@ loop-place-preserved c = record {
   broken = c.in_ok-left.ensures.broken;
   part = part_on c.args.plot c.loop-place.left c.loop-place.invariant.part c.in_ok-left.ensures.part;
   same = walk_keeps c.loop-place.place c.in_ok-left.left c.in_ok-left.ensures.walk ∙ c.loop-place.invariant.same;
-  far = one_more c.args.plot c.loop-place.left c.in_ok-left.left c.loop-place.place (rw c.loop-place.invariant.same c.loop-place-test.true) c.in_ok-left.ensures.walk c.loop-place.invariant.far;
+  far = one_more c.args.plot c.loop-place.left c.in_ok-left.left c.loop-place.place (grind (arith, common_steps)) c.in_ok-left.ensures.walk c.loop-place.invariant.far;
 }
 
 pub returns-clause-walk : goal.returns-clause-walk
-returns-clause-walk c = c.loop-place.invariant.far c.loop-place.left (all_end c.loop-place.place (rw c.loop-place.invariant.same c.loop-place-test.false))
+returns-clause-walk c = c.loop-place.invariant.far c.loop-place.left (all_end c.loop-place.place (grind (arith, common_steps)))
 
 pub returns-in_err-left-clause-refused : goal.returns-in_err-left-clause-refused
 returns-in_err-left-clause-refused c =

@@ -1,7 +1,8 @@
 use Rattle.shrink.specs.Shrinking.{IsStillBroken, lies_end, whole, without_lie}
-use Rattle.std.proofs.Common.{◌≡◌}
+use Rattle.std.proofs.Common.{◌≡◌, arith}
 use Rattle.shrink.proofs.Parts.{none_of, out_on, some_of, refused_on}
 use Rattle.shrink.proofs.Walks.{fewer_lies_left, still_there, with_lie_of, without_lie_of}
+use Rattle.std.proofs.lemmas.Grind.{common_steps}
 use Rattle.std.proofs.lemmas.Result.{err_from_is_err_and}
 use Rattle.shrink.proofs.lessening.fewest_lies_of.Goals as goal
 
@@ -16,7 +17,7 @@ loop-index-preserved-in-Some c =
       broken = next.0;
       part = next.1;
       there = still_there c.loop-index.left c.in-Some.less c.args.place c.loop-index.index c.loop-index.invariant.there less;
-      far = without_lie_of c.args.plot c.loop-index.left c.in-Some.less c.args.place c.loop-index.index c.loop-index-test.true less next.0 c.loop-index.invariant.far;
+      far = without_lie_of c.args.plot c.loop-index.left c.in-Some.less c.args.place c.loop-index.index (grind (arith, common_steps)) less next.0 c.loop-index.invariant.far;
     }
 
 pub loop-index-preserved : goal.loop-index-preserved
@@ -24,16 +25,16 @@ loop-index-preserved c = record {
   broken = c.loop-index.invariant.broken;
   part = c.loop-index.invariant.part;
   there = c.loop-index.invariant.there;
-  far = with_lie_of c.args.plot c.loop-index.left c.args.place c.loop-index.index c.loop-index-test.true (none_of _ _ c.in-None.is c.in_ok-less.ensures.none) c.loop-index.invariant.far;
+  far = with_lie_of c.args.plot c.loop-index.left c.args.place c.loop-index.index (grind (arith, common_steps)) (none_of _ _ c.in-None.is c.in_ok-less.ensures.none) c.loop-index.invariant.far;
 }
 
 pub loop-index-smaller-in-Some : goal.loop-index-smaller-in-Some
 loop-index-smaller-in-Some c =
-    fewer_lies_left c.loop-index.left c.in-Some.less c.args.place c.loop-index.index c.loop-index.invariant.there c.loop-index-test.true
+    fewer_lies_left c.loop-index.left c.in-Some.less c.args.place c.loop-index.index c.loop-index.invariant.there (grind (arith, common_steps))
     (some_of _ c.in-Some.less (λ q. q ≡ without_lie c.loop-index.left c.args.place c.loop-index.index) c.in-Some.is c.in_ok-less.ensures.exact)
 
 pub returns-clause-walk : goal.returns-clause-walk
-returns-clause-walk c = c.loop-index.invariant.far c.loop-index.left (lies_end c.loop-index.index c.loop-index-test.false)
+returns-clause-walk c = c.loop-index.invariant.far c.loop-index.left (lies_end c.loop-index.index (grind (arith, common_steps)))
 
 pub returns-in_err-less-clause-refused : goal.returns-in_err-less-clause-refused
 returns-in_err-less-clause-refused c =

@@ -1,7 +1,8 @@
 use Rattle.shrink.specs.Shrinking.{IsStillBroken, traitors_end, whole, without_traitor}
-use Rattle.std.proofs.Common.{◌≡◌}
+use Rattle.std.proofs.Common.{◌≡◌, arith}
 use Rattle.shrink.proofs.Parts.{none_of, out_on, some_of, refused_on}
 use Rattle.shrink.proofs.Walks.{fewer_left, with_one, without_one}
+use Rattle.std.proofs.lemmas.Grind.{common_steps}
 use Rattle.std.proofs.lemmas.Result.{err_from_is_err_and}
 use Rattle.shrink.proofs.lessening.fewest_traitors.Goals as goal
 
@@ -14,7 +15,7 @@ loop-place-preserved-in-Some c =
     record {
       broken = next.0;
       part = next.1;
-      far = without_one c.args.plot c.loop-place.left c.in-Some.less c.loop-place.place c.loop-place-test.true
+      far = without_one c.args.plot c.loop-place.left c.in-Some.less c.loop-place.place (grind (arith, common_steps))
           (some_of _ c.in-Some.less (λ q. q ≡ without_traitor c.loop-place.left c.loop-place.place) c.in-Some.is c.in_ok-less.ensures.exact) next.0 c.loop-place.invariant.far;
     }
 
@@ -22,16 +23,16 @@ pub loop-place-preserved : goal.loop-place-preserved
 loop-place-preserved c = record {
   broken = c.loop-place.invariant.broken;
   part = c.loop-place.invariant.part;
-  far = with_one c.args.plot c.loop-place.left c.loop-place.place c.loop-place-test.true (none_of _ _ c.in-None.is c.in_ok-less.ensures.none) c.loop-place.invariant.far;
+  far = with_one c.args.plot c.loop-place.left c.loop-place.place (grind (arith, common_steps)) (none_of _ _ c.in-None.is c.in_ok-less.ensures.none) c.loop-place.invariant.far;
 }
 
 pub loop-place-smaller-in-Some : goal.loop-place-smaller-in-Some
 loop-place-smaller-in-Some c =
-    fewer_left c.loop-place.left c.in-Some.less c.loop-place.place c.loop-place-test.true
+    fewer_left c.loop-place.left c.in-Some.less c.loop-place.place (grind (arith, common_steps))
     (some_of _ c.in-Some.less (λ q. q ≡ without_traitor c.loop-place.left c.loop-place.place) c.in-Some.is c.in_ok-less.ensures.exact)
 
 pub returns-clause-walk : goal.returns-clause-walk
-returns-clause-walk c = c.loop-place.invariant.far c.loop-place.left (traitors_end c.loop-place.place c.loop-place-test.false)
+returns-clause-walk c = c.loop-place.invariant.far c.loop-place.left (traitors_end c.loop-place.place (grind (arith, common_steps)))
 
 pub returns-in_err-less-clause-refused : goal.returns-in_err-less-clause-refused
 returns-in_err-less-clause-refused c =
