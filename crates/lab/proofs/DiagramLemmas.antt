@@ -22,6 +22,9 @@ use Rattle.tree.specs.LieutenantTree.{LieutenantTree}
 use Rattle.world.specs.Chronicle.{Chronicle}
 use Rattle.lab.specs.Diagrams.{IsDiagram}
 use Rattle.lab.specs.Promises.{AreFaithful}
+use Rattle.lab.proofs.BlameLemmas.{signed_played_blames, signed_told_blames}
+use Rattle.lab.proofs.CampaignLemmas.{played_wholly, told_wholly}
+use Rattle.lab.proofs.PromiseLemmas.{played_faithful, played_kept, signed_played_kept, signed_told_kept, told_faithful, told_kept}
 
 one_table : (text : List ℕ) (a b : MessageTable) → table_told text ≡ Ok a → table_told text ≡ Ok b → a ≡ b
 one_table text a b e f = cc
@@ -64,3 +67,12 @@ of_same c own picture same drawn = subst (λ (x : Chronicle). IsDiagram x pictur
 
 pub of_signed : (c own : Chronicle) (picture : List ℕ) → c ≡ own → picture ≡ signed_svg c → picture ≡ signed_svg own
 of_signed c own picture same is = is ∙ ap signed_svg same
+
+-- of a picture by a schedule, and of one of a chronicle's text
+pub ruleset played_drawn = (played_wholly, of_same, played_faithful, played_kept)
+
+pub ruleset told_drawn = (told_wholly, of_same, told_faithful, told_kept)
+
+pub ruleset signed_played_drawn = (of_signed, signed_played_blames, signed_played_kept)
+
+pub ruleset signed_told_drawn = (of_signed, signed_told_blames, signed_told_kept)
