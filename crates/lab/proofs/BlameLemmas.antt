@@ -93,7 +93,7 @@ module _ (c : Chronicle)
 
   all_honest : BlamesSignedTraitors c
   unfolding strokes_of
-  all_honest = All-from_recursion IsSo (strokes_of c) (all_flat IsSo (behind c) (range_with_len 0 (c.scenario.bound + 1)) (λ before on. round_honest (before + 1)))
+  all_honest = record { honest = All-from_recursion IsSo (strokes_of c) (all_flat IsSo (behind c) (range_with_len 0 (c.scenario.bound + 1)) (λ before on. round_honest (before + 1))) }
 
 -- that of a complete list of events of a signed campaign
 complete_blames : (s : Scenario) (events : List Event) → IsScenario s → IsComplete signed_kind s events → BlamesSignedTraitors (signed_chronicle_of (played s events))

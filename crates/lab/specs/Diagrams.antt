@@ -30,9 +30,9 @@ IsDiagram c picture =
     × (picture ≡ svg_text table c)
 
 -- so is every stroke of a loyal general of a signed campaign
-abbrev pub BlamesSignedTraitors : Chronicle → Type 0
-BlamesSignedTraitors c =
-    All (λ drawn. is_traitor c.scenario drawn.stroke.teller ≡ false → IsDrawnHonest drawn.stroke) (strokes_of c)
+pub record BlamesSignedTraitors (c : Chronicle) : Type 0 where
+  pub honest :
+      All (λ drawn. is_traitor c.scenario drawn.stroke.teller ≡ false → IsDrawnHonest drawn.stroke) (strokes_of c)
 
 -- the picture is that of a signed campaign's chronicle, and its loyal generals' strokes are drawn so
 abbrev pub IsSignedDiagram : Chronicle → List ℕ → Type 0
