@@ -53,7 +53,6 @@ fn oral_diagrammed(
 }
 
 /// A signed one.
-#[tactic(auto, using(crate::proofs::DiagramLemmas::signed_played_drawn))]
 fn signed_diagrammed(
     alloc: Global,
     scenario: Scenario,
@@ -101,7 +100,6 @@ fn oral_record_diagrammed(
 }
 
 /// A signed one.
-#[tactic(auto, using(crate::proofs::DiagramLemmas::signed_told_drawn))]
 fn signed_record_diagrammed(
     alloc: Global,
     scenario: &Scenario,

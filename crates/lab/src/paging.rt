@@ -55,7 +55,6 @@ fn oral_paged(
 }
 
 /// A signed one.
-#[tactic(auto, using(crate::proofs::PageLemmas::signed_played_paged))]
 fn signed_paged(
     alloc: Global,
     text: &str,
@@ -106,7 +105,6 @@ fn oral_record_paged(
 }
 
 /// A signed one.
-#[tactic(auto, using(crate::proofs::PageLemmas::signed_told_paged))]
 fn signed_record_paged(
     alloc: Global,
     text: &str,
