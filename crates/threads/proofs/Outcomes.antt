@@ -1,6 +1,6 @@
 -- What stands before an outcome.
 use Rattle.std.proofs.Common.{◌≡◌, sym, subst}
-use Rattle.std.specs.Prelude.{Option, None, Some, Result, Ok, Err, IfOk}
+use Rattle.std.specs.Prelude.{Option, None, Some, Result, IfOk}
 use Rattle.threads.specs.declared.answers.Refused.{Refused}
 use Rattle.threads.specs.declared.error.MusterError.{MusterError}
 use Rattle.threads.specs.Answers.{ended_as}

@@ -1,7 +1,7 @@
 //! Where a general waits for his next task.
 ghost use Rattle.std.specs.Prelude.{◌≡◌, IfErr};
 ghost use Rattle.threads.specs.Inboxes.{task_in, left_in};
-ghost use Rattle.threads.specs.declared.inbox.Phase.TheVariants.{Given, Closed};
+ghost use Rattle.threads.specs.declared.inbox.Phase.TheVariants.{Given, Closed as NoMore};
 
 use crate::task::Task;
 use std::mem;
@@ -28,7 +28,7 @@ impl Phase {
 
     /// No task will come any more.
     fn close(&mut self)
-        ensures { self.new ≡ Closed }
+        ensures { self.new ≡ NoMore }
     {
         *self = Phase::Closed;
     }
@@ -41,7 +41,7 @@ impl Phase {
         match mem::replace(self, Phase::Waiting) {
             Phase::Given(task) => Some(task),
             Phase::Waiting | Phase::Closed => {
-                *self = Phase::Closed;
+                self.close();
                 None
             }
         }

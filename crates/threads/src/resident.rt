@@ -70,10 +70,10 @@ impl<'a, G: Gate, J: Room> Resident<'a, G, J> {
     ) -> Answer
         requires post { poster.table ≡ post.now.table }
         requires general { poster.general ≡ self.general }
-        ensures general { result.general ≡ self.general }
+        ensures general { result.general ≡ self.entry.general }
         ensures closed { IfOk result.ended (λ r. r.0.general ≡ self.entry.inbox.now.general) }
         ensures poster { IfOk result.ended (λ r. r.1.table ≡ post.now.table) }
-        ensures his { IfOk result.ended (λ r. r.1.general ≡ self.general) }
+        ensures his { IfOk result.ended (λ r. r.1.general ≡ self.entry.general) }
         ensures started { IfErr result.ended (λ e. e ≢ Spawn) }
     {
         let ended = self.do_tasks(rt, alloc, post, poster, me);

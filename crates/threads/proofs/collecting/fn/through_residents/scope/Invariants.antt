@@ -6,9 +6,9 @@ use Rattle.threads.proofs.collecting.fn.through_residents.scope.Given as goal
 
 abbrev pub invariant-loop-poster : goal.invariant-loop-poster
 invariant-loop-poster g l = record {
-  all : length l.handles.items + length l.posters.items ≡ length l.fn.posters.items;
+  all : length l.handles.items + length l.posters.items ≡ length l.initial.posters.items;
   few : length l.handles.items + length l.posters.items ≤ 13;
-  room : length l.fn.posters.items ≤ vec_capacity l.answers;
+  room : length l.initial.posters.items ≤ vec_capacity l.answers;
   fresh : l.answers.items ≡ [];
   witnesses : length l.posters.items ≤ length l.witnesses.items;
   inboxes : length l.posters.items ≤ length l.camp.now.inboxes.items;
