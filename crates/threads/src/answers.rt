@@ -53,10 +53,7 @@ pub(crate) fn found<T: Drop>(found: Option<T>) -> Result<T, MusterError>
 
 /// Keeps the handle of a thread that was started: what went wrong, where one was not or there is no memory for the
 /// handle.
-pub(crate) fn kept<H: Drop, E: Drop>(
-    handles: &mut Vec<H>,
-    started: Result<H, E>,
-) -> Option<Refused>
+pub(crate) fn kept<H: Drop, E: Drop>(handles: &mut Vec<H>, started: Result<H, E>) -> Option<Refused>
     ensures handle { MatchResult started
         (λ handle. MatchOption result (handles.new.items ≡ handles.old.items ++ handle ∷ []) (λ r. r.error ≡ Memory))
         (λ _. IsSomeAnd result (λ r. r.error ≡ Spawn)) }
