@@ -2,7 +2,7 @@
 -- a round those with the first rows.
 use Rattle.std.specs.Prelude.{ℕ, ◌+◌, ◌*◌, ◌==◌, ◌&&◌, nat_le, nat_lt, Bool, if◌then◌else◌, List, [], ◌++◌, codes, count_by, filter, flat_map}
 use Rattle.std.specs.Fmt.{decimal}
-use Rattle.std.specs.List.{range_with_len}
+use Rattle.std.specs.List.{list_any, range_with_len}
 use Rattle.board.specs.Board.{Access}
 use Rattle.diagram.specs.declared.stroke.Stroke.{Stroke}
 use Rattle.diagram.specs.Facts.{is_before}
@@ -20,6 +20,13 @@ has_row stroke = nat_lt stroke.row most_rows
 abbrev pub with_rows : List Stroke → List Stroke
 with_rows strokes = filter has_row strokes
 
+abbrev pub is_past : Stroke → Bool
+is_past stroke = nat_le most_rows stroke.row
+
+-- whether any is not
+abbrev pub is_cut : List Stroke → Bool
+is_cut strokes = list_any is_past strokes
+
 -- which of a round to p are not, and which of these an honest relay would not tell
 abbrev pub is_left : ℕ → ℕ → Stroke → Bool
 is_left round p stroke = nat_le most_rows stroke.row && is_before round p stroke
@@ -29,13 +36,18 @@ is_left_lie round p stroke = stroke.differs && is_left round p stroke
 
 -- how many they are, below the list; and the same for those who point at it, or hear it
 unfoldable pub left_words : ℕ → ℕ → List ℕ
-left_words left lies = codes "and " ++ (decimal left ++ (codes " more, " ++ (decimal lies ++ codes " dishonest")))
+left_words left lies = codes "and " ++ (decimal left ++ (codes " more rows, " ++ (decimal lies ++ codes " dishonest")))
 
 unfoldable pub left_in_full : ℕ → ℕ → ℕ → ℕ → List ℕ
 left_in_full p round left lies = codes "general "
-    ++ (decimal p ++ (codes " was told " ++ (decimal left ++ (codes " things more in round "
-    ++ (decimal round ++ (codes ", which are not drawn: in place of "
+    ++ (decimal p ++ (codes " has " ++ (decimal left ++ (codes " more rows in round "
+    ++ (decimal round ++ (codes ", which are not drawn: in "
     ++ (decimal lies ++ codes " of them an honest relay would tell something else")))))))
+
+-- what is told to those who do not see it, where any is not drawn
+unfoldable pub cut_words : List ℕ
+cut_words = codes " A list has at most " ++ (decimal most_rows
+    ++ codes " rows, of orders and of silence; below a longer one stands how many rows are not drawn.")
 
 abbrev pub more_told : ℕ → ℕ → ℕ → ℕ → List ℕ
 more_told p round left lies =

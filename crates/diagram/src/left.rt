@@ -1,7 +1,8 @@
 //! The strokes that a picture has room for, and how many it has none for.
 ghost use Rattle.std.specs.Prelude.{◌≡◌, ◌<◌, ◌++◌, ◌∷◌, [], codes, cond, count_by, string_bytes, IfOk, OnOk};
-ghost use Rattle.diagram.specs.Shapes.{text_at, title};
-ghost use Rattle.diagram.specs.Left.{has_row, is_left, is_left_lie, left_in_full, left_words, more_at, more_of, more_told, more_top, mores, mores_in, mores_of, with_rows};
+ghost use Rattle.std.specs.List.{list_any};
+ghost use Rattle.diagram.specs.Shapes.{said_if, text_at, title};
+ghost use Rattle.diagram.specs.Left.{cut_words, has_row, is_cut, is_left, is_left_lie, is_past, left_in_full, left_words, more_at, more_of, more_told, more_top, mores, mores_in, mores_of, with_rows};
 
 use crate::layout::{column, rows_top, top_of};
 use crate::shapes::{
@@ -34,6 +35,20 @@ fn has_row(stroke: &Stroke) -> bool
     ensures { result ≡ has_row stroke.now }
 {
     stroke.row < MOST
+}
+
+/// Whether one of these is not drawn.
+pub(crate) fn is_cut(strokes: &[Stroke]) -> bool
+    ensures { result ≡ is_cut strokes.now }
+{
+    strokes.iter().any(|stroke| is_past(stroke))
+}
+
+/// Whether a stroke is not drawn.
+fn is_past(stroke: &Stroke) -> bool
+    ensures { result ≡ is_past stroke.now }
+{
+    stroke.row >= MOST
 }
 
 /// Adds a stroke, if it is drawn.
@@ -211,8 +226,8 @@ fn put_left_in_full(
 {
     write!(
         out,
-        "general {general} was told {left} things more in round {round}, which are not drawn: in place of {lies} of \
-         them an honest relay would tell something else"
+        "general {general} has {left} more rows in round {round}, which are not drawn: in {lies} of them an honest \
+         relay would tell something else"
     )
 }
 
@@ -231,5 +246,26 @@ fn put_left_text(out: &mut String, left: usize, lies: usize) -> Result<(), Alloc
 fn put_left_words(out: &mut String, left: usize, lies: usize) -> Result<(), AllocError>
     ensures { OnOk result (string_bytes out.new ≡ string_bytes out.old ++ left_words left lies) }
 {
-    write!(out, "and {left} more, {lies} dishonest")
+    write!(out, "and {left} more rows, {lies} dishonest")
+}
+
+/// Adds for those who do not see the picture, where strokes are not drawn, that they are not.
+#[tactic(auto, unfolding(crate::specs::Shapes::said_if))]
+pub(crate) fn put_cut(out: &mut String, is_cut: bool) -> Result<(), AllocError>
+    ensures { OnOk result (string_bytes out.new ≡ string_bytes out.old ++ said_if is_cut cut_words) }
+{
+    if is_cut { put_cut_words(out) } else { Ok(()) }
+}
+
+/// Adds it in words.
+#[tactic(auto, unfolding(crate::specs::Left::cut_words))]
+fn put_cut_words(out: &mut String) -> Result<(), AllocError>
+    ensures { OnOk result (string_bytes out.new ≡ string_bytes out.old ++ cut_words) }
+{
+    let most = MOST;
+    write!(
+        out,
+        " A list has at most {most} rows, of orders and of silence; below a longer one stands how many rows are not \
+         drawn."
+    )
 }

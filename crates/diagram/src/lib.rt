@@ -9,6 +9,7 @@ mod laws;
 pub mod layout;
 mod left;
 pub mod legend;
+mod mark;
 pub mod shapes;
 mod stroke;
 pub mod svg;
@@ -18,6 +19,7 @@ pub mod words;
 
 pub use facts::strokes;
 pub use laws::{diagrams_are_elements, only_traitors_differ, strokes_are_exact};
+pub use mark::Marks;
 pub use stroke::Stroke;
 pub use svg::campaign_svg;
 pub use words::put_access_words;
