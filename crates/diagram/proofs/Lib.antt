@@ -3,7 +3,7 @@ pub mod TallyLemmas
 pub mod ExactLaws
 pub mod FoldLemmas
 pub mod LayoutLemmas
-mod LegendLemmas
+pub mod LegendLemmas
 pub mod LoyalLaws
 pub mod PictureLemmas
 pub mod SvgLaws

@@ -558,7 +558,7 @@ unfolding said_if
 said_text true words t = t
 said_text false words t = no_text
 
-three_texts : (a b c : Bool) (x y z : List ℕ) → IsText x → IsText y → IsText z → IsText (said_if a x ++ said_if b y ++ said_if c z)
+pub three_texts : (a b c : Bool) (x y z : List ℕ) → IsText x → IsText y → IsText z → IsText (said_if a x ++ said_if b y ++ said_if c z)
 three_texts a b c x y z tx ty tz = many (said_if a x ++ said_if b y) (said_if c z) (many (said_if a x) (said_if b y) (said_text a x tx) (said_text b y ty)) (said_text c z tz)
 
 stroke_key_text : (marks : Marks) → IsText (stroke_key marks)
@@ -595,7 +595,7 @@ described_content words more w m =
     subst IsContent (sym (description_parts (codes "<desc>") words more (codes "</desc>") (codes "\n")))
     (fed (element (codes "desc") [] (words ++ more)) (nested (codes "desc") [] (words ++ more) (bare_tag (codes "desc") refl) (text (words ++ more) (many words more w m))))
 
-description_whole : (start a b c d end : List ℕ) → start ++ (a ++ b ++ c ++ d) ++ end ≡ start ++ a ++ b ++ c ++ d ++ end
+pub description_whole : (start a b c d end : List ℕ) → start ++ (a ++ b ++ c ++ d) ++ end ≡ start ++ a ++ b ++ c ++ d ++ end
 description_whole start a b c d end = simp append_assoc
 
 description_content : (accesses : List Access) (marks : Marks) (cut : Bool) → IsContent (description accesses marks cut)

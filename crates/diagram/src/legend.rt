@@ -162,14 +162,7 @@ fn put_shape_meanings(out: &mut String, marks: Marks, place: u128) -> Result<(),
     let square = shape_of(true);
     let circle = shape_of(false);
     let point = outline_of(false, None);
-    put_shape_if(
-        out,
-        marks.square,
-        place,
-        "traitor key",
-        square,
-        "a traitor",
-    )?;
+    put_shape_if(out, marks.square, place, "traitor key", square, "a traitor")?;
     put_shape_if(
         out,
         marks.loyal,
@@ -285,11 +278,7 @@ pub fn put_shape_key(out: &mut String, marks: Marks) -> Result<(), AllocError>
         " Above the lines stand the accesses to the board, in its order.",
     )?;
     put_if(out, marks.square, " Square: a traitor.")?;
-    put_if(
-        out,
-        marks.loyal,
-        " Circle at a name: a loyal general.",
-    )?;
+    put_if(out, marks.loyal, " Circle at a name: a loyal general.")?;
     Ok(())
 }
 

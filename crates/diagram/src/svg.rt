@@ -189,11 +189,7 @@ fn put_stroke_key(out: &mut String, marks: Marks) -> Result<(), AllocError>
         marks.circle,
         " Circle and plain line: as an honest relay tells it.",
     )?;
-    put_if(
-        out,
-        marks.diamond,
-        " Diamond and dashes: something else.",
-    )?;
+    put_if(out, marks.diamond, " Diamond and dashes: something else.")?;
     put_if(
         out,
         marks.cross,
