@@ -36,7 +36,8 @@ const CHRONICLE: Place<'static> = Place {
 
 const ACCESSES: Place<'static> = Place {
     name: "CHRONICLE",
-    help: "What `play` or `muster` has printed of this campaign; with --accesses the accesses themselves, as '5 4 / 4 5'",
+    help: "What `play` or `muster` has printed of this campaign; with --accesses the accesses themselves, \
+           as '5 4 / 4 5'",
 };
 
 const SCHEDULED: Flag<'static> = Flag::Option {
