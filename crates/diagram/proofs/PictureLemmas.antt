@@ -10,8 +10,9 @@ use Rattle.diagram.specs.Bands.{bands}
 use Rattle.diagram.specs.Facts.{strokes_of}
 use Rattle.diagram.specs.Foot.{foot}
 use Rattle.diagram.specs.Layout.{top_of, width}
-use Rattle.diagram.specs.Left.{is_cut, mores, with_rows}
+use Rattle.diagram.specs.Left.{is_cut, mores}
 use Rattle.diagram.specs.Legend.{foot_height, marks_of}
+use Rattle.diagram.specs.Lists.{with_rows}
 use Rattle.diagram.specs.Svg.{box_words, head, heads, start, svg_text}
 
 regrouped : (a b c d e m f g : List ℕ) → ((((((a ++ b) ++ c) ++ d) ++ e) ++ m) ++ f) ++ g ≡ ((a ++ b) ++ ((((c ++ d) ++ e) ++ m) ++ f)) ++ g

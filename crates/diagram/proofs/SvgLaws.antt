@@ -21,7 +21,8 @@ use Rattle.diagram.specs.Foot.{alike_words, bound_words, decided, decided_all, d
 use Rattle.diagram.specs.Laws.{DiagramsAreElements}
 use Rattle.diagram.specs.Legend.{differs_meaning, foot_height, legend, legend_of, marks_of, meaning_at, meaning_if, missing_meaning, one_if, rows, shape_if, shape_key, shape_meanings, stroke_meanings, stroke_rows, told_meaning, wide_meaning}
 use Rattle.diagram.specs.Layout.{access_top, board, column, fan_top, height, rows_top, top_of, width}
-use Rattle.diagram.specs.Left.{cut_words, is_cut, is_left, is_left_lie, left_in_full, left_words, more_at, more_of, more_told, more_top, mores, mores_in, most_rows, with_rows}
+use Rattle.diagram.specs.Left.{cut_words, is_cut, is_left, is_left_lie, left_in_full, left_words, more_at, more_of, more_told, more_top, mores, mores_in}
+use Rattle.diagram.specs.Lists.{most_rows, with_rows}
 use Rattle.diagram.specs.Shapes.{group_at, group_start, line, mark, said_if, shape_of, sort_of, stroke_at, stroke_open, stroke_way, text_at, text_start, title}
 use Rattle.diagram.specs.Svg.{board_head, box_words, campaign_words, description, general_head, head, head_of, heads, key_end, key_start, look, picture, start, stroke_key, svg_text}
 use Rattle.diagram.specs.Words.{access_words, answer_words, asked_words, copied_words, copy_words, differs_words, from_words, general_words, in_full, is_copy, kind, kind_of, labels_words, order_words, outline, outline_of, role_words, row_words, shown_words, stroke_words, swap_words, tells_words, word_words}
@@ -578,8 +579,12 @@ shape_key_text marks =
 cut_text : IsText cut_words
 unfolding cut_words
 cut_text =
-    let last : List ℕ = codes " rows, of orders and of silence; below a longer one stands how many rows are not drawn." in
-    many (codes " A list has at most ") (decimal most_rows ++ last) (bare_text (codes " A list has at most ") refl) (many (decimal most_rows) last (decimal_text most_rows) (bare_text last refl))
+    let first : List ℕ = codes " rows, of orders and of silence. A longer one begins with the first row of each teller in which an " in
+    let second : List ℕ = codes "honest relay would tell something else, then come the others of this kind, then the rest; below it stands how " in
+    let third : List ℕ = codes "many are not drawn." in
+    many (codes " A list has at most ") (decimal most_rows ++ (first ++ (second ++ third))) (bare_text (codes " A list has at most ") refl)
+    (many (decimal most_rows) (first ++ (second ++ third)) (decimal_text most_rows)
+    (many first (second ++ third) (bare_text first refl) (many second third (bare_text second refl) (bare_text third refl))))
 
 pub copied_text : (accesses : List Access) → IsText (flat_map copied_words accesses)
 copied_text accesses =

@@ -12,8 +12,9 @@ use Rattle.diagram.specs.Bands.{bands}
 use Rattle.diagram.specs.Facts.{strokes_of}
 use Rattle.diagram.specs.Foot.{foot}
 use Rattle.diagram.specs.Layout.{board, column, top_of, width}
-use Rattle.diagram.specs.Left.{cut_words, is_cut, mores, with_rows}
+use Rattle.diagram.specs.Left.{cut_words, is_cut, mores}
 use Rattle.diagram.specs.Legend.{foot_height, marks_of, shape_key}
+use Rattle.diagram.specs.Lists.{with_rows}
 use Rattle.diagram.specs.Shapes.{group_at, mark, said_if, shape_of, sort_of, text_at, title}
 use Rattle.diagram.specs.Words.{copied_words, general_words, role_words}
 
@@ -52,7 +53,8 @@ key_end = codes "</desc>\n"
 
 abbrev pub description : List Access → Marks → Bool → List ℕ
 description accesses marks cut =
-    key_start ++ stroke_key marks ++ shape_key marks ++ said_if cut cut_words ++ flat_map copied_words accesses ++ key_end
+    key_start ++ stroke_key marks ++ shape_key marks ++ said_if cut cut_words ++ flat_map copied_words accesses
+    ++ key_end
 
 -- how it looks: on paper, and on a dark ground where one is wished for
 unfoldable pub look : List ℕ
@@ -105,7 +107,8 @@ svg_with strokes drawn c =
     let wide = width s.generals c.accesses in
     let marks = marks_of s c.accesses drawn in
     picture (wide + 16) (bottom + foot_height marks)
-    (head s c.accesses marks (is_cut strokes) ++ heads s c.accesses ++ bands s.generals drawn c.accesses wide (s.bound + 1)
+    (head s c.accesses marks (is_cut strokes) ++ heads s c.accesses
+    ++ bands s.generals drawn c.accesses wide (s.bound + 1)
     ++ mores s.generals strokes drawn c.accesses (s.bound + 1)
     ++ foot c marks wide bottom)
 

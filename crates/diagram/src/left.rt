@@ -2,18 +2,17 @@
 ghost use Rattle.std.specs.Prelude.{◌≡◌, ◌<◌, ◌++◌, ◌∷◌, [], codes, cond, count_by, string_bytes, IfOk, OnOk};
 ghost use Rattle.std.specs.List.{list_any};
 ghost use Rattle.diagram.specs.Shapes.{said_if, text_at, title};
-ghost use Rattle.diagram.specs.Left.{cut_words, has_row, is_cut, is_left, is_left_lie, is_past, left_in_full, left_words, more_at, more_of, more_told, more_top, mores, mores_in, mores_of, with_rows};
+ghost use Rattle.diagram.specs.Lists.{has_row, with_rows};
+ghost use Rattle.diagram.specs.Left.{cut_words, is_cut, is_left, is_left_lie, is_past, left_in_full, left_words, more_at, more_of, more_told, more_top, mores, mores_in, mores_of};
 
 use crate::layout::{column, rows_top, top_of};
+use crate::order::MOST;
 use crate::shapes::{
     put_group_end, put_group_start, put_text_end, put_text_start, put_title_end, put_title_start,
 };
 use crate::stroke::Stroke;
 use board::Access;
 use std::alloc::{AllocError, Global};
-
-/// How many rows the list of what a lieutenant was told in a round has at most.
-const MOST: usize = 24;
 
 /// Those that are drawn.
 ///
@@ -160,7 +159,7 @@ fn count_left_lies(strokes: &[Stroke], round: usize, receiver: u8) -> usize
 {
     strokes
         .iter()
-        .filter(|x| x.differs && (x.row >= MOST && (x.round == round && x.receiver == receiver)))
+        .filter(|x| x.row >= MOST && (x.differs && (x.round == round && x.receiver == receiver)))
         .count()
 }
 
@@ -265,7 +264,8 @@ fn put_cut_words(out: &mut String) -> Result<(), AllocError>
     let most = MOST;
     write!(
         out,
-        " A list has at most {most} rows, of orders and of silence; below a longer one stands how many rows are not \
-         drawn."
+        " A list has at most {most} rows, of orders and of silence. A longer one begins with the first row of each \
+         teller in which an honest relay would tell something else, then come the others of this kind, then the rest; \
+         below it stands how many are not drawn."
     )
 }

@@ -9,7 +9,9 @@ mod laws;
 pub mod layout;
 mod left;
 pub mod legend;
+mod lists;
 mod mark;
+mod order;
 pub mod shapes;
 mod stroke;
 pub mod svg;
@@ -18,7 +20,7 @@ mod tellings;
 pub mod words;
 
 pub use facts::strokes;
-pub use laws::{diagrams_are_elements, only_traitors_differ, strokes_are_exact};
+pub use laws::{diagrams_are_elements, only_traitors_differ, rows_are_exact, strokes_are_exact};
 pub use mark::Marks;
 pub use stroke::Stroke;
 pub use svg::campaign_svg;

@@ -1,7 +1,7 @@
 //! A campaign as a picture in SVG.
 ghost use Rattle.std.specs.Prelude.{◌≡◌, ◌<◌, ◌++◌, codes, flat_map, string_bytes, IfOk, OnOk};
 ghost use Rattle.std.specs.List.{range_with_len};
-ghost use Rattle.diagram.specs.Shapes.{text_at};
+ghost use Rattle.diagram.specs.Shapes.{text_at, title};
 ghost use Rattle.diagram.specs.Words.{general_words};
 ghost use Rattle.diagram.specs.Svg.{board_head, box_words, campaign_words, description, general_head, head, head_of, heads, key_end, key_start, look, start, stroke_key, svg_text};
 
@@ -106,6 +106,18 @@ fn put_head(
     ensures { OnOk result (string_bytes out.new ≡ string_bytes out.old
         ++ head scenario.now accesses.now marks is_cut) }
 {
+    put_title_of(out, scenario)?;
+    put_description(out, accesses, marks, is_cut)?;
+    out.push_str(look())?;
+    put_headline(out, scenario)?;
+    Ok(())
+}
+
+/// Adds which campaign it is, as the picture's title.
+fn put_title_of(out: &mut String, scenario: &Scenario) -> Result<(), AllocError>
+    ensures { OnOk result (string_bytes out.new ≡ string_bytes out.old
+        ++ title (campaign_words scenario.now.generals scenario.now.bound scenario.now.commander scenario.now.order)) }
+{
     put_title_start(out)?;
     put_campaign(
         out,
@@ -114,9 +126,14 @@ fn put_head(
         scenario.commander(),
         scenario.order(),
     )?;
-    put_title_end(out)?;
-    put_description(out, accesses, marks, is_cut)?;
-    out.push_str(look())?;
+    put_title_end(out)
+}
+
+/// Adds it above the columns.
+fn put_headline(out: &mut String, scenario: &Scenario) -> Result<(), AllocError>
+    ensures { OnOk result (string_bytes out.new ≡ string_bytes out.old ++ text_at (codes "head") 16 28
+        (campaign_words scenario.now.generals scenario.now.bound scenario.now.commander scenario.now.order)) }
+{
     put_text_start(out, "head", 16, 28)?;
     put_campaign(
         out,

@@ -1,5 +1,6 @@
 //! A campaign of signed messages as a picture in SVG.
 ghost use Rattle.std.specs.Prelude.{◌≡◌, ◌++◌, string_bytes, IfOk, OnOk};
+ghost use Rattle.diagram.specs.Shapes.{title};
 ghost use Rattle.diagram.specs.Svg.{campaign_words};
 ghost use Rattle.signed_diagram.specs.Svg.{description, head, headline, key_start, signed_svg, signed_words, stroke_key};
 
@@ -70,12 +71,20 @@ fn put_head(
     ensures { OnOk result (string_bytes out.new ≡ string_bytes out.old
         ++ head scenario.now strokes.now accesses.now marks) }
 {
-    put_title_start(out)?;
-    put_signed_words(out, scenario)?;
-    put_title_end(out)?;
+    put_title_of(out, scenario)?;
     put_description(out, strokes, accesses, marks)?;
     out.push_str(look())?;
-    put_headline(out, scenario)
+    put_headline(out, scenario)?;
+    Ok(())
+}
+
+/// Adds which campaign it is, as the picture's title.
+fn put_title_of(out: &mut String, scenario: &Scenario) -> Result<(), AllocError>
+    ensures { OnOk result (string_bytes out.new ≡ string_bytes out.old ++ title (signed_words scenario.now)) }
+{
+    put_title_start(out)?;
+    put_signed_words(out, scenario)?;
+    put_title_end(out)
 }
 
 /// Adds the campaign's numbers and, beside the columns, that its messages are signed.
