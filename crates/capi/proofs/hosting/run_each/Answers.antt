@@ -23,12 +23,3 @@ loop-index-preserved c =
       (λ bytes spelt. first_set (λ (j : ℕ) (x : Outcome). IsOutcome bytes (context_at contexts j) x) c.loop-index.outcomes i o (ended bytes spelt) (c.loop-index.invariant.1 bytes spelt)),
       (λ bytes spelt. each_set (λ (j : ℕ) (x : Outcome). IsOutcome bytes (context_at contexts j) x ⊎ (slice_get before j ≡ Some x)) c.loop-index.outcomes i o (inl (ended bytes spelt)) (c.loop-index.invariant.2 bytes spelt)),
     )
-
-pub slice_bounds-new-end : goal.slice_bounds-new-end
-slice_bounds-new-end c = ?
-
-pub new-first-requires : goal.new-first-requires
-new-first-requires c = ?
-
-pub returns-clause-ran : goal.returns-clause-ran
-returns-clause-ran c = ?
