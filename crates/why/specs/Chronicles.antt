@@ -11,9 +11,8 @@ use Rattle.why.specs.Report.{has_words, report_text, shown_line}
 -- ---- of a schedule
 
 abbrev pub schedule_sentence : List ℕ
-schedule_sentence =
-    codes "a line is entries with one space between them, `G` or `G*K` for K of them, G being 0 to 12 and K 1 to 4096; "
-    ++ codes "a schedule has at most 5 lines and 1048576 bytes"
+schedule_sentence = codes
+    "a line is entries with one space between them, `G` or `G*K` for K of them, G being 0 to 12 and K 1 to 4096; a schedule has at most 5 lines and 1048576 bytes"
 
 abbrev pub schedule_advice : ℕ → List ℕ → Option (List ℕ)
 schedule_advice number line =
