@@ -8,7 +8,7 @@ use crate::resident::Answer;
 use delivery::Told;
 use letter::Round;
 
-/// What a campaign by threads has come to: `told` alone tells it, so no failure is lost.
+/// What a campaign by threads has come to. What it is told as is told by `told` alone, so no answer is lost.
 #[derive(Drop)]
 pub(crate) struct Ending {
     refused: Option<Refused>,
