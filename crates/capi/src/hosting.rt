@@ -1,5 +1,5 @@
 //! Programs that run alone.
-ghost use Rattle.std.specs.Prelude.{◌≡◌, ◌*◌, List, ℕ, IfOk, length};
+ghost use Rattle.std.specs.Prelude.{◌≡◌, ◌*◌, List, [], ℕ, IfOk, length};
 ghost use Rattle.codec.specs.Program.{SpellsProgram};
 ghost use Rattle.semantics.specs.Outbox.{empty_outbox};
 ghost use Rattle.semantics.specs.Relay.{oral};
@@ -26,6 +26,16 @@ const HOST: Shape = Shape {
     round: 1,
 };
 
+/// His outbox, in which nothing is put yet.
+#[inline(never)]
+fn outbox(alloc: Global) -> Result<Outbox, AllocError>
+    ensures relay { IfOk result (λ o. o.relay ≡ oral host) }
+    ensures empty { IfOk result (λ o. o.rows ≡ empty_outbox o.relay) }
+    ensures unentered { IfOk result (λ o. o.entries ≡ []) }
+{
+    Outbox::new(alloc, HOST)
+}
+
 /// Runs a program on this board, as that general of four who relays nothing.
 pub fn run_hosted(
     alloc: Global,
@@ -35,11 +45,12 @@ pub fn run_hosted(
 ) -> Result<Outcome, AllocError>
     ensures { IfOk result (λ o. Exits board.old.words verified.now context.now o.r0 o.steps board.new.words) }
 {
-    let mut activation = Activation::start(verified, context, Outbox::new(alloc, HOST)?);
+    let mut activation = Activation::start(verified, context, outbox(alloc)?);
     run_begun(verified, context, board, &mut activation)
 }
 
-/// Runs an activation that has just been started, on this board.
+/// Runs an activation that has just been started, on this board. It stands once in the library.
+#[inline(never)]
 fn run_begun(
     verified: &Verified,
     context: &Context,
@@ -89,14 +100,10 @@ pub fn run_each(
         AreBegun bytes contexts.now outcomes.old outcomes.new }
 {
     let blank = [0; Context::BYTES];
-    let mut activation = Activation::start(
-        verified,
-        &Context::new(&blank),
-        Outbox::new(alloc, HOST)?,
-    );
+    let mut activation = Activation::start(verified, &Context::new(&blank), outbox(alloc)?);
     for index in 0..outcomes.len() {
         let context = Context::new(&contexts[4096 * index..4096 * index + 4096]);
-        activation.restart(verified, &context, Outbox::new(alloc, HOST)?);
+        activation.restart(verified, &context, outbox(alloc)?);
         outcomes[index] = run_afresh(alloc, verified, &context, &mut activation)?;
     }
     Ok(())
