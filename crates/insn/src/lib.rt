@@ -8,7 +8,7 @@ mod recalling;
 mod reg;
 mod size;
 
-pub use code::Code;
+pub use code::{Change, Code, Other};
 pub use insn::{Insn, Operand, Size};
 pub use program::{Program, code_at};
 pub use reg::Reg;
