@@ -12,10 +12,8 @@ pub(crate) enum Flow {
 /// How a program goes on after an instruction.
 #[derive(Clone, Copy, Debug, PartialEq, Eq)]
 pub(crate) enum Stride {
-    /// It goes on at the next unit.
-    Next,
     /// It goes on at the unit.
-    To(usize),
+    Onward(usize),
     /// It calls the helper of this number.
     Call(i32),
     /// It exits.
