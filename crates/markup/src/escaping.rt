@@ -1,25 +1,11 @@
 //! Texts of others, so written that a reader of XML takes none of them for markup.
 ghost use Rattle.std.specs.Prelude.{◌≡◌, ◌++◌, string_bytes, OnOk, option_map};
-ghost use Rattle.std.specs.Str.{chars, encode_utf8_all};
-ghost use Rattle.markup.specs.Escaped.{escaped, is_character, reference, shown, written};
+ghost use Rattle.std.specs.Str.{encode_utf8_all};
+ghost use Rattle.markup.specs.Escaped.{is_character, reference, shown, written};
 
 use std::alloc::AllocError;
 
-/// Adds a text, escaped: it may stand between tags, and in quotation marks as an attribute's value.
-///
-/// # Errors
-///
-/// No memory for the text.
-pub fn put_escaped(out: &mut String, text: &str) -> Result<(), AllocError>
-    ensures { OnOk result (string_bytes out.new ≡ string_bytes out.old ++ encode_utf8_all (escaped (chars text.now))) }
-{
-    for character in text.chars() {
-        put_character(out, character)?;
-    }
-    Ok(())
-}
-
-/// Adds a character, escaped.
+/// Adds a character, escaped: so it may stand between tags, and in quotation marks as part of an attribute's value.
 ///
 /// # Errors
 ///

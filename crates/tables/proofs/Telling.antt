@@ -82,7 +82,7 @@ rule_read : (rule : Rule) → rule_parts (rule_parts_of rule) ≡ Some rule
 rule_read rule = told_by (is_default rule) refl
   where
     told_by : (is_none : Bool) → is_default rule ≡ is_none → rule_parts (if is_none then [] else codes "rule" ∷ rule_name rule ∷ []) ≡ Some rule
-    told_by true e = ap Some (sym (names_law.default rule e))
+    told_by true e = ap Some (sym ((names_law.default rule).0 e))
     told_by false e = names_law.read rule
 
 parts_read : (n m c : ℕ) (parts : List (List ℕ)) (rule : Rule) → rule_parts parts ≡ Some rule → head_parts (codes "generals" ∷ decimal n ∷ codes "bound" ∷ decimal m ∷ codes "commander" ∷ decimal c ∷ parts) ≡ Some (decimal n, decimal m, decimal c, rule)

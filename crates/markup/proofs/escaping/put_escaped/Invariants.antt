@@ -1,9 +1,0 @@
-use Rattle.std.proofs.Common.{◌≡◌, ◌++◌}
-use Rattle.std.specs.Str.{encode_utf8_all}
-use Rattle.std.specs.String.{string_bytes}
-use Rattle.markup.specs.Escaped.{escaped}
-use Rattle.markup.proofs.escaping.put_escaped.Given as goal
-
--- the characters so far
-abbrev pub invariant-loop-character : goal.invariant-loop-character
-invariant-loop-character l = string_bytes l.out ≡ string_bytes l.fn.out ++ encode_utf8_all (escaped l.yielded)
