@@ -9,6 +9,7 @@ pub mod MemoryTable
 pub mod Instructions
 pub mod Passes
 pub mod Knowledge
+pub mod Describes
 pub mod Transfer
 pub mod Judgement
 pub mod Laws
