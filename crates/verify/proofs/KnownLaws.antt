@@ -1,7 +1,6 @@
 -- In an accepted program each state of a run is as is known at its unit.
-use Rattle.std.proofs.Common.{◌≡◌, ◌∙◌, ℕ, zero, suc, ◌+◌, ◌-◌, ◌<◌, ◌≤◌, List, length, Option, Some, None, Result, Ok, Err, refl, sym, ap, subst, arith}
-use Rattle.std.specs.Prelude.{pos, replicate, option_map, IsSome}
-use Rattle.std.specs.Result.{result_ok}
+use Rattle.std.proofs.Common.{◌≡◌, ◌∙◌, ℕ, zero, suc, ◌+◌, ◌-◌, ◌<◌, ◌≤◌, List, length, Option, Some, None, Result, Ok, Err, refl, sym, subst, arith}
+use Rattle.std.specs.Prelude.{pos, IsSome}
 use Rattle.std.specs.List.{AllByRecursion}
 use Rattle.std.proofs.lemmas.Int.{ints}
 use Rattle.std.proofs.lemmas.List.{length-replicate}
@@ -32,7 +31,7 @@ use Rattle.verify.proofs.EdgesSound.{DescribedBy}
 use Rattle.verify.proofs.PassSound.{At, along_takes}
 use Rattle.verify.proofs.PassLaws.{stays}
 use Rattle.verify.proofs.Surveys.{on_the_pass, before_is}
-use Rattle.verify.proofs.JudgedSound.{Passed, unit_passed, step_at, some_is, first_start, empty, nothing_meant, Walks, walks, first_none}
+use Rattle.verify.proofs.JudgedSound.{Passed, unit_passed, step_at, some_is, first_start, empty, nothing_meant, walks, first_none}
 
 module _ (program : List Insn) (forward : IsForward program) (well : AllByRecursion IsInsn program) (some : 0 < length (slots_of program)) (last : KnownSoFar)
     (through : passed_to program (length (slots_of program)) ≡ Ok last) where
@@ -137,3 +136,22 @@ states_as_known program well some e context relay answers s c h reached =
     let parts = first_none (structural_fault program) (passed_to program (length (slots_of program))) e in
     let forward = forward_of_structure program parts.0 in
     as_known program forward well some parts.1 parts.2 s parts.0 (reached_stands program forward well some parts.1 parts.2 context relay (record { is_context = c; is_relay = h }) reached)
+
+-- a state of a run as the pass comes to its unit
+pub record Standing (program : List Insn) (s : State) : Type 0 where
+  pub within : s.unit < length (slots_of program)
+  pub start : IsSome (instruction_at program s.unit)
+  pub reached : KnownSoFar
+  pub comes : passed_to program s.unit ≡ Ok reached
+  pub described : DescribedBy (reached_at reached s.unit) s
+
+pub standing_of : (program : List Insn) → AllByRecursion IsInsn program → 0 < length (slots_of program) → judged program ≡ None →
+    (context : List ℕ) (relay : Relay) (answers : List (List ℕ)) (s : State) → IsContext context → IsRelay relay → Reached program context relay answers s → Standing program s
+unfolding judged
+standing_of program well some e context relay answers s c h reached =
+    let parts = first_none (structural_fault program) (passed_to program (length (slots_of program))) e in
+    let forward = forward_of_structure program parts.0 in
+    let stands = reached_stands program forward well some parts.1 parts.2 context relay (record { is_context = c; is_relay = h }) reached in
+    let within : s.unit < length (slots_of program) = start_inside program s.unit stands.inside in
+    let here = came program forward well some parts.1 parts.2 s.unit (omega (arith, within)) in
+    record { within = within; start = stands.inside; reached = here.0; comes = here.1; described = stands.known here.0 here.1 }

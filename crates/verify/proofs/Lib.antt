@@ -43,5 +43,6 @@ pub mod PassSound
 pub mod JudgedSound
 pub mod JudgedAnswers
 pub mod KnownLaws
+pub mod ReadyLemmas
 pub mod HandLaws
 pub mod CombineLemmas

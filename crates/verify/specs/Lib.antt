@@ -15,3 +15,4 @@ pub mod Judgement
 pub mod Laws
 pub mod Telling
 pub mod KnownAtUnits
+pub mod Ready
