@@ -12,7 +12,6 @@ mod watched;
 
 ghost use Rattle.std.specs.Prelude.{◌≡◌, ◌≢◌, ◌≤◌, Any, Ok, IfOk, IfErr, IfSome, IsOk, None, Some, false, max, option_map, true};
 ghost use Rattle.std.specs.Io.KnownBytes.{Appends};
-ghost use Rattle.std.specs.IoError.{error_kind};
 ghost use Rattle.command_line.specs.Told.{file_of, schedule_target_of, second_of, seed_of};
 ghost use Rattle.neighbours.specs.Seen.{reads_scenario};
 ghost use Rattle.neighbours.specs.Story.{with_story};
@@ -29,6 +28,7 @@ use lab::{Failure, FileName, Refusal, with_schedules};
 use neighbours::{Untaken, reads_scenario, with_files, with_story};
 use own_lines::refused;
 use progress::Progress;
+use std::alloc::AllocError;
 use std::env;
 use std::fmt::Display;
 use std::io::{self, Cursor, ErrorKind, Read};
@@ -137,13 +137,13 @@ fn ended<T: Threads + Wait + Sync>(rt: &HostRuntime, threads: &T, request: &Requ
 }
 
 /// How a request came out; where there was no memory to open a file, this is said first.
-fn settled(rt: &HostRuntime, outcome: io::Result<Ending>) -> Ending
+fn settled(rt: &HostRuntime, outcome: Result<Ending, AllocError>) -> Ending
     ensures done { IfOk outcome (λ ending. result ≡ ending) }
-    ensures lacking { IfErr outcome (λ error. result.status ≡ (failure_of (error_kind error)).1) }
+    ensures lacking { IfErr outcome (λ _. result.status ≡ (failure_of ErrorKind.OutOfMemory).1) }
 {
     match outcome {
         Ok(ending) => ending,
-        Err(error) => Ending::with(lacking(rt, error.kind())),
+        Err(_) => Ending::with(lacking(rt, ErrorKind::OutOfMemory)),
     }
 }
 
@@ -152,9 +152,8 @@ fn answered<T: Threads + Wait + Sync>(
     rt: &HostRuntime,
     threads: &T,
     request: &Request,
-) -> io::Result<Ending>
+) -> Result<Ending, AllocError>
     ensures status { IfOk result (λ ending. IsStatus ending.status) }
-    ensures memory { IfErr result (λ error. error_kind error ≡ ErrorKind.OutOfMemory) }
 {
     let Some((first, second)) = files(rt, request)? else {
         return Ok(Ending::with(1));
@@ -191,9 +190,8 @@ fn explored(
     scenario: &[u8],
     most: Option<u64>,
     folder: &str,
-) -> io::Result<Option<Ending>>
+) -> Result<Option<Ending>, AllocError>
     ensures status { IfOk result (λ done. IfSome done (λ ending. IsStatus ending.status)) }
-    ensures memory { IfErr result (λ error. error_kind error ≡ ErrorKind.OutOfMemory) }
 {
     match with_schedules(rt.alloc(), scenario, most) {
         Ok((text, schedules)) => {
@@ -201,7 +199,7 @@ fn explored(
             let ending = kept_and_printed(rt, request, kept, text.as_str(), &mut rt.stdout())?;
             Ok(Some(ending))
         }
-        Err(Refusal::Memory) => Err(io::Error::from(ErrorKind::OutOfMemory)),
+        Err(Refusal::Memory) => Err(AllocError),
         Err(_) => Ok(None),
     }
 }
@@ -213,13 +211,12 @@ fn kept_and_printed<O: Output>(
     kept: Result<(), Unkept>,
     text: &str,
     out: &mut O,
-) -> io::Result<Ending>
+) -> Result<Ending, AllocError>
     ensures status { IfOk result (λ ending. IsStatus ending.status) }
     ensures kept { IfOk result (λ ending. ending.status ≡ 0 → IsOk kept) }
     ensures printed { IfOk result
         (λ ending. ending.status ≡ 0 → Appends (O.contents out.old) (O.contents out.new) text.now) }
     ensures unwritten { IfOk result (λ ending. ending.is_unwritten ≡ true → O.fails out.old) }
-    ensures memory { IfErr result (λ error. error_kind error ≡ ErrorKind.OutOfMemory) }
 {
     if let Err(unkept) = kept {
         tell_unkept(rt, request, unkept)?;
@@ -236,24 +233,25 @@ fn kept_and_printed<O: Output>(
 }
 
 /// Says that a file was not written.
-fn tell_unkept(rt: &HostRuntime, request: &Request, unkept: Unkept) -> io::Result<()>
-    ensures memory { IfErr result (λ error. error_kind error ≡ ErrorKind.OutOfMemory) }
-{
+fn tell_unkept(rt: &HostRuntime, request: &Request, unkept: Unkept) -> Result<(), AllocError> {
     match unkept {
         Unkept::Unwritten(name, kind) => {
             let name = FileName(name.as_str());
             tell_untaken(rt, request, Unwritten { name }, Some(kind))
         }
-        Unkept::Memory => Err(io::Error::from(ErrorKind::OutOfMemory)),
+        Unkept::Memory => Err(AllocError),
     }
 }
 
 /// Writes the schedule of the seed behind a campaign that was played by it, where it is to be written.
-fn schedule_written(rt: &HostRuntime, request: &Request, ending: Ending) -> io::Result<Ending>
+fn schedule_written(
+    rt: &HostRuntime,
+    request: &Request,
+    ending: Ending,
+) -> Result<Ending, AllocError>
     ensures status { IsStatus ending.status → IfOk result (λ ending. IsStatus ending.status) }
     ensures unasked { schedule_target_of request.now.task ≡ None → result ≡ Ok ending }
     ensures undone { ending.status ≢ 0 → result ≡ Ok ending }
-    ensures memory { IfErr result (λ error. error_kind error ≡ ErrorKind.OutOfMemory) }
 {
     let (Some(seed), Some(name)) = (request.task.seed(), request.task.schedule_target()) else {
         return Ok(ending);
@@ -261,9 +259,7 @@ fn schedule_written(rt: &HostRuntime, request: &Request, ending: Ending) -> io::
     if ending.status != 0 {
         return Ok(ending);
     }
-    let Ok(text) = seeded(rt.alloc(), seed) else {
-        return Err(io::Error::from(ErrorKind::OutOfMemory));
-    };
+    let text = seeded(rt.alloc(), seed)?;
     match write_whole(rt, name, text.as_bytes()) {
         Ok(()) => Ok(ending),
         Err(unkept) => {
@@ -274,11 +270,10 @@ fn schedule_written(rt: &HostRuntime, request: &Request, ending: Ending) -> io::
 }
 
 /// The task's files; none where one of them does not open, after what says so.
-fn files(rt: &HostRuntime, request: &Request) -> io::Result<Option<(Input, Option<Input>)>>
+fn files(rt: &HostRuntime, request: &Request) -> Result<Option<(Input, Option<Input>)>, AllocError>
     ensures first { IfOk result (λ files. IfSome files (λ f. IsInputIf (file_of request.now.task) (Some f.0))) }
     ensures second { IfOk result
         (λ files. IfSome files (λ f. IsSecondIf (second_of request.now.task) (seed_of request.now.task) f.1)) }
-    ensures memory { IfErr result (λ error. error_kind error ≡ ErrorKind.OutOfMemory) }
 {
     let Some(first) = opened(rt, request, request.task.file())? else {
         return Ok(None);
@@ -294,17 +289,14 @@ fn files(rt: &HostRuntime, request: &Request) -> io::Result<Option<(Input, Optio
 }
 
 /// The random schedule of the task's seed, as a second file, where it has one.
-fn random(rt: &HostRuntime, task: &Task) -> io::Result<Option<Input>>
+fn random(rt: &HostRuntime, task: &Task) -> Result<Option<Input>, AllocError>
     ensures seeded { IfOk result (IsSeededIf (seed_of task.now)) }
-    ensures memory { IfErr result (λ error. error_kind error ≡ ErrorKind.OutOfMemory) }
 {
     let Some(seed) = task.seed() else {
         return Ok(None);
     };
-    match seeded(rt.alloc(), seed) {
-        Ok(text) => Ok(Some(Opened::Text(Cursor::new(text.into_bytes())))),
-        Err(_) => Err(io::Error::from(ErrorKind::OutOfMemory)),
-    }
+    let schedule = seeded(rt.alloc(), seed)?;
+    Ok(Some(Opened::Text(Cursor::new(schedule.into_bytes()))))
 }
 
 /// Does what is asked for on these files, and tells behind a fault of its output why, where it explains what it
@@ -362,9 +354,8 @@ fn unasked(rt: &HostRuntime, error: TaskError) -> io::Result<u8>
 
 /// The first file, in which a scenario has the files that it names; none where one of them is not taken, after what
 /// says so.
-fn completed(rt: &HostRuntime, request: &Request, first: Input) -> io::Result<Option<Input>>
+fn completed(rt: &HostRuntime, request: &Request, first: Input) -> Result<Option<Input>, AllocError>
     ensures other { reads_scenario request.now.task ≡ false → result ≡ Ok (Some first) }
-    ensures memory { IfErr result (λ error. error_kind error ≡ ErrorKind.OutOfMemory) }
 {
     let name = match request.task.file() {
         Some(name) if reads_scenario(&request.task) => name,
@@ -381,7 +372,7 @@ fn completed(rt: &HostRuntime, request: &Request, first: Input) -> io::Result<Op
             tell_untaken(rt, request, lines.as_str(), kind)?;
             Ok(None)
         }
-        Err(Untaken::Memory) => Err(io::Error::from(ErrorKind::OutOfMemory)),
+        Err(Untaken::Memory) => Err(AllocError),
     }
 }
 
@@ -392,9 +383,8 @@ fn made(
     request: &Request,
     own: &[u8],
     bytes: Vec<u8>,
-) -> io::Result<Option<Input>>
+) -> Result<Option<Input>, AllocError>
     ensures text { IfOk result (λ input. IfSome input (IsTextOf (with_story request.now.task own.now bytes.items))) }
-    ensures memory { IfErr result (λ error. error_kind error ≡ ErrorKind.OutOfMemory) }
 {
     if let Some(lines) = refused(rt.alloc(), &request.task, own, bytes.as_slice())? {
         turn_down(rt, request, lines.as_str())?;
@@ -405,9 +395,11 @@ fn made(
 }
 
 /// Says that the task is not done, by this line.
-fn turn_down<D: Display + Drop>(rt: &HostRuntime, request: &Request, line: D) -> io::Result<()>
-    ensures memory { IfErr result (λ error. error_kind error ≡ ErrorKind.OutOfMemory) }
-{
+fn turn_down<D: Display + Drop>(
+    rt: &HostRuntime,
+    request: &Request,
+    line: D,
+) -> Result<(), AllocError> {
     match turned_down(
         rt.alloc(),
         request,
@@ -416,7 +408,7 @@ fn turn_down<D: Display + Drop>(rt: &HostRuntime, request: &Request, line: D) ->
         &mut rt.stderr(),
     ) {
         1 => Ok(()),
-        _ => Err(io::Error::from(ErrorKind::OutOfMemory)),
+        _ => Err(AllocError),
     }
 }
 
@@ -426,9 +418,8 @@ fn read<R: Read + Drop>(
     request: &Request,
     name: &str,
     file: R,
-) -> io::Result<Option<Vec<u8>>>
+) -> Result<Option<Vec<u8>>, AllocError>
     ensures whole { IfOk result (λ all. IfSome all (λ all. IfSome (R.remaining file) (λ known. all.items ≡ known))) }
-    ensures memory { IfErr result (λ error. error_kind error ≡ ErrorKind.OutOfMemory) }
 {
     let mut file = file;
     let mut bytes = Vec::new(rt.alloc());
@@ -442,9 +433,12 @@ fn read<R: Read + Drop>(
 }
 
 /// The file of this name, or nothing to read where the task has none; none where it does not open, after what says so.
-fn opened(rt: &HostRuntime, request: &Request, name: Option<&str>) -> io::Result<Option<Input>>
+fn opened(
+    rt: &HostRuntime,
+    request: &Request,
+    name: Option<&str>,
+) -> Result<Option<Input>, AllocError>
     ensures input { IfOk result (IsInputIf (option_map (λ n. n.now) name.entry)) }
-    ensures memory { IfErr result (λ error. error_kind error ≡ ErrorKind.OutOfMemory) }
 {
     let Some(name) = name else {
         return Ok(Some(Opened::Nothing));
@@ -464,9 +458,7 @@ fn tell_untaken<D: Display + Drop>(
     request: &Request,
     lines: D,
     kind: Option<ErrorKind>,
-) -> io::Result<()>
-    ensures memory { IfErr result (λ error. error_kind error ≡ ErrorKind.OutOfMemory) }
-{
+) -> Result<(), AllocError> {
     turn_down(rt, request, Explained::by(&request.task, lines, kind))
 }
 

@@ -1,6 +1,6 @@
 //! What is said behind the line of a file that is not read, and of an output that failed.
 
-ghost use Rattle.std.specs.Prelude.{◌≡◌, ◌↔◌, IfErr, IfOk, IsErr, None, Some, if◌then◌else◌, option_map};
+ghost use Rattle.std.specs.Prelude.{◌≡◌, ◌↔◌, IfOk, IsErr, None, Some, if◌then◌else◌, option_map};
 ghost use Rattle.std.specs.IoError.{error_kind};
 ghost use Rattle.lab.specs.Whys.{is_explained};
 ghost use Rattle.lab.specs.declared.failure.Failure.TheVariants.{Read as unreadable};
@@ -8,6 +8,7 @@ ghost use Rattle.byzlab.specs.Telling.{IsWhy};
 
 use command_line::Task;
 use lab::{Failure, is_explained, reason};
+use std::alloc::AllocError;
 use std::fmt::{self, Display};
 use std::io::{self, ErrorKind};
 
@@ -67,20 +68,19 @@ impl<D: Display + Drop> Display for Unwritten<D> {
 ///
 /// # Errors
 ///
-/// This very one, where it is want of memory.
+/// `AllocError` where it is want of memory.
 pub fn unread<'a>(
     task: &Task,
     name: &'a str,
     error: io::Error,
-) -> io::Result<Explained<Failure<'a>>>
+) -> Result<Explained<Failure<'a>>, AllocError>
     ensures line { IfOk result (λ told. told.lines ≡ unreadable name.entry) }
     ensures why { IfOk result (λ told. told.kind ≡ (if is_explained task.now then Some (error_kind error) else None)) }
     ensures memory { IsErr result ↔ (error_kind error ≡ ErrorKind.OutOfMemory) }
-    ensures same { IfErr result (λ own. own ≡ error) }
 {
     let kind = error.kind();
     if kind == ErrorKind::OutOfMemory {
-        return Err(error);
+        return Err(AllocError);
     }
     Ok(Explained::by(task, Failure::Read(name), Some(kind)))
 }

@@ -1,7 +1,11 @@
 //! Programs that run alone.
 ghost use Rattle.std.specs.Prelude.{◌≡◌, ◌*◌, List, ℕ, IfOk, length};
 ghost use Rattle.codec.specs.Program.{SpellsProgram};
-ghost use Rattle.capi.specs.Runs.{Exits};
+ghost use Rattle.semantics.specs.Outbox.{empty_outbox};
+ghost use Rattle.semantics.specs.Relay.{oral};
+ghost use Rattle.semantics.specs.State.{entry};
+ghost use Rattle.machine.specs.Advance.{IsOfRun};
+ghost use Rattle.capi.specs.Runs.{Exits, host};
 ghost use Rattle.capi.specs.Many.{IsOutcome, AreRuns, AreBegun};
 
 use crate::outcome::Outcome;
@@ -14,6 +18,14 @@ use std::alloc::{AllocError, Global};
 use trial::run_on;
 use verify::Verified;
 
+/// As whom a program runs alone: the last of four generals in the first round, who relays nothing.
+const HOST: Shape = Shape {
+    generals: 4,
+    commander: 0,
+    general: 3,
+    round: 1,
+};
+
 /// Runs a program on this board, as that general of four who relays nothing.
 pub fn run_hosted(
     alloc: Global,
@@ -23,31 +35,47 @@ pub fn run_hosted(
 ) -> Result<Outcome, AllocError>
     ensures { IfOk result (λ o. Exits board.old.words verified.now context.now o.r0 o.steps board.new.words) }
 {
-    let shape = Shape {
-        generals: 4,
-        commander: 0,
-        general: 3,
-        round: 1,
-    };
-    let outbox = Outbox::new(alloc, shape)?;
-    let mut activation = Activation::start(verified, context, outbox);
-    let r0 = run_on(board, verified, context, shape, &mut activation)?;
+    let mut activation = Activation::start(verified, context, Outbox::new(alloc, HOST)?);
+    run_begun(verified, context, board, &mut activation)
+}
+
+/// Runs an activation that has just been started, on this board.
+fn run_begun(
+    verified: &Verified,
+    context: &Context,
+    board: &mut Board,
+    activation: &mut Activation,
+) -> Result<Outcome, AllocError>
+    requires relay { activation.old.relay ≡ oral host }
+    requires started { activation.old.state ≡ entry (empty_outbox (oral host)) }
+    requires of_run { IsOfRun verified.now context.now activation.old }
+    ensures { IfOk result (λ o. Exits board.old.words verified.now context.now o.r0 o.steps board.new.words) }
+{
+    let r0 = run_on(board, verified, context, HOST, activation)?;
     Ok(Outcome {
         r0,
         steps: activation.steps(),
     })
 }
 
-/// Runs a program on a board of zeros.
-fn run_afresh(alloc: Global, verified: &Verified, context: &Context) -> Result<Outcome, AllocError>
+/// Runs an activation that has just been started, on a board of zeros.
+fn run_afresh(
+    alloc: Global,
+    verified: &Verified,
+    context: &Context,
+    activation: &mut Activation,
+) -> Result<Outcome, AllocError>
+    requires relay { activation.old.relay ≡ oral host }
+    requires started { activation.old.state ≡ entry (empty_outbox (oral host)) }
+    requires of_run { IsOfRun verified.now context.now activation.old }
     ensures { IfOk result (λ o. (bytes : List ℕ) → SpellsProgram bytes verified.now →
         IsOutcome bytes context.now o) }
 {
     let mut board = Board::new(alloc, [0; 64]);
-    run_hosted(alloc, verified, context, &mut board)
+    run_begun(verified, context, &mut board, activation)
 }
 
-/// Runs a program in each context, each time on a board of zeros.
+/// Runs a program in each context, each time on a board of zeros: in one activation, which is started again for each.
 pub fn run_each(
     alloc: Global,
     verified: &Verified,
@@ -60,9 +88,16 @@ pub fn run_each(
     ensures begun { (bytes : List ℕ) → SpellsProgram bytes verified.now →
         AreBegun bytes contexts.now outcomes.old outcomes.new }
 {
+    let blank = [0; Context::BYTES];
+    let mut activation = Activation::start(
+        verified,
+        &Context::new(&blank),
+        Outbox::new(alloc, HOST)?,
+    );
     for index in 0..outcomes.len() {
         let context = Context::new(&contexts[4096 * index..4096 * index + 4096]);
-        outcomes[index] = run_afresh(alloc, verified, &context)?;
+        activation.restart(verified, &context, Outbox::new(alloc, HOST)?);
+        outcomes[index] = run_afresh(alloc, verified, &context, &mut activation)?;
     }
     Ok(())
 }

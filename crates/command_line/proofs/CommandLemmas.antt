@@ -1,9 +1,11 @@
 -- What `clap` is told of a subcommand, and of all of them, row by row.
-use Rattle.std.proofs.Common.{◌≡◌, ◌∙◌, ◌+◌, ◌<◌, ◌++◌, ℕ, Bool, false, ◌||◌, List, [], ◌∷◌, ap, ap₂, append-nil, append_assoc, drop, get_or, length, map, sym}
+use Rattle.std.proofs.Common.{◌≡◌, ◌∙◌, ◌+◌, ◌<◌, ◌++◌, ℕ, Bool, false, ◌||◌, List, [], ◌∷◌, ap, ap₂, refl, append-nil, append_assoc, codes, drop, get_or, length, map, sym}
 use Rattle.std.proofs.lemmas.List.{at_drop_more}
-use Rattle.clap.specs.Words.{App, Rule, new_app, with_rule}
-use Rattle.command_line.specs.Lab.{flag_rule, place_rule}
-use Rattle.command_line.specs.Subcommand.{flag_of, rule_for, shape_for}
+use Rattle.clap.specs.Words.{App, Rule, Shape, new_app, with_rule, with_subcommand}
+use Rattle.command_line.specs.Lab.{described, flag_rule, lab_app, place_rule, shape}
+use Rattle.command_line.specs.Subcommand.{flag_of, rule_for, shape_for, usage_of, with_subcommands}
+use Rattle.command_line.specs.Usage.{Usage}
+use Rattle.command_line.specs.Usages.{usages}
 use Rattle.command_line.specs.declared.subcommand.Flag.{Flag}
 use Rattle.command_line.specs.declared.subcommand.Place.{Place}
 use Rattle.command_line.specs.declared.subcommand.Subcommand.{Subcommand}
@@ -52,5 +54,26 @@ flag_more app next rule flags i d less is same =
     ap (λ (a : App). (with_flags a (drop (i + 1) flags)).top) (same ∙ ap (λ (r : Rule). with_rule app r) is)
     ∙ sym (at_drop_more (λ (rest : List Flag). (with_flags app rest).top) flags i d less)
 
+-- one subcommand more, of those at the front of the rest
+pub subcommand_more : (app next : App) (shape : Shape) (rows : List Subcommand) (i : ℕ) (d : Subcommand) → i < length rows → shape ≡ shape_for (get_or rows i d) → next ≡ with_subcommand app shape
+    → with_subcommands next (drop (i + 1) rows) ≡ with_subcommands app (drop i rows)
+subcommand_more app next shape rows i d less is same =
+    ap (λ (a : App). with_subcommands a (drop (i + 1) rows)) (same ∙ ap (λ (s : Shape). with_subcommand app s) is) ∙ sym (at_drop_more (with_subcommands app) rows i d less)
+
 pub still_local : (new old global : Bool) → new ≡ (old || global) → old ≡ false → global ≡ false → new ≡ false
 still_local new old global is none local = is ∙ ap₂ (λ (a b : Bool). a || b) none local
+
+-- the program with the subcommands of these usages is that of theirs
+abbrev with_usages : App → List Usage → App
+with_usages app [] = app
+with_usages app (usage ∷ rest) = with_usages (with_subcommand app (shape usage)) rest
+
+usages_are : (app : App) (rows : List Subcommand) → with_subcommands app rows ≡ with_usages app (map usage_of rows)
+unfolding shape_for
+usages_are app [] = refl
+usages_are app (row ∷ rest) = usages_are (with_subcommand app (shape (usage_of row))) rest
+
+pub lab_is : (bare lab whole : App) (rows : List Subcommand) → bare ≡ new_app (codes "byzlab") → lab ≡ with_subcommands bare rows → map usage_of rows ≡ usages → whole ≡ described lab → whole ≡ lab_app
+lab_is bare lab whole rows new with all is =
+    let same : described (with_usages (new_app (codes "byzlab")) usages) ≡ lab_app = refl in
+    is ∙ ap described (with ∙ (usages_are bare rows ∙ ap₂ with_usages new all)) ∙ same

@@ -5,7 +5,7 @@ use Rattle.std.specs.Str.{bytes_eq}
 use Rattle.clap.specs.declared.builder.action.ArgAction.TheVariants.{SetTrue}
 use Rattle.clap.specs.declared.parser.matches.ValueSource.{ValueSource}
 use Rattle.clap.specs.declared.parser.matches.ValueSource.TheVariants.{CommandLine, DefaultValue}
-use Rattle.clap.specs.Words.{App, Row, Rule, Shape, new_rule}
+use Rattle.clap.specs.Words.{App, Row, Rule, Shape, new_app, new_rule}
 use Rattle.clap.specs.Simple.{new_shape}
 use Rattle.command_line.specs.Told.{Told}
 use Rattle.command_line.specs.Usage.{Flag, Text, Usage, letter, option, switch}
@@ -34,16 +34,12 @@ lab_about = codes "A laboratory for the Byzantine generals problem; a hyphen as 
 abbrev pub lab_version : Text
 lab_version = codes "1.0.0, proved with Rattle, logic dac8208d650f15bf"
 
--- the program before its subcommands
+-- the program, once it says what it is
+abbrev pub described : App → App
+described app = record app { top = record app.top { no_binary_name = true; subcommand_required = true; has_version = true } }
+
 abbrev pub app_before : App
-app_before = record {
-  top = record (new_shape (codes "byzlab")) {
-    no_binary_name = true;
-    subcommand_required = true;
-    has_version = true;
-  };
-  subs = [];
-}
+app_before = described (new_app (codes "byzlab"))
 
 -- the program with these subcommands
 abbrev pub app_with : List Usage → App

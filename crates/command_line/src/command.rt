@@ -1,23 +1,30 @@
 ghost use Rattle.std.specs.Prelude.{◌≡◌, IfOk, IsSomeAnd, Some, codes, option_map, string_bytes};
-ghost use Rattle.clap.specs.Words.{app_of, with_subcommand};
+ghost use Rattle.clap.specs.Words.{app_of};
 ghost use Rattle.clap.specs.declared.builder.command.Command.TheViews.{out-Command};
-ghost use Rattle.command_line.specs.Lab.{app_before, lab_about, lab_app, lab_version};
-ghost use Rattle.command_line.specs.Subcommand.{shape_for, with_subcommands};
+ghost use Rattle.command_line.specs.Lab.{described, lab_about, lab_app, lab_version};
+ghost use Rattle.command_line.specs.Subcommand.{with_subcommands};
 
 use crate::subcommand::Subcommand;
-use crate::subcommands::SUBCOMMANDS;
+use crate::subcommands::subcommands;
 use clap::Command;
 use std::alloc::{AllocError, Global};
+
+/// What help says of the program.
+const ABOUT: &str =
+    "A laboratory for the Byzantine generals problem; a hyphen as a file is standard input";
 
 /// What `--version` says: the version, and the line of the toolchain that proves this one (`rt version`).
 const VERSION: &str = "1.0.0, proved with Rattle, logic dac8208d650f15bf";
 
 /// The program's command line.
-#[tactic(auto, unfolding(crate::specs::Subcommand::shape_for))]
 pub(crate) fn lab_command<'a>(alloc: Global) -> Result<Command<'a>, AllocError>
-    ensures { IfOk result (λ c. app_of c ≡ lab_app) }
+    ensures shape { IfOk result (λ c. app_of c ≡ lab_app) }
+    ensures about { IfOk result (λ c. option_map (λ text. text.now) (out-Command c).about ≡ Some lab_about) }
+    ensures version { IfOk result (λ c. option_map (λ text. text.now) (out-Command c).version ≡ Some lab_version) }
+    ensures name { IfOk result (λ c. IsSomeAnd (out-Command c).bin_name (λ name. string_bytes name ≡ codes "byzlab")) }
 {
-    with_subcommands(alloc, bare_command(alloc)?, SUBCOMMANDS)
+    let lab = with_subcommands(alloc, Command::new(alloc, "byzlab"), subcommands())?;
+    described(lab)
 }
 
 /// The program with these subcommands.
@@ -29,33 +36,21 @@ fn with_subcommands<'a>(
     ensures { IfOk result (λ c. app_of c ≡ with_subcommands (app_of lab.entry) subcommands.now) }
 {
     for subcommand in subcommands {
-        lab = with_subcommand(alloc, lab, subcommand)?;
+        let command = subcommand.command(alloc)?;
+        lab = lab.subcommand(command)?;
     }
     Ok(lab)
 }
 
-/// The program with one more subcommand.
-fn with_subcommand<'a>(
-    alloc: Global,
-    lab: Command<'a>,
-    subcommand: &Subcommand<'a>,
-) -> Result<Command<'a>, AllocError>
-    ensures { IfOk result (λ c. app_of c ≡ with_subcommand (app_of lab.entry) (shape_for subcommand.now)) }
-{
-    lab.subcommand(subcommand.command(alloc)?)
-}
-
-/// The program without its subcommands.
-fn bare_command<'a>(alloc: Global) -> Result<Command<'a>, AllocError>
-    ensures shape { IfOk result (λ c. app_of c ≡ app_before) }
+/// The program with what help and `--version` say of it. Behind its subcommands: of one more, `clap` promises nothing
+/// of these texts.
+fn described<'a>(lab: Command<'a>) -> Result<Command<'a>, AllocError>
+    ensures shape { IfOk result (λ c. app_of c ≡ described (app_of lab.entry)) }
     ensures about { IfOk result (λ c. option_map (λ text. text.now) (out-Command c).about ≡ Some lab_about) }
     ensures version { IfOk result (λ c. option_map (λ text. text.now) (out-Command c).version ≡ Some lab_version) }
     ensures name { IfOk result (λ c. IsSomeAnd (out-Command c).bin_name (λ name. string_bytes name ≡ codes "byzlab")) }
 {
-    Command::new(alloc, "byzlab")
-        .about(
-            "A laboratory for the Byzantine generals problem; a hyphen as a file is standard input",
-        )
+    lab.about(ABOUT)
         .version(VERSION)
         .no_binary_name(true)
         .subcommand_required(true)

@@ -1,4 +1,8 @@
 //! The subcommands, a row each.
+ghost use Rattle.std.specs.Prelude.{◌≡◌, map};
+ghost use Rattle.command_line.specs.Subcommand.{usage_of};
+ghost use Rattle.command_line.specs.Usages.{usages};
+
 use crate::subcommand::{Flag, Place, Subcommand};
 
 const EXPLAIN: &str =
@@ -36,7 +40,8 @@ const CHRONICLE: Place<'static> = Place {
 
 const ACCESSES: Place<'static> = Place {
     name: "CHRONICLE",
-    help: "What `play` or `muster` has printed of this campaign; with --accesses the accesses themselves, as '5 4 / 4 5'",
+    help: "What `play` or `muster` has printed of this campaign; with --accesses the accesses themselves, \
+           as '5 4 / 4 5'",
 };
 
 const SCHEDULED: Flag<'static> = Flag::Option {
@@ -392,6 +397,10 @@ const SCHEDULE: Subcommand<'static> = Subcommand {
 };
 
 /// All subcommands, as help lists them.
-pub(crate) const SUBCOMMANDS: &[Subcommand<'static>] = &[
-    CHECK, ASM, DIS, BOOK, TABLE, MUSTER, PLAY, AUDIT, EXPLORE, TREE, DRAW, PAGE, SCHEDULE,
-];
+pub(crate) fn subcommands() -> &'static [Subcommand<'static>]
+    ensures { map usage_of result.now ≡ usages }
+{
+    &[
+        CHECK, ASM, DIS, BOOK, TABLE, MUSTER, PLAY, AUDIT, EXPLORE, TREE, DRAW, PAGE, SCHEDULE,
+    ]
+}

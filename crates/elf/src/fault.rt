@@ -93,7 +93,8 @@ pub fn sentence(fault: Fault) -> &'static str
         Fault::NoFunction => { "there is no function of this name, or no global function at all" }
         Fault::Several => { "there are several functions: name the one that is the program" }
         Fault::Names(_) => {
-            "the entry names data or a function that is not here: arrays belong on the stack, helpers are called by number"
+            "the entry names data or a function that is not here: arrays belong on the stack, \
+             helpers are called by number"
         }
         Fault::Leaves(_) => {
             "the entry calls or names another function: make that one `static inline`, so that one is left"

@@ -1,4 +1,5 @@
-//! What is known of the trees of what lieutenants were told: each function does nothing, and recalls what their types keep.
+//! What is known of the trees of what lieutenants were told: each function does nothing,
+//! and recalls what their types keep.
 ghost use Rattle.std.specs.Prelude.{◌≡◌, ◌<◌, ◌^◌, ℕ, Some, slice_get};
 ghost use Rattle.tables.specs.Hearing.{heard};
 ghost use Rattle.tables.specs.Laws.{AreOrders};

@@ -33,3 +33,6 @@ consumes_more None then last front piece k l = tt
 consumes_more (Some all) None last front piece k l = absurd k
 consumes_more (Some all) (Some more) None front piece k l = absurd l
 consumes_more (Some all) (Some more) (Some rest) front piece k l = k ∙ (ap (λ (b : List ℕ). front ++ b) l ∙ sym (append_assoc front piece rest))
+
+-- of a read that is begun again until it gives something
+pub ruleset begun_again = (keeps_self, keeps_still, consumes_after)

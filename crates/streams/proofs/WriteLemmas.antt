@@ -41,3 +41,6 @@ pub appends_on : (first then last : Option (List ℕ)) (text : List ℕ) (writte
     → Appends first then (take written text) → Appends then last (take number (take (length text - written) (drop written text))) → Appends first last (take (written + number) text)
 appends_on first then last text written number k l =
     appends_more first then last text written number k (subst (λ (rest : List ℕ). Appends then last (take number rest)) (take_rest text written) l)
+
+-- of a text that is written whole, and of one that is begun
+pub ruleset writes = (appends_none, appends_kept, appends_more, appends_all, appends_front)

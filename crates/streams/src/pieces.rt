@@ -11,7 +11,7 @@ use std::io::{self, ErrorKind, Read};
 const PIECE: usize = 8192;
 
 /// One read, begun again where it was interrupted: how many bytes it gave, 0 at the end alone.
-#[tactic(auto, using(crate::proofs::ReadLemmas::keeps_self, crate::proofs::ReadLemmas::keeps_still, crate::proofs::ReadLemmas::consumes_after))]
+#[tactic(auto, using(crate::proofs::ReadLemmas::begun_again))]
 fn read_piece<R: Read>(reader: &mut R, piece: &mut [u8; PIECE]) -> io::Result<usize>
     ensures inside { IfOk result (λ n. n ≤ 8192) }
     ensures bytes { IfOk result (λ n. Consumes (R.remaining reader.old) (R.remaining reader.new) (take n piece.new)) }

@@ -11,7 +11,7 @@ use std::io::{self, ErrorKind, Write};
 /// # Errors
 ///
 /// A write that failed, or that took nothing.
-#[tactic(auto, using(crate::proofs::WriteLemmas::appends_none, crate::proofs::WriteLemmas::appends_kept, crate::proofs::WriteLemmas::appends_more, crate::proofs::WriteLemmas::appends_all, crate::proofs::WriteLemmas::appends_front))]
+#[tactic(auto, using(crate::proofs::WriteLemmas::writes))]
 pub(crate) fn write_whole<W: Write>(writer: &mut W, text: &[u8]) -> io::Result<()>
     ensures whole { OnOk result (Appends (W.contents writer.old) (W.contents writer.new) text.now) }
     ensures begun { OnErr result (AppendsFront (W.contents writer.old) (W.contents writer.new) text.now) }

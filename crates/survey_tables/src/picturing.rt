@@ -34,8 +34,10 @@ fn head() -> &'static str
      3}.kept{fill:#d7f0da}.share{font-size:11px;text-anchor:middle}\
      @media(prefers-color-scheme:dark){svg{background:#111}text{fill:#eee}.bar{fill:#ff6b7a}.limit{stroke:#8ab4f8}\
      .kept{fill:#143d1b}}</style>\n\
-     <text x=\"10\" y=\"24\">campaigns in which agreement is broken or the order disobeyed, by the number of traitors</text>\n\
-     <text x=\"10\" y=\"46\">dashes: n = 3m + 1, for m the number of traitors; green: within the campaign's bound</text>\n\
+     <text x=\"10\" y=\"24\">campaigns in which agreement is broken or the order disobeyed, \
+     by the number of traitors</text>\n\
+     <text x=\"10\" y=\"46\">dashes: n = 3m + 1, for m the number of traitors; \
+     green: within the campaign's bound</text>\n\
      <text x=\"10\" y=\"84\">traitors</text>\n"
 }
 

@@ -193,7 +193,8 @@ fn with_shapes<'a>(alloc: Global, command: Command<'a>) -> Result<Command<'a>, A
         .arg(switch(
             alloc,
             "break",
-            "Prints, for each number of generals and bound, the least campaign found with the fewest traitors who break it",
+            "Prints, for each number of generals and bound, the least campaign found with the fewest traitors who \
+             break it",
         ))?
         .arg(option(
             alloc,

@@ -15,11 +15,13 @@ abbrev pub table_sentence : Fault → ℕ → List ℕ
 table_sentence fault.Line number =
     if number == 1
     then first_sentence
-    else codes "a line is `tell LABEL RECEIVER ORDER`: the label's generals joined by dots, numbers without leading zeros, an order of at most 4294967295"
+    else codes "a line is `tell LABEL RECEIVER ORDER`: the label's generals joined by dots, "
+    ++ codes "numbers without leading zeros, an order of at most 4294967295"
 table_sentence fault.Range number =
     codes "a table has 2 to 13 generals, a bound of 0 to 4 and at most generals - 2, and a commander below generals"
-table_sentence fault.Place number = codes
-    "nobody is told of this label, or not this receiver: a label begins with the commander, has at most bound + 1 generals, none twice, and the receiver is not on it"
+table_sentence fault.Place number =
+    codes "nobody is told of this label, or not this receiver: a label begins with the commander, "
+    ++ codes "has at most bound + 1 generals, none twice, and the receiver is not on it"
 table_sentence fault.Twice number = codes "a line before tells this receiver of this label"
 
 -- what is likely by the first of these characters that stands in the line

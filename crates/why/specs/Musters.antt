@@ -4,8 +4,9 @@ use Rattle.threads.specs.declared.error.MusterError.{MusterError}
 use Rattle.threads.specs.declared.error.MusterError.TheVariants as errors
 
 abbrev pub muster_sentence : MusterError → List ℕ
-muster_sentence errors.Unaccounted = codes
-    "the board's accesses do not account for the letters that the threads gave back: this is a fault of the program or the machine, and of no file"
+muster_sentence errors.Unaccounted =
+    codes "the board's accesses do not account for the letters that the threads gave back: "
+    ++ codes "this is a fault of the program or the machine, and of no file"
 muster_sentence errors.Spawn =
     codes "the system starts no further thread, and a muster has one for each general: `play` needs none"
 muster_sentence errors.Post =

@@ -53,7 +53,7 @@ range_sentence names.Commander = codes "a general is numbered from 0 on"
 range_sentence names.Order = codes "an order is 0 to 4294967295"
 range_sentence names.Board = codes "a board has at most 64 words"
 range_sentence names.Patience = codes "a patience is 1 to 4096 steps"
-range_sentence names.Rule = codes "a rule is " ++ rule_names
+range_sentence names.Rule = codes "a rule is one of these texts, in quotation marks: " ++ rule_names
 range_sentence names.Messages =
     codes "messages are \"oral\" or \"signed\", and of all but `play` without `--table` and `audit` \"oral\""
 range_sentence name = codes "this value is out of its range"
@@ -118,7 +118,8 @@ is_itself (Some known) key = bytes_eq known key
 abbrev pub entry_sentence : Option (List ℕ) → List ℕ → List ℕ
 entry_sentence known key =
     if is_itself known key
-    then codes "this key does not go with the table's others: a table has one program, and `general` or `generals`; `generals` is a list, a file's name a text, and `entry` goes with `elf`"
+    then codes "this key does not go with the table's others: a table has one program, and `general` or `generals`; "
+    ++ codes "`generals` is a list, a file's name a text, and `entry` goes with `elf`"
     else codes "a traitor's table has no such key"
 
 abbrev pub other_than : Option (List ℕ) → List ℕ → Option (List ℕ)

@@ -24,8 +24,8 @@ fn left_out_sentence(opcode: u128) -> &'static str
     ensures { result.now ≡ left_out_sentence opcode }
 {
     match opcode {
-        0x85 =>
-            "a call of a function of the program, a local call (group base32), is left out, and one of a helper by its BTF",
+        0x85 => "a call of a function of the program, a local call (group base32), is left out, \
+             and one of a helper by its BTF",
         0x18 => "a map load, a wide load of a map, a variable or code (group base64), is left out",
         0xc3 => "an atomic instruction of 32 bits (group atomic32) is left out",
         0xdb => "an atomic instruction of 64 bits (group atomic64) is left out",

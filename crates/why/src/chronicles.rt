@@ -45,7 +45,8 @@ fn schedule_line_told(
         ≡ schedule_line_told name.now number (option_map (λ l. l.now) line.entry)) }
 {
     let sentence =
-        "a line is entries with one space between them, `G` or `G*K` for K of them, G being 0 to 12 and K 1 to 4096; a schedule has at most 5 lines and 1048576 bytes";
+        "a line is entries with one space between them, `G` or `G*K` for K of them, G being 0 to 12 and K 1 to 4096; \
+         a schedule has at most 5 lines and 1048576 bytes";
     let Some(line) = line else {
         return report(alloc, name, sentence, None, None);
     };

@@ -27,11 +27,13 @@ fn sentence(alloc: Global, fault: Fault, number: u64) -> Result<String, AllocErr
     let sentence = match fault {
         Fault::Line if number == 1 => return first_sentence(alloc),
         Fault::Line =>
-            "a line is `tell LABEL RECEIVER ORDER`: the label's generals joined by dots, numbers without leading zeros, an order of at most 4294967295",
+            "a line is `tell LABEL RECEIVER ORDER`: the label's generals joined by dots, \
+             numbers without leading zeros, an order of at most 4294967295",
         Fault::Range =>
             "a table has 2 to 13 generals, a bound of 0 to 4 and at most generals - 2, and a commander below generals",
         Fault::Place =>
-            "nobody is told of this label, or not this receiver: a label begins with the commander, has at most bound + 1 generals, none twice, and the receiver is not on it",
+            "nobody is told of this label, or not this receiver: a label begins with the commander, \
+             has at most bound + 1 generals, none twice, and the receiver is not on it",
         Fault::Twice => "a line before tells this receiver of this label",
     };
     String::from_str(alloc, sentence)

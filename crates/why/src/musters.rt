@@ -11,7 +11,8 @@ fn sentence(error: MusterError) -> &'static str
 {
     match error {
         MusterError::Unaccounted =>
-            "the board's accesses do not account for the letters that the threads gave back: this is a fault of the program or the machine, and of no file",
+            "the board's accesses do not account for the letters that the threads gave back: \
+             this is a fault of the program or the machine, and of no file",
         MusterError::Spawn =>
             "the system starts no further thread, and a muster has one for each general: `play` needs none",
         MusterError::Post =>

@@ -80,7 +80,7 @@ fn range_sentence(alloc: Global, name: Name) -> Result<String, AllocError>
     let sentence = match name {
         Name::Rule => {
             let names = Rule::names();
-            return format!(in alloc; "a rule is {names}");
+            return format!(in alloc; "a rule is one of these texts, in quotation marks: {names}");
         }
         Name::Generals => "there are 2 to 13 generals",
         Name::Bound => "a bound is 0 to 4, and at most generals - 2",
@@ -251,7 +251,8 @@ fn entry_sentence(known: Option<&'static str>, word: &[u8]) -> &'static str
     ensures { result.now ≡ entry_sentence (option_map (λ k. k.now) known.entry) word.now }
 {
     if is_itself(known, word) {
-        "this key does not go with the table's others: a table has one program, and `general` or `generals`; `generals` is a list, a file's name a text, and `entry` goes with `elf`"
+        "this key does not go with the table's others: a table has one program, and `general` or `generals`; \
+         `generals` is a list, a file's name a text, and `entry` goes with `elf`"
     } else {
         "a traitor's table has no such key"
     }

@@ -8,8 +8,8 @@ pub returns : goal.returns
 returns c =
     let program = c.args.verified.now in
     let context = c.args.context.now in
-    let left = c.run_hosted.new.board.words in
-    IfOk-weaker c.run_hosted.result _ _ (λ o exits bytes spelt. record {
+    let left = c.run_begun.new.board.words in
+    IfOk-weaker c.run_begun.result _ _ (λ o exits bytes spelt. record {
       left = left;
       run = record { program = program; spelt = spelt; exits = subst (λ (words : List ℕ). Exits words program context o.r0 o.steps left) c.new-board.ensures.words exits };
-    }) c.run_hosted.ensures
+    }) c.run_begun.ensures
