@@ -32,9 +32,10 @@ use Rattle.trace.specs.Text.{chronicle_text}
 use Rattle.world.specs.Chronicle.{Chronicle}
 use Rattle.world.specs.declared.schedule.Repeat.{Repeat}
 use Rattle.world.specs.declared.verdict.Verdict.{Verdict}
-use Rattle.campaign_page.specs.Account.{access_heads, access_row, accesses_heading, accesses_part, bound_told, chronicle_heading, chronicle_lines, chronicle_shown, chronicle_part, course_told, drawn_told, elsewhere_words, explained_told, general_name, hinted, is_wide, lieutenant_part, lieutenant_told, lieutenant_words, lieutenants_heading, lieutenants_part, parts, picture_heading, picture_hint, picture_name, picture_part, picture_told, program_if, program_part, no_programs, programs_heading, programs_part, programs_told, recorded_words, rows_told, scenario_heading, scenario_part, schedule_heading, schedule_part, title, unscheduled_words, verdict_heading, verdict_part, verdict_told, view_of, why_part}
+use Rattle.campaign_page.specs.Account.{access_heads, access_row, accesses_heading, accesses_part, bound_told, chronicle_heading, chronicle_shown, chronicle_part, course_told, each_lieutenant, each_program, elsewhere_words, explained_told, general_name, hinted, is_wide, lieutenant_part, lieutenant_told, lieutenant_words, lieutenants_fitted, lieutenants_heading, lieutenants_part, parts, picture_heading, picture_hint, picture_name, picture_part, picture_told, program_if, program_part, no_programs, programs_heading, programs_part, programs_told, recorded_words, scenario_heading, scenario_part, schedule_heading, schedule_part, title, unscheduled_words, verdict_heading, verdict_part, verdict_told, view_of, why_part}
 use Rattle.campaign_page.specs.Calls.{named_calls}
-use Rattle.campaign_page.specs.Room.{no_room, no_room_words, room_for_chronicle, room_for_picture, room_for_rows, room_for_units}
+use Rattle.campaign_page.specs.Printers.{accesses_printer, chronicle_printer, lieutenants_printer, picture_printer, programs_printer, scenario_printer, schedule_printer}
+use Rattle.campaign_page.specs.Room.{fitted, fitted_lines, over_words, room_for_accesses, room_for_chronicle, room_for_lieutenants, room_for_picture, room_for_programs, room_for_scenario, room_for_schedule, room_for_units, units_words}
 use Rattle.campaign_page.specs.Trees.{item_by, items_below, label_item, node_by, root_told, tree_told}
 use Rattle.campaign_page.specs.Laws.{CampaignPagesAreElements}
 
@@ -46,27 +47,33 @@ all f (x ∷ xs) h = joined (f x) (flat_map f xs) (h x) (all f xs h)
 pub below : (words parts : List ℕ) → IsContent parts → IsContent (heading words ++ parts)
 below words parts c = joined (heading words) parts (proved_parts_are_content.heading words) c
 
+-- a part, and what stands in its place where there is no room for it
+pub fitted_content : (room : ℕ) (part who : List ℕ) → IsContent part → IsContent (fitted room part who)
+fitted_content room part who is =
+    cond_both (nat_lt room (length part)) (paragraph (over_words room who)) part IsContent (λ _. proved_parts_are_content.paragraph (over_words room who)) (λ _. is)
+
+lines_content : (room : ℕ) (words who : List ℕ) → IsContent (fitted_lines room words who)
+lines_content room words who =
+    cond_both (nat_lt room (length words)) (paragraph (over_words room who)) (fitted room (lines words) who) IsContent
+    (λ _. proved_parts_are_content.paragraph (over_words room who)) (λ _. fitted_content room (lines words) who (proved_parts_are_content.lines words))
+
 pub scenario_content : (words : List ℕ) → IsContent (scenario_part words)
-scenario_content words = below scenario_heading (lines words) (proved_parts_are_content.lines words)
+scenario_content words = below scenario_heading (fitted_lines room_for_scenario words scenario_printer) (lines_content room_for_scenario words scenario_printer)
 
 course_content : (schedule : Option (List (List Repeat))) → IsContent (course_told schedule)
 course_content None = proved_parts_are_content.paragraph recorded_words
 course_content (Some []) = proved_parts_are_content.paragraph unscheduled_words
-course_content (Some (line ∷ rest)) = proved_parts_are_content.lines (schedule_text (line ∷ rest))
+course_content (Some (line ∷ rest)) = lines_content room_for_schedule (schedule_text (line ∷ rest)) schedule_printer
 
 pub schedule_content : (schedule : Option (List (List Repeat))) → IsContent (schedule_part schedule)
 schedule_content schedule = below schedule_heading (course_told schedule) (course_content schedule)
-
--- what stands in place of a part that there is no room for
-left_content : (count : ℕ) (what who : List ℕ) → IsContent (no_room count what who)
-left_content count what who = proved_parts_are_content.paragraph (no_room_words count what who)
 
 explained_content : (program : List Insn) → IsContent (explained_told program)
 explained_content program =
     let told : List ℕ = explained_at (named_calls program) program in
     let units : ℕ = length (slots_of program) in
-    cond_both (nat_lt room_for_units units) (no_room units (codes "units") (codes "byzlab check --explain tells what is known of them.")) (begun_lines told) IsContent
-    (λ _. left_content units (codes "units") (codes "byzlab check --explain tells what is known of them.")) (λ _. proved_parts_are_content.begun_lines told)
+    cond_both (nat_lt room_for_units units) (paragraph (units_words units programs_printer)) (begun_lines told) IsContent
+    (λ _. proved_parts_are_content.paragraph (units_words units programs_printer)) (λ _. proved_parts_are_content.begun_lines told)
 
 program_content : (g : ℕ) (program : Option (List Insn)) → IsContent (program_if g program)
 program_content g None = text [] no_text
@@ -78,18 +85,19 @@ told_content (x ∷ xs) c = c
 
 pub programs_content : (s : Scenario) → IsContent (programs_part s)
 programs_content s =
-    let programs : List ℕ = flat_map (program_part s) (range_with_len 0 s.generals) in
-    below programs_heading (programs_told programs) (told_content programs (all (program_part s) (range_with_len 0 s.generals) (λ g. program_content g (program_of s g))))
+    let told : List ℕ = programs_told (each_program s) in
+    below programs_heading (fitted room_for_programs told programs_printer)
+    (fitted_content room_for_programs told programs_printer
+    (told_content (each_program s) (all (program_part s) (range_with_len 0 s.generals) (λ g. program_content g (program_of s g)))))
 
 -- a picture that is an element, and a line feed
 pub svg_content : (wide : Bool) (svg element : List ℕ) → IsElement element → svg ≡ element ++ codes "\n" → IsContent (picture_told wide svg)
 svg_content wide svg element is e =
     let drawn : IsContent svg =
     subst IsContent (sym e) (joined element (codes "\n") (proved_elements_are_elements.content element is) (text (codes "\n") (bare_text (codes "\n") refl))) in
-    below picture_heading (drawn_told wide svg)
-    (cond_both (nat_lt room_for_picture (length svg)) (no_room (length svg) (codes "bytes") (codes "byzlab draw writes the picture.")) (hinted wide svg) IsContent
-    (λ _. left_content (length svg) (codes "bytes") (codes "byzlab draw writes the picture."))
-    (λ _. joined (paragraph picture_hint) (picture wide picture_name svg) (proved_parts_are_content.paragraph picture_hint) (proved_parts_are_content.picture wide picture_name svg drawn)))
+    below picture_heading (fitted room_for_picture (hinted wide svg) picture_printer)
+    (fitted_content room_for_picture (hinted wide svg) picture_printer
+    (joined (paragraph picture_hint) (picture wide picture_name svg) (proved_parts_are_content.paragraph picture_hint) (proved_parts_are_content.picture wide picture_name svg drawn)))
 
 picture_content : (t : MessageTable) (c : Chronicle) → IsContent (picture_part t c)
 picture_content t c = let drawn = proved_diagrams_are_elements t c in svg_content (is_wide c.scenario c.accesses) (svg_text t c) drawn.0 drawn.1 drawn.2
@@ -130,9 +138,14 @@ lieutenant_content t traitors view g =
 one_content : (t : MessageTable) (traitors : List ℕ) (view : View) (g : ℕ) → IsContent (lieutenant_part t traitors view g)
 one_content t traitors view g = cond_both (g == t.commander) [] (lieutenant_told t traitors view g) IsContent (λ _. text [] no_text) (λ _. lieutenant_content t traitors view g)
 
+pub lieutenants_fitted_content : (told : List ℕ) → IsContent told → IsContent (lieutenants_fitted told)
+lieutenants_fitted_content told is = fitted_content room_for_lieutenants told lieutenants_printer is
+
 lieutenants_content : (t : MessageTable) (traitors : List ℕ) (view : View) → IsContent (lieutenants_part t traitors view)
 lieutenants_content t traitors view =
-    below lieutenants_heading (flat_map (lieutenant_part t traitors view) (range_with_len 0 t.generals)) (all (lieutenant_part t traitors view) (range_with_len 0 t.generals) (one_content t traitors view))
+    let told : List ℕ = each_lieutenant t traitors view in
+    below lieutenants_heading (lieutenants_fitted told)
+    (lieutenants_fitted_content told (all (lieutenant_part t traitors view) (range_with_len 0 t.generals) (one_content t traitors view)))
 
 heads_content : IsContent access_heads
 heads_content =
@@ -159,18 +172,14 @@ pub accesses_content : (accesses : List Access) → IsContent (accesses_part acc
 accesses_content [] = text [] no_text
 accesses_content (a ∷ accesses) =
     let rows : List ℕ = flat_map access_row (a ∷ accesses) in
-    let count : ℕ = length (a ∷ accesses) in
-    below accesses_heading (rows_told count rows)
-    (cond_both (nat_lt room_for_rows (length rows)) (no_room count (codes "accesses") (codes "byzlab play prints them in the chronicle.")) (table (access_heads ++ rows)) IsContent
-    (λ _. left_content count (codes "accesses") (codes "byzlab play prints them in the chronicle."))
-    (λ _. proved_parts_are_content.table (access_heads ++ rows) (joined access_heads rows heads_content (rows_content (a ∷ accesses)))))
+    below accesses_heading (fitted room_for_accesses (table (access_heads ++ rows)) accesses_printer)
+    (fitted_content room_for_accesses (table (access_heads ++ rows)) accesses_printer
+    (proved_parts_are_content.table (access_heads ++ rows) (joined access_heads rows heads_content (rows_content (a ∷ accesses)))))
 
 pub chronicle_content : (words : List ℕ) → IsContent (chronicle_shown words)
 chronicle_content words =
-    let shown : List ℕ = lines (flat_map encode_utf8 words) in
-    below chronicle_heading (chronicle_lines words)
-    (cond_both (nat_lt room_for_chronicle (length words)) (no_room (length words) (codes "bytes") (codes "byzlab play prints the chronicle.")) shown IsContent
-    (λ _. left_content (length words) (codes "bytes") (codes "byzlab play prints the chronicle.")) (λ _. proved_parts_are_content.lines (flat_map encode_utf8 words)))
+    let text : List ℕ = flat_map encode_utf8 words in
+    below chronicle_heading (fitted_lines room_for_chronicle text chronicle_printer) (lines_content room_for_chronicle text chronicle_printer)
 
 pub verdict_content : (v : Verdict) (bound : List ℕ) → IsContent (verdict_told v bound)
 verdict_content v bound =

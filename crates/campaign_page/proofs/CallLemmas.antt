@@ -77,3 +77,6 @@ all_named program texts count is whole = λ i unit. (nothing unit i, told unit i
               ap text_or_none (slice_get_past texts unit (omega arith))
               ∙ sym (ap (λ (s : Option (Option Insn)). call_if (joined s)) (slice_get_past (slots_of program) unit (omega arith)))
         ]
+
+-- texts, from none on
+pub ruleset naming = (all_named, none_named, one_named)

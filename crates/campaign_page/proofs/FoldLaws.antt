@@ -1,8 +1,8 @@
 -- What stands in the folds of a page.
-use Rattle.std.proofs.Common.{ℕ, zero, suc, ◌<◌, ◌≡◌, ◌≢◌, Bool, true, false, List, [], ◌∷◌, ◌++◌, refl, sym, ap, subst, ◌∙◌, append_assoc, arith, inl, inr, Option, codes}
+use Rattle.std.proofs.Common.{ℕ, zero, suc, ◌<◌, ◌≤◌, length, nat_lt, ◌≡◌, ◌≢◌, Bool, true, false, List, [], ◌∷◌, ◌++◌, refl, sym, ap, subst, ◌∙◌, append_assoc, arith, inl, inr, Option, codes}
 use Rattle.std.specs.Prelude.{◌==◌, if◌then◌else◌}
 use Rattle.std.specs.List.{AllByRecursion, flat_map, range_with_len}
-use Rattle.std.proofs.lemmas.Bool.{cond-false, eqb-true, ne_eqb, or_cases}
+use Rattle.std.proofs.lemmas.Bool.{cond-false, eqb-true, le-ltb, ne_eqb, or_cases}
 use Rattle.std.proofs.lemmas.List.Elements.{All-from_recursion}
 use Rattle.book.specs.Decisions.{decision_of}
 use Rattle.book.specs.Table.{MessageTable}
@@ -18,7 +18,9 @@ use Rattle.page.specs.Page.{fold, fold_end, fold_start, heading, item, item_end,
 use Rattle.retold.specs.Retold.{traitors_of}
 use Rattle.world.specs.Chronicle.{Chronicle}
 use Rattle.world.specs.declared.schedule.Repeat.{Repeat}
-use Rattle.campaign_page.specs.Account.{accesses_part, chronicle_part, lieutenant_part, lieutenant_told, lieutenant_words, lieutenants_heading, lieutenants_part, page_text, parts, picture_part, programs_part, scenario_part, schedule_part, title, verdict_part, view_of, why_part}
+use Rattle.campaign_page.specs.Account.{accesses_part, chronicle_part, each_lieutenant, lieutenant_part, lieutenant_told, lieutenant_words, lieutenants_fitted, lieutenants_heading, lieutenants_part, page_text, parts, picture_part, programs_part, scenario_part, schedule_part, title, verdict_part, view_of, why_part}
+use Rattle.campaign_page.specs.Printers.{lieutenants_printer}
+use Rattle.campaign_page.specs.Room.{fitted, over_words, room_for_lieutenants}
 use Rattle.campaign_page.specs.Laws.{FoldsHideNothing, StandsIn, IsShownIn as Shows}
 use Rattle.campaign_page.specs.Trees.{item_by, items_below, tree_told}
 
@@ -112,22 +114,29 @@ part_stands part words schedule t c is =
     (ahead part one (accesses_part c.accesses)
     (behind part mine before is))))
 
-lieutenant_stands : (part : List ℕ) (t : MessageTable) (traitors : List ℕ) (view : View) (p : ℕ) → p < t.generals → p ≢ t.commander → StandsIn part (tree_told t traitors view p) → StandsIn part (lieutenants_part t traitors view)
-lieutenant_stands part t traitors view p general lieutenant is =
+-- a part that there is room for
+has_room : (room : ℕ) (part who : List ℕ) → length part ≤ room → fitted room part who ≡ part
+has_room room part who short = cond-false (nat_lt room (length part)) (paragraph (over_words room who)) part (le-ltb room (length part) short)
+
+lieutenant_stands : (part : List ℕ) (t : MessageTable) (traitors : List ℕ) (view : View) (p : ℕ) → p < t.generals → p ≢ t.commander → length (each_lieutenant t traitors view) ≤ room_for_lieutenants
+    → StandsIn part (tree_told t traitors view p) → StandsIn part (lieutenants_part t traitors view)
+lieutenant_stands part t traitors view p general lieutenant short is =
     let told : List ℕ = tree_told t traitors view p ++ why_part t traitors p in
     let words : List ℕ = lieutenant_words p (on traitors p) (decision_of t p) in
     let his : StandsIn part (lieutenant_told t traitors view p) = between part told (fold_start words) fold_end (ahead part (tree_told t traitors view p) (why_part t traitors p) is) in
     let own : lieutenant_told t traitors view p ≡ lieutenant_part t traitors view p = sym (cond-false (p == t.commander) [] (lieutenant_told t traitors view p) (ne_eqb p t.commander lieutenant)) in
-    behind part (flat_map (lieutenant_part t traitors view) (range_with_len 0 t.generals)) (heading lieutenants_heading)
-    (among_all part (lieutenant_part t traitors view) (range_with_len 0 t.generals) p (range-on 0 t.generals p (omega arith) (omega arith)) (subst (StandsIn part) own his))
+    let all : List ℕ = each_lieutenant t traitors view in
+    let there : StandsIn part all =
+    among_all part (lieutenant_part t traitors view) (range_with_len 0 t.generals) p (range-on 0 t.generals p (omega arith) (omega arith)) (subst (StandsIn part) own his) in
+    behind part (lieutenants_fitted all) (heading lieutenants_heading) (subst (StandsIn part) (sym (has_room room_for_lieutenants all lieutenants_printer short)) there)
 
 pub proved_folds_hide_nothing : FoldsHideNothing
-proved_folds_hide_nothing words schedule t c p general lieutenant =
+proved_folds_hide_nothing words schedule t c p general lieutenant short =
     let traitors : List ℕ = traitors_of c.scenario in
     let view : View = view_of c.scenario in
     All-from_recursion (Shows (page_text words schedule t c)) (nodes_of t traitors view p)
     (weaker (Shows (tree_told t traitors view p)) (Shows (page_text words schedule t c)) (nodes_of t traitors view p)
     (λ node is.
     let part : List ℕ = shown (said node) in
-    part_stands part words schedule t c (lieutenant_stands part t traitors view p general lieutenant is))
+    part_stands part words schedule t c (lieutenant_stands part t traitors view p general lieutenant short is))
     (tree_shows t traitors view p))

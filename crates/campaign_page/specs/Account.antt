@@ -24,7 +24,8 @@ use Rattle.world.specs.Chronicle.{Chronicle}
 use Rattle.world.specs.declared.schedule.Repeat.{Repeat}
 use Rattle.world.specs.declared.verdict.Verdict.{Verdict}
 use Rattle.campaign_page.specs.Calls.{named_calls}
-use Rattle.campaign_page.specs.Room.{narrow_sheet, no_room, room_for_chronicle, room_for_picture, room_for_rows, room_for_units}
+use Rattle.campaign_page.specs.Printers.{accesses_printer, chronicle_printer, lieutenants_printer, picture_printer, programs_printer, scenario_printer, schedule_printer}
+use Rattle.campaign_page.specs.Room.{fitted, fitted_lines, narrow_sheet, room_for_accesses, room_for_chronicle, room_for_lieutenants, room_for_picture, room_for_programs, room_for_scenario, room_for_schedule, room_for_units, units_words}
 use Rattle.campaign_page.specs.Trees.{tree_told}
 
 -- ---- headings
@@ -54,8 +55,9 @@ unfoldable pub recorded_words : List ℕ
 recorded_words = codes "As the chronicle tells: the accesses to the board are made in its order."
 
 unfoldable pub unscheduled_words : List ℕ
-unscheduled_words = codes
-    "By no schedule: in each round the loyal generals write, and then each traitor acts up to his end, by their numbers."
+unscheduled_words =
+    codes "By no schedule: in each round the loyal generals write, and then each traitor acts up to his end, by their "
+    ++ codes "numbers."
 
 unfoldable pub verdict_heading : List ℕ
 verdict_heading = codes "Verdict, and what was promised"
@@ -64,18 +66,20 @@ unfoldable pub picture_name : List ℕ
 picture_name = codes "Space-time diagram"
 
 unfoldable pub picture_hint : List ℕ
-picture_hint = codes "The same picture alone, to enlarge or to print at any size, is what byzlab draw writes."
+picture_hint =
+    codes "The same picture alone, to enlarge or to print at any size, is what byzlab draw writes, with --schedule or "
+    ++ codes "--chronicle as here."
 
 -- ---- sections
 
 -- the scenario as it is written, with its story at its head
 abbrev pub scenario_part : List ℕ → List ℕ
-scenario_part text = heading scenario_heading ++ lines text
+scenario_part text = heading scenario_heading ++ fitted_lines room_for_scenario text scenario_printer
 
 -- the schedule by which the campaign was played, if it was played and is not a chronicle's
 abbrev pub schedule_told : List (List Repeat) → List ℕ
 schedule_told [] = paragraph unscheduled_words
-schedule_told (line ∷ rest) = lines (schedule_text (line ∷ rest))
+schedule_told (line ∷ rest) = fitted_lines room_for_schedule (schedule_text (line ∷ rest)) schedule_printer
 
 abbrev pub course_told : Option (List (List Repeat)) → List ℕ
 course_told None = paragraph recorded_words
@@ -84,14 +88,14 @@ course_told (Some schedule) = schedule_told schedule
 abbrev pub schedule_part : Option (List (List Repeat)) → List ℕ
 schedule_part schedule = heading schedule_heading ++ course_told schedule
 
--- the program of a traitor, and what the verifier knows of it, if there is room
+-- the program of a traitor, and what the verifier knows of it, if it is short enough
 abbrev pub general_name : ℕ → List ℕ
 general_name g = codes "General " ++ decimal g
 
 abbrev pub explained_told : List Insn → List ℕ
 explained_told program =
     if nat_lt room_for_units (length (slots_of program))
-    then no_room (length (slots_of program)) (codes "units") (codes "byzlab check --explain tells what is known of them.")
+    then paragraph (units_words (length (slots_of program)) programs_printer)
     else begun_lines (explained_at (named_calls program) program)
 
 abbrev pub program_told : ℕ → List Insn → List ℕ
@@ -111,30 +115,29 @@ abbrev pub programs_told : List ℕ → List ℕ
 programs_told [] = paragraph no_programs
 programs_told (c ∷ cs) = c ∷ cs
 
-abbrev pub programs_part : Scenario → List ℕ
-programs_part s = heading programs_heading ++ programs_told (flat_map (program_part s) (range_with_len 0 s.generals))
+abbrev pub each_program : Scenario → List ℕ
+each_program s = flat_map (program_part s) (range_with_len 0 s.generals)
 
--- the picture, if there is room; on paper a wide one has a wide sheet, since a narrow one would make its letters too
--- small to be read
+abbrev pub programs_part : Scenario → List ℕ
+programs_part s =
+    heading programs_heading ++ fitted room_for_programs (programs_told (each_program s)) programs_printer
+
+-- the picture, and where it is to be had alone; on paper a wide one has a wide sheet, since a narrow one would make its
+-- letters too small to be read
 abbrev pub is_wide : Scenario → List Access → Bool
 is_wide s accesses = nat_lt narrow_sheet (width s.generals accesses)
 
 abbrev pub hinted : Bool → List ℕ → List ℕ
 hinted is_wide svg = paragraph picture_hint ++ picture is_wide picture_name svg
 
-abbrev pub drawn_told : Bool → List ℕ → List ℕ
-drawn_told is_wide svg =
-    if nat_lt room_for_picture (length svg)
-    then no_room (length svg) (codes "bytes") (codes "byzlab draw writes the picture.") else hinted is_wide svg
-
 abbrev pub picture_told : Bool → List ℕ → List ℕ
-picture_told is_wide svg = heading picture_heading ++ drawn_told is_wide svg
+picture_told is_wide svg = heading picture_heading ++ fitted room_for_picture (hinted is_wide svg) picture_printer
 
 abbrev pub picture_part : MessageTable → Chronicle → List ℕ
 picture_part t c = picture_told (is_wide c.scenario c.accesses) (svg_text t c)
 
--- what a lieutenant decides, his tree, two levels below the commander's, and shorter where all tell the same, and how his
--- decision comes about
+-- what a lieutenant decides, his tree, two levels below the commander's, and shorter where all tell the same, and how
+-- his decision comes about
 abbrev pub view_of : Scenario → View
 view_of s = record { depth = 2; folds = true; order = Some s.order }
 
@@ -148,8 +151,8 @@ lieutenant_words g is_traitor order =
 -- of five rounds, in which he may have more than a thousand lists, who tells them
 unfoldable pub elsewhere_words : ℕ → List ℕ
 elsewhere_words g =
-    codes "Of five rounds a page has no room for the lists by which he decides so: play, of a chronicle audit, tells them"
-    ++ codes " with --explain --of " ++ (decimal g ++ codes ".")
+    codes "Of five rounds a page has no room for the lists by which he decides so: play, with --schedule as here, of a "
+    ++ codes "chronicle audit, tells them with --explain --of " ++ (decimal g ++ codes ".")
 
 abbrev pub why_part : MessageTable → List ℕ → ℕ → List ℕ
 why_part t traitors g = if nat_lt t.bound 4 then lines (explained_one t traitors g) else paragraph (elsewhere_words g)
@@ -161,11 +164,16 @@ lieutenant_told t traitors view g =
 abbrev pub lieutenant_part : MessageTable → List ℕ → View → ℕ → List ℕ
 lieutenant_part t traitors view g = if g == t.commander then [] else lieutenant_told t traitors view g
 
-abbrev pub lieutenants_part : MessageTable → List ℕ → View → List ℕ
-lieutenants_part t traitors view =
-    heading lieutenants_heading ++ flat_map (lieutenant_part t traitors view) (range_with_len 0 t.generals)
+abbrev pub each_lieutenant : MessageTable → List ℕ → View → List ℕ
+each_lieutenant t traitors view = flat_map (lieutenant_part t traitors view) (range_with_len 0 t.generals)
 
--- the accesses, in the board's order, if there are any: a table with a row for each, if there is room
+abbrev pub lieutenants_fitted : List ℕ → List ℕ
+lieutenants_fitted told = fitted room_for_lieutenants told lieutenants_printer
+
+abbrev pub lieutenants_part : MessageTable → List ℕ → View → List ℕ
+lieutenants_part t traitors view = heading lieutenants_heading ++ lieutenants_fitted (each_lieutenant t traitors view)
+
+-- the accesses, in the board's order, if there are any: a table with a row for each
 abbrev pub access_heads : List ℕ
 access_heads = row (head (codes "Round") ++ head (codes "General") ++ head (codes "What he does")
     ++ head (codes "What the board answers"))
@@ -174,26 +182,18 @@ abbrev pub access_row : Access → List ℕ
 access_row a = row (cell (decimal a.round) ++ cell (decimal a.general) ++ cell (asked_words a.request)
     ++ cell (answered_words a.reply))
 
-abbrev pub rows_told : ℕ → List ℕ → List ℕ
-rows_told count rows =
-    if nat_lt room_for_rows (length rows)
-    then no_room count (codes "accesses") (codes "byzlab play prints them in the chronicle.")
-    else table (access_heads ++ rows)
+abbrev pub access_table : List Access → List ℕ
+access_table accesses = table (access_heads ++ flat_map access_row accesses)
 
 abbrev pub accesses_part : List Access → List ℕ
 accesses_part [] = []
 accesses_part (a ∷ accesses) =
-    heading accesses_heading ++ rows_told (length (a ∷ accesses)) (flat_map access_row (a ∷ accesses))
+    heading accesses_heading ++ fitted room_for_accesses (access_table (a ∷ accesses)) accesses_printer
 
--- the chronicle, each of its bytes as a character, if there is room
-abbrev pub chronicle_lines : List ℕ → List ℕ
-chronicle_lines text =
-    if nat_lt room_for_chronicle (length text)
-    then no_room (length text) (codes "bytes") (codes "byzlab play prints the chronicle.")
-    else lines (flat_map encode_utf8 text)
-
+-- the chronicle, each of its bytes as a character
 abbrev pub chronicle_shown : List ℕ → List ℕ
-chronicle_shown text = heading chronicle_heading ++ chronicle_lines text
+chronicle_shown text =
+    heading chronicle_heading ++ fitted_lines room_for_chronicle (flat_map encode_utf8 text) chronicle_printer
 
 abbrev pub chronicle_part : Chronicle → List ℕ
 chronicle_part c = chronicle_shown (chronicle_text c)

@@ -1,5 +1,5 @@
 -- Laws of such pages, each the contract of a function of this crate.
-use Rattle.std.specs.Prelude.{ℕ, ◌≡◌, ◌≢◌, ◌<◌, List, ◌++◌, ℤ, Option, Some, codes}
+use Rattle.std.specs.Prelude.{ℕ, ◌≡◌, ◌≢◌, ◌<◌, ◌≤◌, List, ◌++◌, length, ℤ, Option, Some, codes}
 use Rattle.std.specs.List.{All}
 use Rattle.markup.specs.Grammar.{IsElement}
 use Rattle.asm.specs.Helper.{helper_of as number_of}
@@ -9,12 +9,14 @@ use Rattle.drawing.specs.Words.{said}
 use Rattle.drawing.specs.declared.node.Node.{Node}
 use Rattle.page.specs.Page.{shown}
 use Rattle.retold.specs.Retold.{traitors_of}
+use Rattle.roster.specs.Scenario.{IsScenario}
 use Rattle.semantics.specs.Call.{helper_of}
 use Rattle.semantics.specs.declared.request.Helper.{Helper}
 use Rattle.world.specs.Chronicle.{Chronicle}
 use Rattle.world.specs.declared.schedule.Repeat.{Repeat}
-use Rattle.campaign_page.specs.Account.{page_text, view_of}
+use Rattle.campaign_page.specs.Account.{each_lieutenant, page_text, view_of}
 use Rattle.campaign_page.specs.Calls.{helper_name}
+use Rattle.campaign_page.specs.Room.{longest_page, room_for_lieutenants}
 
 -- a page is one element of XML, between the line that says that it is HTML and a line feed, whatever stands in the
 -- scenario
@@ -24,6 +26,12 @@ CampaignPagesAreElements =
     → (text : List ℕ) × IsElement text
     × (page_text scenario schedule t c ≡ codes "<!DOCTYPE html>\n" ++ text ++ codes "\n")
 
+-- no page is longer than this, whatever stands in the scenario, and whatever the schedule, the table and the letters
+abbrev pub CampaignPagesAreShort : Type 0
+CampaignPagesAreShort =
+    (scenario : List ℕ) (schedule : Option (List (List Repeat))) (t : MessageTable) (c : Chronicle)
+    → IsScenario c.scenario → length (page_text scenario schedule t c) ≤ longest_page
+
 -- a text stands in another
 abbrev pub StandsIn : List ℕ → List ℕ → Type 0
 StandsIn part whole = (before : List ℕ) × (after : List ℕ) × (whole ≡ before ++ part ++ after)
@@ -32,11 +40,13 @@ StandsIn part whole = (before : List ℕ) × (after : List ℕ) × (whole ≡ be
 abbrev pub IsShownIn : List ℕ → Node → Type 0
 IsShownIn text node = StandsIn (shown (said node)) text
 
--- so it is of every label that a lieutenant's tree shows: a fold that is shut leaves none out
+-- so it is of every label that a lieutenant's tree shows, where there is room for the lieutenants: a fold that is shut
+-- leaves none out
 abbrev pub FoldsHideNothing : Type 0
 FoldsHideNothing =
     (scenario : List ℕ) (schedule : Option (List (List Repeat))) (t : MessageTable) (c : Chronicle) (p : ℕ)
     → p < t.generals → p ≢ t.commander
+    → length (each_lieutenant t (traitors_of c.scenario) (view_of c.scenario)) ≤ room_for_lieutenants
     → All (IsShownIn (page_text scenario schedule t c)) (nodes_of t (traitors_of c.scenario) (view_of c.scenario) p)
 
 -- the assembler takes a name that stands in a call for the number of that helper

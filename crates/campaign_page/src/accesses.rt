@@ -3,9 +3,10 @@ ghost use Rattle.std.specs.Prelude.{◌≡◌, ◌++◌, decimal, flat_map, stri
 ghost use Rattle.semantics.specs.Replies.{words_in};
 ghost use Rattle.diagram.specs.Words.{answered_words, asked_words};
 ghost use Rattle.page.specs.Page.{cell, head, row};
-ghost use Rattle.campaign_page.specs.Account.{access_heads, access_row, accesses_heading, accesses_part, rows_told};
+ghost use Rattle.campaign_page.specs.Account.{access_heads, access_row, access_table, accesses_heading, accesses_part};
 
-use crate::room::{ROOM_FOR_ROWS, put_no_room};
+use crate::printers::accesses_printer;
+use crate::room::{ROOM_FOR_ACCESSES, put_fitted};
 use board::Access;
 use diagram::words::{put_answered, put_asked};
 use page::{
@@ -37,33 +38,25 @@ pub fn put_listed(alloc: Global, out: &mut String, accesses: &[Access]) -> Resul
     if accesses.is_empty() {
         return Ok(());
     }
-    let mut rows = String::new(alloc);
-    put_rows(alloc, &mut rows, accesses)?;
+    let mut table = String::new(alloc);
+    put_table(alloc, &mut table, accesses)?;
     put_heading(out, accesses_heading())?;
-    put_rows_told(alloc, out, accesses.len(), rows.as_str())
+    put_fitted(
+        alloc,
+        out,
+        ROOM_FOR_ACCESSES,
+        table.as_str(),
+        accesses_printer(),
+    )
 }
 
-/// Adds a table of these rows, or of how many accesses they would tell, if there is no room.
-fn put_rows_told(
-    alloc: Global,
-    out: &mut String,
-    count: usize,
-    rows: &str,
-) -> Result<(), AllocError>
-    ensures { OnOk result (string_bytes out.new ≡ string_bytes out.old ++ rows_told count rows.now) }
+/// Adds a table of these accesses.
+fn put_table(alloc: Global, out: &mut String, accesses: &[Access]) -> Result<(), AllocError>
+    ensures { OnOk result (string_bytes out.new ≡ string_bytes out.old ++ access_table accesses.now) }
 {
-    if rows.len() > ROOM_FOR_ROWS {
-        return put_no_room(
-            alloc,
-            out,
-            count,
-            "accesses",
-            "byzlab play prints them in the chronicle.",
-        );
-    }
     put_table_start(out)?;
     put_heads(out)?;
-    out.push_str(rows)?;
+    put_rows(alloc, out, accesses)?;
     put_table_end(out)
 }
 

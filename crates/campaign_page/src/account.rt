@@ -1,10 +1,14 @@
 //! A campaign as a page.
 ghost use Rattle.std.specs.Prelude.{◌≡◌, ◌++◌, encode_utf8, flat_map, option_map, string_bytes, IfOk, OnOk};
-ghost use Rattle.campaign_page.specs.Account.{picture_hint, picture_name, chronicle_heading, picture_heading, scenario_heading, chronicle_lines, chronicle_shown, chronicle_part, drawn_told, page_text, is_wide, parts, picture_part, picture_told, scenario_part, title, title_words};
+ghost use Rattle.campaign_page.specs.Account.{picture_hint, picture_name, chronicle_heading, picture_heading, scenario_heading, chronicle_shown, chronicle_part, hinted, page_text, is_wide, parts, picture_part, picture_told, scenario_part, title, title_words};
 ghost use Rattle.trace.specs.Text.{chronicle_text};
 
 use crate::accesses::put_accesses;
-use crate::room::{NARROW_SHEET, ROOM_FOR_CHRONICLE, ROOM_FOR_PICTURE, put_no_room};
+use crate::printers::{chronicle_printer, picture_printer, scenario_printer};
+use crate::room::{
+    NARROW_SHEET, ROOM_FOR_CHRONICLE, ROOM_FOR_PICTURE, ROOM_FOR_SCENARIO, put_fitted,
+    put_fitted_lines,
+};
 use crate::schedule::put_schedule;
 use crate::sections::{put_lieutenants, put_programs_of};
 use crate::verdict::put_verdict;
@@ -12,7 +16,7 @@ use board::Access;
 use book::Heard;
 use diagram::campaign_svg;
 use diagram::layout::width;
-use page::{finish, put_heading, put_lines, put_paragraph, put_picture, start};
+use page::{finish, put_heading, put_paragraph, put_picture, start};
 use roster::Scenario;
 use std::alloc::{AllocError, Global};
 use trace::{Latch, write_chronicle};
@@ -53,7 +57,7 @@ fn put_parts<H: Heard>(
     ensures { OnOk result (string_bytes out.new ≡ string_bytes out.old
         ++ parts scenario_text.now (option_map (λ s. s.now) schedule.entry) (H.seen table.now) chronicle.now) }
 {
-    put_scenario(out, scenario_text)?;
+    put_scenario(alloc, out, scenario_text)?;
     put_schedule(alloc, out, schedule)?;
     put_programs_of(alloc, out, chronicle)?;
     put_diagram(alloc, out, table, chronicle)?;
@@ -98,11 +102,11 @@ fn title_of(
 /// # Errors
 ///
 /// No memory for the text; so of every function here.
-pub fn put_scenario(out: &mut String, text: &str) -> Result<(), AllocError>
+pub fn put_scenario(alloc: Global, out: &mut String, text: &str) -> Result<(), AllocError>
     ensures { OnOk result (string_bytes out.new ≡ string_bytes out.old ++ scenario_part text.now) }
 {
     put_heading(out, scenario_heading())?;
-    put_lines(out, text)
+    put_fitted_lines(alloc, out, ROOM_FOR_SCENARIO, text, scenario_printer())
 }
 
 /// Adds the picture.
@@ -127,27 +131,26 @@ pub fn is_wide(alloc: Global, scenario: &Scenario, accesses: &[Access]) -> Resul
     Ok(width(alloc, scenario.generals(), accesses)? > NARROW_SHEET)
 }
 
-/// Adds where this picture is to be had alone, and the picture, or how long it is, if there is no room.
+/// Adds where this picture is to be had alone, and the picture, or that there is no room.
 pub fn put_svg(alloc: Global, out: &mut String, is_wide: bool, svg: &str) -> Result<(), AllocError>
     ensures { OnOk result (string_bytes out.new ≡ string_bytes out.old ++ picture_told is_wide svg.now) }
 {
+    let mut drawn = String::new(alloc);
+    put_hinted(&mut drawn, is_wide, svg)?;
     put_heading(out, picture_heading())?;
-    put_drawn(alloc, out, is_wide, svg)
+    put_fitted(
+        alloc,
+        out,
+        ROOM_FOR_PICTURE,
+        drawn.as_str(),
+        picture_printer(),
+    )
 }
 
-/// Adds the picture below its heading, or how long it is.
-fn put_drawn(alloc: Global, out: &mut String, is_wide: bool, svg: &str) -> Result<(), AllocError>
-    ensures { OnOk result (string_bytes out.new ≡ string_bytes out.old ++ drawn_told is_wide svg.now) }
+/// Adds where this picture is to be had alone, and the picture.
+fn put_hinted(out: &mut String, is_wide: bool, svg: &str) -> Result<(), AllocError>
+    ensures { OnOk result (string_bytes out.new ≡ string_bytes out.old ++ hinted is_wide svg.now) }
 {
-    if svg.len() > ROOM_FOR_PICTURE {
-        return put_no_room(
-            alloc,
-            out,
-            svg.len(),
-            "bytes",
-            "byzlab draw writes the picture.",
-        );
-    }
     put_paragraph(out, picture_hint())?;
     put_picture(out, is_wide, picture_name(), svg)
 }
@@ -160,29 +163,19 @@ fn put_chronicle(alloc: Global, out: &mut String, chronicle: &Chronicle) -> Resu
     put_chronicle_text(alloc, out, text.as_slice())
 }
 
-/// Adds a chronicle of this text, or how long it is, if there is no room.
+/// Adds a chronicle of this text, or that there is no room.
 pub fn put_chronicle_text(alloc: Global, out: &mut String, text: &[u8]) -> Result<(), AllocError>
     ensures { OnOk result (string_bytes out.new ≡ string_bytes out.old ++ chronicle_shown text.now) }
 {
-    put_heading(out, chronicle_heading())?;
-    put_chronicle_lines(alloc, out, text)
-}
-
-/// Adds its lines, or how long it is.
-fn put_chronicle_lines(alloc: Global, out: &mut String, text: &[u8]) -> Result<(), AllocError>
-    ensures { OnOk result (string_bytes out.new ≡ string_bytes out.old ++ chronicle_lines text.now) }
-{
-    if text.len() > ROOM_FOR_CHRONICLE {
-        return put_no_room(
-            alloc,
-            out,
-            text.len(),
-            "bytes",
-            "byzlab play prints the chronicle.",
-        );
-    }
     let text = text_of(alloc, text)?;
-    put_lines(out, text.as_str())
+    put_heading(out, chronicle_heading())?;
+    put_fitted_lines(
+        alloc,
+        out,
+        ROOM_FOR_CHRONICLE,
+        text.as_str(),
+        chronicle_printer(),
+    )
 }
 
 /// The text of a chronicle.
@@ -251,5 +244,6 @@ fn picture_name() -> &'static str
 fn picture_hint() -> &'static str
     ensures { result.now ≡ picture_hint }
 {
-    "The same picture alone, to enlarge or to print at any size, is what byzlab draw writes."
+    "The same picture alone, to enlarge or to print at any size, is what byzlab draw writes, with --schedule or \
+     --chronicle as here."
 }

@@ -22,7 +22,7 @@ pub(crate) fn explanation(alloc: Global, program: &Program) -> Result<String, Al
 }
 
 /// How each unit's call is written; an empty text of other instructions.
-#[tactic(auto, using(crate::proofs::CallLemmas::all_named, crate::proofs::CallLemmas::none_named, crate::proofs::CallLemmas::one_named))]
+#[tactic(auto, using(crate::proofs::CallLemmas::naming))]
 fn statements(alloc: Global, program: &Program) -> Result<Vec<String>, AllocError>
     ensures { IfOk result (λ texts. in_lists [] texts.items ≡ named_calls program.now) }
 {

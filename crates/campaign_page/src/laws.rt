@@ -1,5 +1,5 @@
 //! Laws of such pages: each function does nothing, and its contract is the law.
-ghost use Rattle.campaign_page.specs.Laws.{CampaignPagesAreElements, FoldsHideNothing, NamesAreRead};
+ghost use Rattle.campaign_page.specs.Laws.{CampaignPagesAreElements, CampaignPagesAreShort, FoldsHideNothing, NamesAreRead};
 
 /// A campaign's page is a line that says that it is HTML, and one element, whatever the scenario's text, the table and
 /// the chronicle.
@@ -7,7 +7,13 @@ pub fn campaign_pages_are_elements()
     ensures { CampaignPagesAreElements }
 {}
 
-/// What is said of the labels of a lieutenant's tree stands in the page, whichever folds are open.
+/// No page is longer than 2,000,000 bytes, whatever the scenario's text, the schedule, the table and the chronicle.
+pub fn campaign_pages_are_short()
+    ensures { CampaignPagesAreShort }
+{}
+
+/// What is said of the labels of a lieutenant's tree stands in the page, whichever folds are open, where it has room
+/// for the lieutenants.
 pub fn folds_hide_nothing()
     ensures { FoldsHideNothing }
 {}

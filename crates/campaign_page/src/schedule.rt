@@ -2,8 +2,10 @@
 ghost use Rattle.std.specs.Prelude.{◌≡◌, ◌++◌, string_bytes, OnOk, option_map};
 ghost use Rattle.campaign_page.specs.Account.{recorded_words, schedule_heading, schedule_part, schedule_told, unscheduled_words};
 
+use crate::printers::schedule_printer;
+use crate::room::{ROOM_FOR_SCHEDULE, put_fitted_lines};
 use explore::schedule_text;
-use page::{put_heading, put_lines, put_paragraph};
+use page::{put_heading, put_paragraph};
 use std::alloc::{AllocError, Global};
 use world::Schedule;
 
@@ -35,7 +37,13 @@ fn put_told(alloc: Global, out: &mut String, schedule: &Schedule) -> Result<(), 
         return put_paragraph(out, unscheduled_words());
     }
     let text = schedule_text(alloc, schedule)?;
-    put_lines(out, text.as_str())
+    put_fitted_lines(
+        alloc,
+        out,
+        ROOM_FOR_SCHEDULE,
+        text.as_str(),
+        schedule_printer(),
+    )
 }
 
 /// The heading of the schedule.
@@ -59,5 +67,6 @@ fn recorded_words() -> &'static str
 fn unscheduled_words() -> &'static str
     ensures { result.now ≡ unscheduled_words }
 {
-    "By no schedule: in each round the loyal generals write, and then each traitor acts up to his end, by their numbers."
+    "By no schedule: in each round the loyal generals write, and then each traitor acts up to his end, by their \
+     numbers."
 }

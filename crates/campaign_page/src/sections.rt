@@ -1,14 +1,16 @@
 //! Sections with a part for each general.
-ghost use Rattle.std.specs.Prelude.{◌≡◌, ◌<◌, ◌++◌, flat_map, option_map, string_bytes, IfOk, OnOk};
-ghost use Rattle.std.specs.List.{range_with_len};
-ghost use Rattle.campaign_page.specs.Account.{lieutenants_heading, no_programs, programs_heading, programs_told, lieutenant_part, lieutenant_words, lieutenants_part, explained_told, program_part, program_told, programs_part, traitor_words, why_part, elsewhere_words, general_name, view_of};
+ghost use Rattle.std.specs.Prelude.{◌≡◌, ◌<◌, ◌++◌, option_map, string_bytes, IfOk, OnOk};
+ghost use Rattle.campaign_page.specs.Account.{each_lieutenant, each_program, lieutenants_heading, no_programs, programs_heading, programs_told, lieutenant_part, lieutenant_words, lieutenants_part, explained_told, program_part, program_told, programs_part, traitor_words, why_part, elsewhere_words, general_name, view_of};
 ghost use Rattle.label.specs.Labels.{on};
 ghost use Rattle.retold.specs.Retold.{traitors_of};
 ghost use Rattle.roster.specs.Scenario.{program_of};
 
 use crate::calls::explanation;
 use crate::listing::put_tree;
-use crate::room::{ROOM_FOR_UNITS, put_no_room};
+use crate::printers::programs_printer;
+use crate::room::{
+    ROOM_FOR_PROGRAMS, ROOM_FOR_UNITS, put_fitted, put_fitted_lieutenants, units_words,
+};
 use book::{Heard, decision, explain_one};
 use drawing::View;
 use insn::Program;
@@ -37,9 +39,24 @@ pub(crate) fn put_programs_of(
 pub fn put_programs(alloc: Global, out: &mut String, scenario: &Scenario) -> Result<(), AllocError>
     ensures { OnOk result (string_bytes out.new ≡ string_bytes out.old ++ programs_part scenario.now) }
 {
+    let mut told = String::new(alloc);
+    put_all_programs(alloc, &mut told, scenario)?;
+    put_heading(out, programs_heading())?;
+    put_fitted(
+        alloc,
+        out,
+        ROOM_FOR_PROGRAMS,
+        told.as_str(),
+        programs_printer(),
+    )
+}
+
+/// Adds that of each traitor, or that there is none.
+fn put_all_programs(alloc: Global, out: &mut String, scenario: &Scenario) -> Result<(), AllocError>
+    ensures { OnOk result (string_bytes out.new ≡ string_bytes out.old ++ programs_told (each_program scenario.now)) }
+{
     let mut programs = String::new(alloc);
     put_each_program(alloc, &mut programs, scenario)?;
-    put_heading(out, programs_heading())?;
     put_programs_told(out, programs.as_str())
 }
 
@@ -64,7 +81,7 @@ fn no_programs() -> &'static str
 /// Adds that of each traitor.
 fn put_each_program(alloc: Global, out: &mut String, scenario: &Scenario) -> Result<(), AllocError>
     ensures { OnOk result (string_bytes out.new ≡ string_bytes out.old
-        ++ flat_map (program_part scenario.now) (range_with_len 0 scenario.now.generals)) }
+        ++ each_program scenario.now) }
 {
     for general in 0..scenario.generals() {
         put_program_of(alloc, out, scenario, general)?;
@@ -109,13 +126,8 @@ fn put_explained(alloc: Global, out: &mut String, program: &Program) -> Result<(
 {
     let units = program.units();
     if units > ROOM_FOR_UNITS {
-        return put_no_room(
-            alloc,
-            out,
-            units,
-            "units",
-            "byzlab check --explain tells what is known of them.",
-        );
+        let words = units_words(alloc, units, programs_printer())?;
+        return put_paragraph(out, words.as_str());
     }
     let told = explanation(alloc, program)?;
     put_begun_lines(out, told.as_str())
@@ -139,14 +151,11 @@ pub(crate) fn put_lieutenants<H: Heard>(
         ++ lieutenants_part (H.seen table.now) (traitors_of chronicle.now.scenario) (view_of chronicle.now.scenario)) }
 {
     let traitors = traitors(alloc, chronicle.scenario())?;
+    let view = view_of(chronicle.scenario());
+    let mut told = String::new(alloc);
+    put_each_lieutenant(alloc, &mut told, table, traitors.as_slice(), view)?;
     put_heading(out, lieutenants_heading())?;
-    put_each_lieutenant(
-        alloc,
-        out,
-        table,
-        traitors.as_slice(),
-        view_of(chronicle.scenario()),
-    )
+    put_fitted_lieutenants(alloc, out, told.as_str())
 }
 
 /// Adds that of each lieutenant.
@@ -158,8 +167,7 @@ fn put_each_lieutenant<H: Heard>(
     view: View,
 ) -> Result<(), AllocError>
     ensures { OnOk result (string_bytes out.new ≡ string_bytes out.old
-        ++ flat_map (lieutenant_part (H.seen table.now) traitors.now view)
-        (range_with_len 0 (H.seen table.now).generals)) }
+        ++ each_lieutenant (H.seen table.now) traitors.now view) }
 {
     for general in 0..table.generals() {
         put_lieutenant_of(alloc, out, table, traitors, view, general)?;
@@ -234,8 +242,8 @@ fn elsewhere_words(alloc: Global, general: u8) -> Result<String, AllocError>
     ensures { IfOk result (λ words. string_bytes words ≡ elsewhere_words general) }
 {
     format!(in alloc;
-        "Of five rounds a page has no room for the lists by which he decides so: play, of a chronicle audit, tells them \
-         with --explain --of {general}."
+        "Of five rounds a page has no room for the lists by which he decides so: play, with --schedule as here, of a \
+         chronicle audit, tells them with --explain --of {general}."
     )
 }
 

@@ -88,11 +88,12 @@ pub fn run_each(
     ensures begun { (bytes : List ℕ) → SpellsProgram bytes verified.now →
         AreBegun bytes contexts.now outcomes.old outcomes.new }
 {
-    if outcomes.is_empty() {
-        return Ok(());
-    }
-    let first = Context::new(&contexts[..4096]);
-    let mut activation = Activation::start(verified, &first, Outbox::new(alloc, HOST)?);
+    let blank = [0; Context::BYTES];
+    let mut activation = Activation::start(
+        verified,
+        &Context::new(&blank),
+        Outbox::new(alloc, HOST)?,
+    );
     for index in 0..outcomes.len() {
         let context = Context::new(&contexts[4096 * index..4096 * index + 4096]);
         activation.restart(verified, &context, Outbox::new(alloc, HOST)?);

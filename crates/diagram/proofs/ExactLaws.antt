@@ -1,186 +1,178 @@
--- Each thing that a lieutenant was told has one stroke.
-use Rattle.std.proofs.Common.{ℕ, zero, suc, ◌+◌, ◌-◌, ◌≤◌, ◌≡◌, ◌≢◌, Bool, true, false, ◌&&◌, ◌||◌, cond, List, [], ◌∷◌, ◌++◌, length, length-append, refl, sym, ap, ◌∙◌, append_assoc, append-nil, arith, inl, inr}
-use Rattle.std.proofs.Math.Seq.{take-append_seam}
-use Rattle.std.proofs.lemmas.Bool.{cases_Bool, cond-false, cond_both, eq-eqb, le-leb, lt-leb, ltb-false, ltb-true, ne_eqb}
+-- Each thing that a lieutenant was told has one stroke, in a row of its list.
+use Rattle.std.proofs.Common.{ℕ, zero, suc, ◌+◌, ◌-◌, ◌<◌, ◌≤◌, ◌≡◌, ◌≢◌, Bool, true, false, ◌&&◌, cond, List, [], ◌∷◌, ◌++◌, length, length-append, map, refl, sym, ap, subst, ◌∙◌, arith, inl, inr, Some}
+use Rattle.std.proofs.lemmas.Bool.{and_from, and_parts, and_right, cases_Bool, cond_both, eq-eqb, eqb-true, le-leb, lt-leb, ltb-false, ltb-true, ne_eqb}
 use Rattle.std.proofs.lemmas.List.Elements.{All-from_recursion}
-use Rattle.std.proofs.lemmas.List.Folds.{list_any-append}
-use Rattle.std.proofs.lemmas.List.Sums.{sum_by-append, sum_by-cons}
-use Rattle.std.specs.Prelude.{◌==◌, count_by, if◌then◌else◌, take}
-use Rattle.std.specs.List.{AllByRecursion, list_any}
-use Rattle.label.proofs.Places.{all-append}
+use Rattle.std.proofs.lemmas.List.Sums.{sum_by-cons}
+use Rattle.std.specs.Prelude.{◌==◌, count_by, drop, filter, if◌then◌else◌, take}
+use Rattle.std.specs.List.{AllByRecursion, list_any, range_with_len}
+use Rattle.label.specs.Labels.{on, others}
+use Rattle.label.proofs.Counting.{others-on}
 use Rattle.book.specs.Table.{MessageTable}
+use Rattle.book.proofs.Places.{all_flat}
 use Rattle.diagram.specs.declared.stroke.Stroke.{Stroke}
 use Rattle.diagram.specs.declared.telling.Telling.{Telling}
-use Rattle.diagram.proofs.Sameness.{same_is}
-use Rattle.diagram.specs.Facts.{added, is_before, is_same, made, strokes_below, strokes_of, strokes_to, strokes_with, tellings_of}
-use Rattle.diagram.specs.Left.{has_row, is_left, most_rows, with_rows}
-use Rattle.diagram.specs.Laws.{StrokesAreExact, is_of, labels_told}
+use Rattle.diagram.specs.Facts.{strokes_of, telling_at, tellings_below, tellings_by, tellings_of}
+use Rattle.diagram.specs.Laws.{RowsAreExact, StrokesAreExact, drawn_in, has_lied, has_lied_as, is_of, labels_told, list_in, told_by}
+use Rattle.diagram.specs.Left.{is_past}
+use Rattle.diagram.specs.Lists.{arranged, firsts, has_row, is_in, is_lie, is_lie_to, is_same, is_to, labels_of, list_behind, list_of, list_to, lists_of, lists_to, most_rows, stroke_of, strokes_from, with_rows}
+use Rattle.diagram.proofs.ArrangedLemmas.{all_filter, all_firsts, any_arranged, count_arranged, count_within_told, is_lie_of, liar_before, no_honest_before, told_once}
+use Rattle.diagram.proofs.RowLemmas.{IsWithin, all_range, all_strokes, any_stroke, count_strokes, count_within, drop_strokes, filters_swap, first_rows, his_list, rows_are, take_strokes}
 
--- ---- how many
+-- ---- what is told at all
 
-abbrev one_if : Bool → ℕ
-one_if b = if b then 1 else 0
+-- rounds and tellers
+within_below : (t : MessageTable) (k : ℕ) (w : List ℕ) (p rounds : ℕ) → length w + k ≤ rounds → AllByRecursion (IsWithin rounds) (tellings_below t k w p)
+unfolding tellings_below
+within_below t zero w p rounds few = tt
+within_below t (suc k) w p rounds few =
+    all_flat (IsWithin rounds) (tellings_by t k w p) (others t.generals (p ∷ w))
+    (λ j there.
+    let long : length (w ++ j ∷ []) ≡ length w + 1 = length-append w (j ∷ []) in
+    ((omega arith, omega arith), within_below t k (w ++ j ∷ []) p rounds (omega arith)))
 
-either : (b : Bool) → (b || false) ≡ b
-either true = refl
-either false = refl
+within_all : (t : MessageTable) (order p : ℕ) → AllByRecursion (IsWithin (t.bound + 1)) (tellings_of t order p)
+unfolding tellings_of
+within_all t order p = ((omega arith, omega arith), within_below t t.bound (t.commander ∷ []) p (t.bound + 1) (omega arith))
 
-any_or : (b : Bool) → (b || true) ≡ true
-any_or true = refl
-any_or false = refl
+tellers_below : (t : MessageTable) (k : ℕ) (w : List ℕ) (p : ℕ) → AllByRecursion (λ (x : Telling). x.teller < t.generals) (tellings_below t k w p)
+unfolding tellings_below
+tellers_below t zero w p = tt
+tellers_below t (suc k) w p =
+    all_flat (λ (x : Telling). x.teller < t.generals) (tellings_by t k w p) (others t.generals (p ∷ w))
+    (λ j there. ((others-on t.generals (p ∷ w) j there).0, tellers_below t k (w ++ j ∷ []) p))
 
--- among those so far and one more
-any_more : (q x : Telling) (seen : List Telling) → list_any (is_same q) (seen ++ x ∷ []) ≡ (list_any (is_same q) seen || is_same q x)
-any_more q x seen = list_any-append (is_same q) seen (x ∷ []) ∙ ap (λ b. list_any (is_same q) seen || b) (either (is_same q x))
+tellers_all : (t : MessageTable) (order p : ℕ) → t.commander < t.generals → AllByRecursion (λ (x : Telling). x.teller < t.generals) (tellings_of t order p)
+unfolding tellings_of
+tellers_all t order p inside = (inside, tellers_below t t.bound (t.commander ∷ []) p)
 
-count_more : (f : Stroke → Bool) (done : List Stroke) (stroke : Stroke) → count_by f (done ++ stroke ∷ []) ≡ count_by f done + one_if (f stroke)
-count_more f done stroke =
-    let sum : count_by f (done ++ stroke ∷ []) ≡ count_by f done + count_by f (stroke ∷ []) = sum_by-append (λ x. cond (f x) 1 0) done (stroke ∷ []) in
-    omega arith
+-- ---- one list
 
-module _ (p : ℕ) (q : Telling) where
-  -- of one to whom it is told
-  own_same : (all : List Telling) (x : Telling) (row : ℕ) → is_of p q (made p all x row) ≡ is_same q x
-  own_same all x row = ap (λ b. b && is_same q x) (eq-eqb p p refl)
+-- each thing once
+abbrev things : List Telling → ℕ → List Telling
+things T round = filter (is_in round) (firsts is_same [] T)
 
-  told_once : (all seen : List Telling) (place : ℕ) (done : List Stroke) (x : Telling) → take place all ≡ seen → count_by (is_of p q) done ≡ one_if (list_any (is_same q) seen)
-      → count_by (is_of p q) (added p all place done x) ≡ one_if (list_any (is_same q) (seen ++ x ∷ []))
-  unfolding added
-  told_once all seen place done x is so =
-      let new : Stroke = made p all x (count_by (is_before x.round p) done) in
-      let C : List Stroke → Type 0 = λ strokes. count_by (is_of p q) strokes ≡ one_if (list_any (is_same q) (seen ++ x ∷ [])) in
-      cond_both (list_any (is_same x) (take place all)) done (done ++ new ∷ []) C
-      (λ known. so ∙ ap one_if (elim (cases_Bool (is_same q x)) [
-        | inl same ↦
-            let e : q ≡ x = same_is q x same in
-            let there : list_any (is_same q) seen ≡ true = ap (λ (y : Telling). list_any (is_same y) seen) e ∙ (ap (λ ys. list_any (is_same x) ys) (sym is) ∙ known) in
-            there ∙ sym (any_more q x seen ∙ (ap (λ b. b || is_same q x) there ∙ refl))
-        | inr other ↦ sym (any_more q x seen ∙ (ap (λ b. list_any (is_same q) seen || b) other ∙ either (list_any (is_same q) seen)))
-      ]))
-      (λ unknown.
-      let count : count_by (is_of p q) (done ++ new ∷ []) ≡ one_if (list_any (is_same q) seen) + one_if (is_same q x) =
-      count_more (is_of p q) done new ∙ (ap (λ (k : ℕ). k + one_if (is_of p q new)) so ∙ ap (λ b. one_if (list_any (is_same q) seen) + one_if b) (own_same all x (count_by (is_before x.round p) done))) in
-      elim (cases_Bool (is_same q x)) [
-        | inl same ↦
-            let e : q ≡ x = same_is q x same in
-            let none : list_any (is_same q) seen ≡ false = ap (λ (y : Telling). list_any (is_same y) seen) e ∙ (ap (λ ys. list_any (is_same x) ys) (sym is) ∙ unknown) in
-            count ∙ (ap (λ b. one_if b + one_if (is_same q x)) none ∙ (ap (λ b. one_if false + one_if b) same
-            ∙ sym (ap one_if (any_more q x seen ∙ (ap (λ b. list_any (is_same q) seen || b) same ∙ any_or (list_any (is_same q) seen))))))
-        | inr other ↦
-            count ∙ (ap (λ b. one_if (list_any (is_same q) seen) + one_if b) other
-            ∙ (let whole : one_if (list_any (is_same q) seen) + one_if false ≡ one_if (list_any (is_same q) seen) = omega arith in whole
-            ∙ sym (ap one_if (any_more q x seen ∙ (ap (λ b. list_any (is_same q) seen || b) other ∙ either (list_any (is_same q) seen))))))
-      ])
+abbrev numbers : List Telling → Telling → ℕ
+numbers T = labels_of T
 
-  below_once : (all seen rest : List Telling) (place : ℕ) (done : List Stroke) → all ≡ seen ++ rest → place ≡ length seen → count_by (is_of p q) done ≡ one_if (list_any (is_same q) seen)
-      → count_by (is_of p q) (strokes_below p all place done rest) ≡ one_if (list_any (is_same q) all)
-  unfolding strokes_below
-  below_once all seen [] place done whole at so = so ∙ ap (λ xs. one_if (list_any (is_same q) xs)) (sym (whole ∙ append-nil seen))
-  below_once all seen (x ∷ rest) place done whole at so =
-      let front : take place all ≡ seen = ap (λ (k : ℕ). take k all) at ∙ (ap (take (length seen)) whole ∙ take-append_seam seen (x ∷ rest)) in
-      let long : length (seen ++ x ∷ []) ≡ length seen + 1 = length-append seen (x ∷ []) in
-      below_once all (seen ++ x ∷ []) rest (place + 1) (added p all place done x) (whole ∙ sym (append_assoc seen (x ∷ []) rest)) (omega arith) (told_once all seen place done x front so)
+listed : (t : MessageTable) (order round p : ℕ) → p < t.generals → p ≢ t.commander → list_in t order round p ≡ list_of p (tellings_of t order p) round
+unfolding strokes_of
+listed t order round p inside lieutenant = his_list t.generals t.commander (t.bound + 1) p round (tellings_of t order) inside lieutenant (within_all t order p)
 
-  -- of others
-  module _ (r : ℕ) (apart : (r == p) ≡ false) where
-    other_none : (all : List Telling) (place : ℕ) (done : List Stroke) (x : Telling) → count_by (is_of p q) (added r all place done x) ≡ count_by (is_of p q) done
-    unfolding added
-    other_none all place done x =
-        let new : Stroke = made r all x (count_by (is_before x.round r) done) in
-        let miss : is_of p q new ≡ false = ap (λ b. b && is_same q x) apart in
-        let more : count_by (is_of p q) (done ++ new ∷ []) ≡ count_by (is_of p q) done + one_if (is_of p q new) = count_more (is_of p q) done new in
-        cond_both (list_any (is_same x) (take place all)) done (done ++ new ∷ []) (λ strokes. count_by (is_of p q) strokes ≡ count_by (is_of p q) done) (λ _. refl)
-        (λ _. more ∙ (ap (λ b. count_by (is_of p q) done + one_if b) miss ∙ omega arith))
+drawn_first : (t : MessageTable) (order round p : ℕ) → p < t.generals → p ≢ t.commander → drawn_in t order round p ≡ strokes_from p (numbers (tellings_of t order p)) 0 (take most_rows (arranged (things (tellings_of t order p) round)))
+drawn_first t order round p inside lieutenant =
+    filters_swap (is_to round p) has_row (strokes_of t order)
+    ∙ (ap (filter has_row) (listed t order round p inside lieutenant)
+    ∙ first_rows p (numbers (tellings_of t order p)) 0 most_rows (arranged (things (tellings_of t order p) round)) refl)
 
-    below_none : (all : List Telling) (place : ℕ) (done : List Stroke) (rest : List Telling) → count_by (is_of p q) (strokes_below r all place done rest) ≡ count_by (is_of p q) done
-    unfolding strokes_below
-    below_none all place done [] = refl
-    below_none all place done (x ∷ rest) = below_none all (place + 1) (added r all place done x) rest ∙ other_none all place done x
+first_drawn : (t : MessageTable) (order round p : ℕ) → p < t.generals → p ≢ t.commander → drawn_in t order round p ≡ take most_rows (list_in t order round p)
+first_drawn t order round p inside lieutenant =
+    drawn_first t order round p inside lieutenant
+    ∙ (sym (take_strokes p (numbers (tellings_of t order p)) 0 most_rows (arranged (things (tellings_of t order p) round)))
+    ∙ sym (ap (take most_rows) (listed t order round p inside lieutenant)))
 
-    with_none : (t : MessageTable) (order : ℕ) (done : List Stroke) → count_by (is_of p q) (strokes_with t order r done) ≡ count_by (is_of p q) done
-    unfolding strokes_with
-    with_none t order done =
-        cond_both (r == t.commander) done (strokes_below r (tellings_of t order r) 0 done (tellings_of t order r)) (λ strokes. count_by (is_of p q) strokes ≡ count_by (is_of p q) done) (λ _. refl)
-        (λ _. below_none (tellings_of t order r) 0 done (tellings_of t order r))
+rows_numbered : (t : MessageTable) (order round p : ℕ) → p < t.generals → p ≢ t.commander → map (λ (x : Stroke). x.row) (list_in t order round p) ≡ range_with_len 0 (length (list_in t order round p))
+rows_numbered t order round p inside lieutenant =
+    let e = listed t order round p inside lieutenant in
+    ap (map (λ (x : Stroke). x.row)) e
+    ∙ (rows_are p (numbers (tellings_of t order p)) 0 (arranged (things (tellings_of t order p) round)) ∙ sym (ap (λ (xs : List Stroke). range_with_len 0 (length xs)) e))
 
-  -- of all
-  module _ (t : MessageTable) (order : ℕ) (lieutenant : p ≢ t.commander) where
-    none_before : (k : ℕ) → k ≤ p → count_by (is_of p q) (strokes_to t order k) ≡ 0
-    unfolding strokes_to
-    none_before zero l = refl
-    none_before (suc k) l = with_none k (ne_eqb k p (λ e. absurd (omega arith))) t order (strokes_to t order k) ∙ none_before k (omega arith)
+only_lies : (t : MessageTable) (order round p : ℕ) → p < t.generals → p ≢ t.commander → list_any has_lied (drop most_rows (list_in t order round p)) ≡ true
+    → AllByRecursion (λ (x : Stroke). x.differs ≡ true) (drawn_in t order round p)
+only_lies t order round p inside lieutenant left =
+    let T : List Telling = tellings_of t order p in
+    let rows : List Telling = arranged (things T round) in
+    let here : list_any is_lie (drop most_rows rows) ≡ true =
+    sym (any_stroke has_lied is_lie p (numbers T) (0 + most_rows) (drop most_rows rows) (λ x i. refl))
+    ∙ (sym (ap (list_any has_lied) (drop_strokes p (numbers T) 0 most_rows rows)) ∙ (sym (ap (λ xs. list_any has_lied (drop most_rows xs)) (listed t order round p inside lieutenant)) ∙ left)) in
+    subst (AllByRecursion (λ (x : Stroke). x.differs ≡ true)) (sym (drawn_first t order round p inside lieutenant))
+    (all_strokes (λ (x : Stroke). x.differs ≡ true) (λ (x : Telling). x.differs ≡ true) p (numbers T) 0 (take most_rows rows) (λ x i e. e) (no_honest_before (things T round) here))
 
-    his : count_by (is_of p q) (strokes_to t order (suc p)) ≡ one_if (list_any (is_same q) (tellings_of t order p))
-    unfolding strokes_to strokes_with
-    his =
-        let done : List Stroke = strokes_to t order p in
-        let all : List Telling = tellings_of t order p in
-        ap (count_by (is_of p q)) (cond-false (p == t.commander) done (strokes_below p all 0 done all) (ne_eqb p t.commander lieutenant))
-        ∙ below_once all [] all 0 done refl refl (none_before p (omega arith))
+each_liar : (t : MessageTable) (order round p j : ℕ) → p < t.generals → p ≢ t.commander → t.commander < t.generals → t.generals ≤ most_rows
+    → list_any (has_lied_as j) (list_in t order round p) ≡ true → list_any (has_lied_as j) (drawn_in t order round p) ≡ true
+each_liar t order round p j inside lieutenant present few there =
+    let T : List Telling = tellings_of t order p in
+    let list : List Telling = things T round in
+    let below : AllByRecursion (λ (x : Telling). x.teller < t.generals) list =
+    all_filter (λ (x : Telling). x.teller < t.generals) (is_in round) (firsts is_same [] T) (all_firsts (λ (x : Telling). x.teller < t.generals) is_same [] T (tellers_all t order p present)) in
+    let some : list_any (is_lie_of j) (arranged list) ≡ true =
+    sym (any_stroke (has_lied_as j) (is_lie_of j) p (numbers T) 0 (arranged list) (λ x i. refl)) ∙ (sym (ap (list_any (has_lied_as j)) (listed t order round p inside lieutenant)) ∙ there) in
+    ap (list_any (has_lied_as j)) (drawn_first t order round p inside lieutenant)
+    ∙ (any_stroke (has_lied_as j) (is_lie_of j) p (numbers T) 0 (take most_rows (arranged list)) (λ x i. refl) ∙ liar_before t.generals j list few below (any_arranged (is_lie_of j) list some))
 
-    behind : (d : ℕ) → count_by (is_of p q) (strokes_to t order (d + suc p)) ≡ one_if (list_any (is_same q) (tellings_of t order p))
-    unfolding strokes_to
-    behind zero = ap (λ (k : ℕ). count_by (is_of p q) (strokes_to t order k)) (let e : 0 + suc p ≡ suc p = omega arith in e) ∙ his
-    behind (suc d) =
-        let next : suc d + suc p ≡ suc (d + suc p) = omega arith in
-        ap (λ (k : ℕ). count_by (is_of p q) (strokes_to t order k)) next
-        ∙ (with_none (d + suc p) (ne_eqb (d + suc p) p (λ e. absurd (omega arith))) t order (strokes_to t order (d + suc p)) ∙ behind d)
+-- ---- one stroke for each thing
+
+-- what is told in a round is in its list
+once : (t : MessageTable) (order p : ℕ) (q : Telling) → p < t.generals → p ≢ t.commander → count_by (is_of p q) (strokes_of t order) ≡ (if list_any (is_same q) (tellings_of t order p) then 1 else 0)
+once t order p q inside lieutenant =
+    let T : List Telling = tellings_of t order p in
+    let once_each : List Telling = firsts is_same [] T in
+    count_within (is_of p q) (is_to q.round p) (strokes_of t order) (λ st e. its_list st e)
+    ∙ (ap (count_by (is_of p q)) (listed t order q.round p inside lieutenant)
+    ∙ (count_strokes (is_of p q) (is_same q) p (numbers T) 0 (arranged (things T q.round)) (λ x i. ap (λ b. b && is_same q x) (eq-eqb p p refl))
+    ∙ (count_arranged (is_same q) (things T q.round) ∙ (sym (count_within_told (is_same q) (is_in q.round) once_each (λ x e. its_round x e)) ∙ told_once q T))))
+  where
+    its_round : (x : Telling) → is_same q x ≡ true → is_in q.round x ≡ true
+    its_round x e =
+        let same = and_parts (q.round == x.round) _ e in
+        eq-eqb x.round q.round (sym (eqb-true q.round x.round same.0))
+
+    its_list : (st : Stroke) → is_of p q st ≡ true → is_to q.round p st ≡ true
+    its_list st e =
+        let both = and_parts (st.receiver == p) (is_same q (told_by st)) e in
+        and_from (st.round == q.round) (st.receiver == p) (its_round (told_by st) both.1) both.0
 
 -- ---- how wide
 
 abbrev IsWide : MessageTable → ℕ → Stroke → Type 0
 IsWide t order stroke = stroke.labels ≡ labels_told t order stroke
 
-added_wide : (t : MessageTable) (order p place : ℕ) (done : List Stroke) (x : Telling) → AllByRecursion (IsWide t order) done → AllByRecursion (IsWide t order) (added p (tellings_of t order p) place done x)
-unfolding added
-added_wide t order p place done x a =
-    let all : List Telling = tellings_of t order p in
-    let new : List Stroke = made p all x (count_by (is_before x.round p) done) ∷ [] in
-    let last : AllByRecursion (IsWide t order) new = (refl, tt) in
-    cond_both (list_any (is_same x) (take place all)) done (done ++ new) (AllByRecursion (IsWide t order)) (λ _. a) (λ _. all-append (IsWide t order) done new a last)
+all_of : (xs : List Telling) → AllByRecursion (λ (x : Telling). Unit {0}) xs
+all_of [] = tt
+all_of (x ∷ xs) = (tt, all_of xs)
 
-below_wide : (t : MessageTable) (order p place : ℕ) (done : List Stroke) (rest : List Telling) → AllByRecursion (IsWide t order) done → AllByRecursion (IsWide t order) (strokes_below p (tellings_of t order p) place done rest)
-unfolding strokes_below
-below_wide t order p place done [] a = a
-below_wide t order p place done (x ∷ rest) a = below_wide t order p (place + 1) (added p (tellings_of t order p) place done x) rest (added_wide t order p place done x a)
-
-all_wide : (t : MessageTable) (order k : ℕ) → AllByRecursion (IsWide t order) (strokes_to t order k)
-unfolding strokes_to strokes_with
-all_wide t order zero = tt
-all_wide t order (suc k) =
-    let done : List Stroke = strokes_to t order k in
-    cond_both (k == t.commander) done (strokes_below k (tellings_of t order k) 0 done (tellings_of t order k)) (AllByRecursion (IsWide t order)) (λ _. all_wide t order k)
-    (λ _. below_wide t order k 0 done (tellings_of t order k) (all_wide t order k))
+all_wide : (t : MessageTable) (order : ℕ) → AllByRecursion (IsWide t order) (strokes_of t order)
+unfolding strokes_of
+all_wide t order =
+    all_range (IsWide t order) (lists_to t.commander (t.bound + 1) (tellings_of t order)) t.generals
+    (λ p l. cond_both (p == t.commander) [] (lists_of p (tellings_of t order p) (t.bound + 1)) (AllByRecursion (IsWide t order)) (λ e. tt)
+    (λ e. all_range (IsWide t order) (list_behind p (tellings_of t order p)) (t.bound + 1)
+    (λ k m. all_strokes (IsWide t order) (λ (x : Telling). Unit {0}) p (numbers (tellings_of t order p)) 0 (arranged (things (tellings_of t order p) (k + 1))) (λ x i u. refl)
+    (all_of (arranged (things (tellings_of t order p) (k + 1)))))))
 
 -- ---- none is lost
 
 head_count : (f : Stroke → Bool) (x : Stroke) (xs : List Stroke) → count_by f (x ∷ xs) ≡ cond {A = ℕ} (f x) 1 0 + count_by f xs
 head_count f x xs = sum_by-cons (λ y. cond (f y) 1 0) x xs
 
-kept : (strokes : List Stroke) (round p : ℕ) → count_by (is_before round p) (with_rows strokes) + count_by (is_left round p) strokes ≡ count_by (is_before round p) strokes
-kept [] round p = refl
-kept (x ∷ xs) round p =
-    let f : Stroke → Bool = is_before round p in
-    let rest = kept xs round p in
-    let left = head_count (is_left round p) x xs in
+kept : (f : Stroke → Bool) (strokes : List Stroke) → count_by f (with_rows strokes) + count_by (λ x. is_past x && f x) strokes ≡ count_by f strokes
+kept f [] = refl
+kept f (x ∷ xs) =
+    let rest = kept f xs in
+    let left = head_count (λ y. is_past y && f y) x xs in
     let whole = head_count f x xs in
     elim (cases_Bool (has_row x)) [
       | inl within ↦
           let first : count_by f (with_rows (x ∷ xs)) ≡ cond {A = ℕ} (f x) 1 0 + count_by f (with_rows xs) = ap (λ b. count_by f (cond b (x ∷ with_rows xs) (with_rows xs))) within ∙ head_count f x (with_rows xs) in
-          let none : cond {A = ℕ} (is_left round p x) 1 0 ≡ 0 = ap (λ b. cond {A = ℕ} (b && f x) 1 0) (lt-leb most_rows x.row (ltb-true x.row most_rows within)) in
+          let none : cond {A = ℕ} (is_past x && f x) 1 0 ≡ 0 = ap (λ b. cond {A = ℕ} (b && f x) 1 0) (lt-leb most_rows x.row (ltb-true x.row most_rows within)) in
           omega arith
       | inr past ↦
           let first : count_by f (with_rows (x ∷ xs)) ≡ count_by f (with_rows xs) = ap (λ b. count_by f (cond b (x ∷ with_rows xs) (with_rows xs))) past in
-          let one : cond {A = ℕ} (is_left round p x) 1 0 ≡ cond {A = ℕ} (f x) 1 0 = ap (λ b. cond {A = ℕ} (b && f x) 1 0) (le-leb most_rows x.row (ltb-false x.row most_rows past)) in
+          let one : cond {A = ℕ} (is_past x && f x) 1 0 ≡ cond {A = ℕ} (f x) 1 0 = ap (λ b. cond {A = ℕ} (b && f x) 1 0) (le-leb most_rows x.row (ltb-false x.row most_rows past)) in
           omega arith
     ]
 
 pub proved_strokes_are_exact : StrokesAreExact
-unfolding strokes_of
 proved_strokes_are_exact = record {
-  once = λ t order p telling general lieutenant.
-      let whole : t.generals ≡ (t.generals - suc p) + suc p = omega arith in
-      ap (λ (k : ℕ). count_by (is_of p telling) (strokes_to t order k)) whole ∙ behind p telling t order lieutenant (t.generals - suc p);
-  wide = λ t order. All-from_recursion (IsWide t order) (strokes_of t order) (all_wide t order t.generals);
-  none_lost = kept;
+  once = once;
+  wide = λ t order. All-from_recursion (IsWide t order) (strokes_of t order) (all_wide t order);
+}
+
+pub proved_rows_are_exact : RowsAreExact
+proved_rows_are_exact = record {
+  numbered = rows_numbered;
+  first = first_drawn;
+  lies = λ t order round p inside lieutenant left. All-from_recursion (λ (x : Stroke). x.differs ≡ true) (drawn_in t order round p) (only_lies t order round p inside lieutenant left);
+  liars = each_liar;
+  counted = λ strokes round p. kept (is_to round p) strokes;
+  lies_counted = λ strokes round p. kept (is_lie_to round p) strokes;
 }

@@ -2,10 +2,7 @@
 use Rattle.std.proofs.Common.{ℕ, suc, ◌+◌, ◌<◌, ◌≤◌, ◌≡◌, List, ◌∷◌, ◌++◌, length, drop, get_or, ap, sym, ◌∙◌, append_assoc, append-nil, arith}
 use Rattle.std.proofs.lemmas.List.{drop_all, drop_more}
 use Rattle.board.specs.Board.{Access}
-use Rattle.book.specs.Table.{MessageTable}
-use Rattle.diagram.specs.declared.stroke.Stroke.{Stroke}
 use Rattle.diagram.specs.Bands.{access_at, accesses_from}
-use Rattle.diagram.specs.Facts.{strokes_to, strokes_with}
 use Rattle.diagram.specs.Layout.{access_top}
 
 -- one access more, and all of them
@@ -24,10 +21,3 @@ pub accesses_all : (n round place : ℕ) (xs : List Access) (out whole : List �
 unfolding accesses_from
 accesses_all n round place xs out whole past so =
     sym (append-nil out) ∙ (ap (λ ys. out ++ accesses_from n xs round place ys) (sym (drop_all place xs past)) ∙ so)
-
--- one receiver more
-pub receiver_more : (t : MessageTable) (order p : ℕ) (old new : List Stroke) → old ≡ strokes_to t order p → new ≡ strokes_with t order p old → new ≡ strokes_to t order (p + 1)
-unfolding strokes_to
-receiver_more t order p old new is e =
-    let next : p + 1 ≡ suc p = omega arith in
-    e ∙ (ap (strokes_with t order p) is ∙ sym (ap (λ (i : ℕ). strokes_to t order i) next))

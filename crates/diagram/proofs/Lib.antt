@@ -1,8 +1,13 @@
 pub mod Sameness
 pub mod TallyLemmas
+pub mod ListLemmas
+pub mod ArrangedLemmas
+pub mod RowLemmas
 pub mod ExactLaws
 pub mod FoldLemmas
 pub mod LayoutLemmas
+pub mod LegendLemmas
+pub mod HeadLemmas
 pub mod LoyalLaws
 pub mod PictureLemmas
 pub mod SvgLaws

@@ -1,13 +1,12 @@
 -- What is drawn of loyal generals.
-use Rattle.std.proofs.Common.{ℕ, zero, suc, ◌+◌, ◌<◌, ◌≤◌, ◌≡◌, ◌≢◌, Bool, true, false, not, List, [], ◌∷◌, ◌++◌, length, length-append, refl, sym, ap, subst, ◌∙◌, arith, Option, Some}
-use Rattle.std.proofs.lemmas.Bool.{cond_both, eq-eqb, eqb-false, or_parts}
+use Rattle.std.proofs.Common.{ℕ, zero, suc, ◌+◌, ◌<◌, ◌≤◌, ◌≡◌, ◌≢◌, Bool, true, false, not, List, [], ◌∷◌, ◌++◌, length, length-append, refl, sym, ap, subst, ◌∙◌, arith, None, Option, Some}
+use Rattle.std.proofs.lemmas.Bool.{cond_both, eq-eqb, eqb-false, eqb-true, not-false, or_parts}
 use Rattle.std.proofs.lemmas.List.Elements.{All-from_recursion}
-use Rattle.std.specs.Prelude.{◌==◌, codes, count_by, take}
-use Rattle.std.specs.List.{AllByRecursion, list_any}
+use Rattle.std.specs.Prelude.{◌==◌, codes, filter}
+use Rattle.std.specs.List.{AllByRecursion}
 use Rattle.label.specs.Labels.{on, others}
 use Rattle.label.specs.Oral.{IsFaithful, Messages, heard, taken}
 use Rattle.label.proofs.Counting.{others-on}
-use Rattle.label.proofs.Places.{all-append}
 use Rattle.book.specs.Conditions.{is_told}
 use Rattle.book.specs.Grammar.{is_place}
 use Rattle.book.specs.Table.{MessageTable, told}
@@ -22,9 +21,12 @@ use Rattle.world.specs.World.{opening, run}
 use Rattle.world.proofs.Agreeing.{proved_worlds_agree}
 use Rattle.diagram.specs.declared.stroke.Stroke.{Stroke}
 use Rattle.diagram.specs.declared.telling.Telling.{Telling}
-use Rattle.diagram.specs.Facts.{added, is_before, is_same, made, strokes_below, strokes_of, strokes_to, strokes_with, telling_at, tellings_below, tellings_by, tellings_of}
+use Rattle.diagram.specs.Facts.{strokes_of, telling_at, tellings_below, tellings_by, tellings_of}
 use Rattle.diagram.specs.Laws.{BlamesTraitors, IsDrawnHonest, OnlyTraitorsDiffer}
+use Rattle.diagram.specs.Lists.{arranged, firsts, is_in, is_same, labels_of, list_behind, lists_of, lists_to}
 use Rattle.diagram.specs.Words.{kind_of}
+use Rattle.diagram.proofs.ArrangedLemmas.{all_arranged, all_filter, all_firsts}
+use Rattle.diagram.proofs.RowLemmas.{all_range, all_strokes}
 
 -- who tells what he took does not differ
 told_so : (order : ℕ) (o : Option ℕ) → o ≡ Some order → not (is_told order o) ≡ false
@@ -49,23 +51,6 @@ IsHonest traitor telling = traitor telling.teller ≡ false → telling.differs 
 
 drawn_plain : (differs : Bool) (o : Option ℕ) → differs ≡ false → kind_of differs o ≡ codes "told"
 drawn_plain differs o e = ap (λ (b : Bool). kind_of b o) e
-
--- ---- strokes of what was told
-
-added_plain : (traitor : ℕ → Bool) (p : ℕ) (all : List Telling) (place : ℕ) (done : List Stroke) (telling : Telling)
-    → IsHonest traitor telling → AllByRecursion (IsPlain traitor) done → AllByRecursion (IsPlain traitor) (added p all place done telling)
-unfolding added
-added_plain traitor p all place done telling here a =
-    let new : List Stroke = made p all telling (count_by (is_before telling.round p) done) ∷ [] in
-    let last : AllByRecursion (IsPlain traitor) new = (here, tt) in
-    cond_both (list_any (is_same telling) (take place all)) done (done ++ new) (AllByRecursion (IsPlain traitor)) (λ _. a) (λ _. all-append (IsPlain traitor) done new a last)
-
-below_plain : (traitor : ℕ → Bool) (p : ℕ) (all : List Telling) (place : ℕ) (done : List Stroke) (rest : List Telling)
-    → AllByRecursion (IsHonest traitor) rest → AllByRecursion (IsPlain traitor) done → AllByRecursion (IsPlain traitor) (strokes_below p all place done rest)
-unfolding strokes_below
-below_plain traitor p all place done [] h a = a
-below_plain traitor p all place done (telling ∷ rest) h a =
-    below_plain traitor p all (place + 1) (added p all place done telling) rest h.1 (added_plain traitor p all place done telling h.0 a)
 
 -- ---- a campaign whose loyal generals are faithful, and its table
 
@@ -107,16 +92,19 @@ module _ (M : Messages) (order : ℕ) (traitor : ℕ → Bool) (t : MessageTable
         all_below t.bound (t.commander ∷ []) p (omega arith) (omega arith) place,
       )
 
-  with_plain : (p : ℕ) (done : List Stroke) → p < t.generals → AllByRecursion (IsPlain traitor) done → AllByRecursion (IsPlain traitor) (strokes_with t order p done)
-  unfolding strokes_with
-  with_plain p done general a =
-      cond_both (p == t.commander) done (strokes_below p (tellings_of t order p) 0 done (tellings_of t order p)) (AllByRecursion (IsPlain traitor)) (λ _. a)
-      (λ e. below_plain traitor p (tellings_of t order p) 0 done (tellings_of t order p) (all_told p general (apart t.commander p e)) a)
+  list_plain : (p k : ℕ) → p < t.generals → p ≢ t.commander → AllByRecursion (IsPlain traitor) (list_behind p (tellings_of t order p) k)
+  list_plain p k general lieutenant =
+      let T : List Telling = tellings_of t order p in
+      let list : List Telling = filter (is_in (k + 1)) (firsts is_same [] T) in
+      all_strokes (IsPlain traitor) (IsHonest traitor) p (labels_of T) 0 (arranged list) (λ x i h. h)
+      (all_arranged (IsHonest traitor) list (all_filter (IsHonest traitor) (is_in (k + 1)) (firsts is_same [] T) (all_firsts (IsHonest traitor) is_same [] T (all_told p general lieutenant))))
 
-  to_plain : (p : ℕ) → p ≤ t.generals → AllByRecursion (IsPlain traitor) (strokes_to t order p)
-  unfolding strokes_to
-  to_plain zero l = tt
-  to_plain (suc p) l = with_plain p (strokes_to t order p) (omega arith) (to_plain p (omega arith))
+  all_plain : AllByRecursion (IsPlain traitor) (strokes_of t order)
+  unfolding strokes_of
+  all_plain =
+      all_range (IsPlain traitor) (lists_to t.commander (t.bound + 1) (tellings_of t order)) t.generals
+      (λ p general. cond_both (p == t.commander) [] (lists_of p (tellings_of t order p) (t.bound + 1)) (AllByRecursion (IsPlain traitor)) (λ e. tt)
+      (λ e. all_range (IsPlain traitor) (list_behind p (tellings_of t order p)) (t.bound + 1) (λ k l. list_plain p k general (apart t.commander p e))))
 
 weaker : {A : Type 0} (P Q : A → Type 0) (xs : List A) → ((x : A) → P x → Q x) → AllByRecursion P xs → AllByRecursion Q xs
 weaker P Q [] h a = tt
@@ -126,7 +114,6 @@ weaker P Q (x ∷ xs) h a = (h x a.0, weaker P Q xs h a.1)
 pub blamed : (s : Scenario) (M : Messages) (t : MessageTable) → s.commander < s.generals
     → ((g : ℕ) → g < s.generals → is_traitor s g ≡ false → IsFaithful s.generals s.commander s.bound s.order M g) → IsTableOf M s.generals s.bound s.commander s.rule t
     → BlamesTraitors s t
-unfolding strokes_of
 blamed s M t present faithful table =
     let P : ℕ → ℕ → ℕ → Type 0 = λ n m c. (g : ℕ) → g < n → is_traitor s g ≡ false → IsFaithful n c m s.order M g in
     let first : P t.generals s.bound s.commander = subst (λ (n : ℕ). P n s.bound s.commander) (sym table.generals) faithful in
@@ -137,10 +124,18 @@ blamed s M t present faithful table =
     let R : Stroke → Type 0 = λ stroke. is_traitor s stroke.teller ≡ false → IsDrawnHonest stroke in
     All-from_recursion R (strokes_of t s.order)
     (weaker (IsPlain (is_traitor s)) R (strokes_of t s.order) (λ stroke plain loyal. (plain loyal, drawn_plain stroke.differs stroke.told (plain loyal)))
-    (to_plain M s.order (is_traitor s) t table.told (omega arith) third t.generals (omega arith)))
+    (all_plain M s.order (is_traitor s) t table.told (omega arith) third))
+
+told_back : (order : ℕ) (o : Option ℕ) → not (is_told order o) ≡ false → o ≡ Some order
+told_back order None e = absurd cc
+told_back order (Some x) e = ap Some (eqb-true x order (not-false (x == order) e))
 
 pub proved_only_traitors_differ : OnlyTraitorsDiffer
 proved_only_traitors_differ = record {
   drawn = λ s events t is. blamed s (messages (run (opening s) events).closed) t is.scenario.commander (proved_worlds_agree.faithful s events is.scenario is.finished) is.table;
-  honest = λ t w j p e. told_so (taken (told t.messages) w j) (told t.messages (w ++ j ∷ []) p) e;
+  first = λ t order p. (told_back order (told t.messages (t.commander ∷ []) p), told_so order (told t.messages (t.commander ∷ []) p));
+  relayed = λ t w j p. (
+    told_back (taken (told t.messages) w j) (told t.messages (w ++ j ∷ []) p),
+    told_so (taken (told t.messages) w j) (told t.messages (w ++ j ∷ []) p),
+  );
 }

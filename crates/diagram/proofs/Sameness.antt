@@ -5,7 +5,7 @@ use Rattle.std.specs.Bool.{beq}
 use Rattle.std.specs.Option.{option_eq}
 use Rattle.std.specs.Prelude.{◌==◌, nat_eq}
 use Rattle.diagram.specs.declared.telling.Telling.{Telling}
-use Rattle.diagram.specs.Facts.{is_same}
+use Rattle.diagram.specs.Lists.{is_same}
 
 same_told : (o u : Option ℕ) → option_eq nat_eq o u ≡ true → o ≡ u
 same_told (Some a) (Some b) e = ap Some (eqb-true a b e)

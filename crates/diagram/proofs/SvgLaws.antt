@@ -13,16 +13,18 @@ use Rattle.board.specs.Board.{Access}
 use Rattle.roster.specs.Scenario.{Scenario, is_traitor}
 use Rattle.world.specs.Chronicle.{Chronicle}
 use Rattle.world.specs.declared.verdict.Verdict.{Verdict}
+use Rattle.diagram.specs.declared.mark.Marks.{Marks}
 use Rattle.diagram.specs.declared.stroke.Stroke.{Stroke}
 use Rattle.diagram.specs.Bands.{access_at, accesses_from, band, bands, board_line, drawn, general_life, inside, life, lives, point, round_words, row, stroke_line}
 use Rattle.diagram.specs.Facts.{strokes_of}
-use Rattle.diagram.specs.Foot.{alike_words, bound_words, decided, decided_all, decided_if, decides_words, foot, obeyed_words, place_of, shape_of, sort_of, verdict_lines}
+use Rattle.diagram.specs.Foot.{alike_words, bound_words, decided, decided_all, decided_if, decides_words, foot, obeyed_words, place_of, verdict_lines}
 use Rattle.diagram.specs.Laws.{DiagramsAreElements}
-use Rattle.diagram.specs.Legend.{differs_meaning, legend, legend_of, marks_words, meaning_at, missing_meaning, told_meaning, wide_meaning}
+use Rattle.diagram.specs.Legend.{differs_meaning, foot_height, legend, legend_of, marks_of, meaning_at, meaning_if, missing_meaning, one_if, rows, shape_if, shape_key, shape_meanings, stroke_meanings, stroke_rows, told_meaning, wide_meaning}
 use Rattle.diagram.specs.Layout.{access_top, board, column, fan_top, height, rows_top, top_of, width}
-use Rattle.diagram.specs.Left.{is_left, is_left_lie, left_in_full, left_words, more_at, more_of, more_told, more_top, mores, mores_in, with_rows}
-use Rattle.diagram.specs.Shapes.{group_at, group_start, line, mark, stroke_at, stroke_open, stroke_way, text_at, text_start, title}
-use Rattle.diagram.specs.Svg.{board_head, box_words, campaign_words, description, general_head, head, head_of, heads, key, key_end, look, picture, start, svg_text}
+use Rattle.diagram.specs.Left.{cut_words, is_cut, is_left, is_left_lie, left_in_full, left_words, more_at, more_of, more_told, more_top, mores, mores_in}
+use Rattle.diagram.specs.Lists.{most_rows, with_rows}
+use Rattle.diagram.specs.Shapes.{group_at, group_start, line, mark, said_if, shape_of, sort_of, stroke_at, stroke_open, stroke_way, text_at, text_start, title}
+use Rattle.diagram.specs.Svg.{board_head, box_words, campaign_words, description, general_head, head, head_of, heads, key_end, key_start, look, picture, start, stroke_key, svg_text}
 use Rattle.diagram.specs.Words.{access_words, answer_words, asked_words, copied_words, copy_words, differs_words, from_words, general_words, in_full, is_copy, kind, kind_of, labels_words, order_words, outline, outline_of, role_words, row_words, shown_words, stroke_words, swap_words, tells_words, word_words}
 
 -- ---- words
@@ -411,25 +413,25 @@ band_content n strokes accesses wide before =
 left_text : (left lies : ℕ) → IsText (left_words left lies)
 unfolding left_words
 left_text left lies =
-    many (codes "and ") (decimal left ++ (codes " more, " ++ (decimal lies ++ codes " dishonest"))) (bare_text (codes "and ") refl)
-    (many (decimal left) (codes " more, " ++ (decimal lies ++ codes " dishonest")) (decimal_text left)
-    (many (codes " more, ") (decimal lies ++ codes " dishonest") (bare_text (codes " more, ") refl)
+    many (codes "and ") (decimal left ++ (codes " more rows, " ++ (decimal lies ++ codes " dishonest"))) (bare_text (codes "and ") refl)
+    (many (decimal left) (codes " more rows, " ++ (decimal lies ++ codes " dishonest")) (decimal_text left)
+    (many (codes " more rows, ") (decimal lies ++ codes " dishonest") (bare_text (codes " more rows, ") refl)
     (many (decimal lies) (codes " dishonest") (decimal_text lies) (bare_text (codes " dishonest") refl))))
 
 left_full_text : (p round left lies : ℕ) → IsText (left_in_full p round left lies)
 unfolding left_in_full
 left_full_text p round left lies =
     let last : List ℕ = codes " of them an honest relay would tell something else" in
-    let four : List ℕ = codes ", which are not drawn: in place of " ++ (decimal lies ++ last) in
-    let three : List ℕ = codes " things more in round " ++ (decimal round ++ four) in
-    let two : List ℕ = codes " was told " ++ (decimal left ++ three) in
+    let four : List ℕ = codes ", which are not drawn: in " ++ (decimal lies ++ last) in
+    let three : List ℕ = codes " more rows in round " ++ (decimal round ++ four) in
+    let two : List ℕ = codes " has " ++ (decimal left ++ three) in
     many (codes "general ") (decimal p ++ two) (bare_text (codes "general ") refl)
     (many (decimal p) two (decimal_text p)
-    (many (codes " was told ") (decimal left ++ three) (bare_text (codes " was told ") refl)
+    (many (codes " has ") (decimal left ++ three) (bare_text (codes " has ") refl)
     (many (decimal left) three (decimal_text left)
-    (many (codes " things more in round ") (decimal round ++ four) (bare_text (codes " things more in round ") refl)
+    (many (codes " more rows in round ") (decimal round ++ four) (bare_text (codes " more rows in round ") refl)
     (many (decimal round) four (decimal_text round)
-    (many (codes ", which are not drawn: in place of ") (decimal lies ++ last) (bare_text (codes ", which are not drawn: in place of ") refl)
+    (many (codes ", which are not drawn: in ") (decimal lies ++ last) (bare_text (codes ", which are not drawn: in ") refl)
     (many (decimal lies) last (decimal_text lies) (bare_text last refl))))))))
 
 more_content : (top round p left lies : ℕ) → IsContent (more_at top round p left lies)
@@ -484,51 +486,105 @@ meaning_content y kind outline words k o w =
     (joined st (group_at 52 0 (m ++ t)) (stroke_content kind 2 0 0 36 0 words k w)
     (group_content 52 0 (m ++ t) (joined m t (mark_content kind outline k o) (text_content (codes "small") 12 4 words small w))))
 
-pub legend_of_content : (told differs missing wide : List ℕ) → IsText told → IsText differs → IsText missing → IsText wide → IsContent (legend_of told differs missing wide)
-unfolding marks_words
-legend_of_content told differs missing wide a b c d =
-    let one : List ℕ = meaning_at 132 (codes "told key") (outline_of false None) told in
-    let two : List ℕ = meaning_at 152 (codes "lie key") (outline_of true (Some 0)) differs in
-    let three : List ℕ = meaning_at 172 (codes "none key") (outline_of true None) missing in
-    let four : List ℕ = text_at (codes "small") 120 196 wide in
-    joined (one ++ two ++ three ++ four) (text_at (codes "small") 120 214 marks_words)
-    (joined (one ++ two ++ three) four
-    (joined (one ++ two) three
-    (joined one two (meaning_content 132 (codes "told key") (outline_of false None) told (bare_text (codes "told key") refl) (outline_text false None) a)
-    (meaning_content 152 (codes "lie key") (outline_of true (Some 0)) differs (bare_text (codes "lie key") refl) (outline_text true (Some 0)) b))
-    (meaning_content 172 (codes "none key") (outline_of true None) missing (bare_text (codes "none key") refl) (outline_text true None) c))
-    (text_content (codes "small") 120 196 wide small d))
-    (text_content (codes "small") 120 214 marks_words small (bare_text marks_words refl))
+meaning_if_content : (stands : Bool) (place : ℕ) (kind outline words : List ℕ) → IsText kind → IsText outline → IsText words → IsContent (meaning_if stands place kind outline words)
+meaning_if_content true place kind outline words k o w = meaning_content (132 + 20 * place) kind outline words k o w
+meaning_if_content false place kind outline words k o w = text [] no_text
 
-legend_content : IsContent legend
+shape_if_content : (stands : Bool) (place : ℕ) (kind outline words : List ℕ) → IsText kind → IsText outline → IsText words → IsContent (shape_if stands place kind outline words)
+shape_if_content true place kind outline words k o w =
+    let m : List ℕ = mark kind outline in
+    let t : List ℕ = text_at (codes "small") 12 4 words in
+    group_content 172 (132 + 20 * place) (m ++ t) (joined m t (mark_content kind outline k o) (text_content (codes "small") 12 4 words small w))
+shape_if_content false place kind outline words k o w = text [] no_text
+
+strokes_content : (marks : Marks) (told differs missing : List ℕ) → IsText told → IsText differs → IsText missing → IsContent (stroke_meanings marks told differs missing)
+strokes_content marks told differs missing a b c =
+    let one : List ℕ = meaning_if marks.circle 0 (codes "told key") (outline_of false None) told in
+    let two : List ℕ = meaning_if marks.diamond (one_if marks.circle) (codes "lie key") (outline_of true (Some 0)) differs in
+    let third : ℕ = one_if marks.circle + one_if marks.diamond in
+    joined (one ++ two) (meaning_if marks.cross third (codes "none key") (outline_of true None) missing)
+    (joined one two (meaning_if_content marks.circle 0 (codes "told key") (outline_of false None) told (bare_text (codes "told key") refl) (outline_text false None) a)
+    (meaning_if_content marks.diamond (one_if marks.circle) (codes "lie key") (outline_of true (Some 0)) differs (bare_text (codes "lie key") refl) (outline_text true (Some 0)) b))
+    (meaning_if_content marks.cross third (codes "none key") (outline_of true None) missing (bare_text (codes "none key") refl) (outline_text true None) c)
+
+shapes_content : (marks : Marks) (place : ℕ) → IsContent (shape_meanings marks place)
+shapes_content marks place =
+    let second : ℕ = place + one_if marks.square in
+    let third : ℕ = place + one_if marks.square + one_if marks.loyal in
+    let one : List ℕ = shape_if marks.square place (codes "traitor key") (shape_of true) (codes "a traitor") in
+    let two : List ℕ = shape_if marks.loyal second (codes "loyal key") (shape_of false) (codes "a loyal general") in
+    joined (one ++ two) (shape_if marks.point third (codes "point key") (outline_of false None) (codes "an access to the board"))
+    (joined one two (shape_if_content marks.square place (codes "traitor key") (shape_of true) (codes "a traitor") (bare_text (codes "traitor key") refl) (shape_text true) (bare_text (codes "a traitor") refl))
+    (shape_if_content marks.loyal second (codes "loyal key") (shape_of false) (codes "a loyal general") (bare_text (codes "loyal key") refl) (shape_text false) (bare_text (codes "a loyal general") refl)))
+    (shape_if_content marks.point third (codes "point key") (outline_of false None) (codes "an access to the board") (bare_text (codes "point key") refl) (outline_text false None) (bare_text (codes "an access to the board") refl))
+
+pub legend_of_content : (marks : Marks) (told differs missing wide : List ℕ) → IsText told → IsText differs → IsText missing → IsText wide → IsContent (legend_of marks told differs missing wide)
+legend_of_content marks told differs missing wide a b c d =
+    let one : List ℕ = stroke_meanings marks told differs missing in
+    let two : List ℕ = shape_meanings marks (stroke_rows marks) in
+    joined (one ++ two) (text_at (codes "small") 120 (136 + 20 * rows marks) wide)
+    (joined one two (strokes_content marks told differs missing a b c) (shapes_content marks (stroke_rows marks)))
+    (text_content (codes "small") 120 (136 + 20 * rows marks) wide small d)
+
+legend_content : (marks : Marks) → IsContent (legend marks)
 unfolding told_meaning differs_meaning missing_meaning wide_meaning
-legend_content =
-    legend_of_content told_meaning differs_meaning missing_meaning wide_meaning (bare_text told_meaning refl) (bare_text differs_meaning refl)
+legend_content marks =
+    legend_of_content marks told_meaning differs_meaning missing_meaning wide_meaning (bare_text told_meaning refl) (bare_text differs_meaning refl)
     (bare_text missing_meaning refl) (bare_text wide_meaning refl)
 
-foot_content : (c : Chronicle) (wide top : ℕ) → IsContent (foot c wide top)
-foot_content c wide top =
+foot_content : (c : Chronicle) (marks : Marks) (wide top : ℕ) → IsContent (foot c marks wide top)
+foot_content c marks wide top =
     let a : List ℕ = line (codes "rule") 16 0 wide 0 in
     let b : List ℕ = text_at (codes "round") 16 28 (codes "decisions") in
     let d : List ℕ = decided_all c.scenario c.decisions in
-    group_content 0 top (a ++ b ++ d ++ verdict_lines c.verdict ++ legend)
-    (joined (a ++ b ++ d ++ verdict_lines c.verdict) legend
+    group_content 0 top (a ++ b ++ d ++ verdict_lines c.verdict ++ legend marks)
+    (joined (a ++ b ++ d ++ verdict_lines c.verdict) (legend marks)
     (joined (a ++ b ++ d) (verdict_lines c.verdict)
     (joined (a ++ b) d
     (joined a b (line_content (codes "rule") 16 0 wide 0 (bare_text (codes "rule") refl)) (text_content (codes "round") 16 28 (codes "decisions") (bare_text (codes "round") refl) (bare_text (codes "decisions") refl)))
     (decisions_content c.scenario c.decisions))
     (verdict_content c.verdict))
-    legend_content)
+    (legend_content marks))
 
 -- ---- the head
 
 abbrev key_words : List ℕ
 key_words =
-    codes "A column for each general, and a band for each round, from above. In a band a line leads down from who tells something"
-    ++ codes " to whom he tells it, as wide as he tells it of labels, up to 5, and below stands in the column of the receiver what h"
-    ++ codes "e was told. Circle and plain line: as an honest relay tells it. Diamond and dashes: something else. Cross and dots: no"
-    ++ codes "thing, where something was to be told. Above the lines stand the accesses to the board, in its order. Square: a traito"
-    ++ codes "r."
+    codes "A column for each general, and a band for each round, from above. In a band a line leads down from "
+    ++ codes "who tells something to whom he tells it, as wide as he tells it of labels, up to 5, and below stands "
+    ++ codes "in the column of the receiver what he was told."
+
+pub said_text : (stands : Bool) (words : List ℕ) → IsText words → IsText (said_if stands words)
+unfolding said_if
+said_text true words t = t
+said_text false words t = no_text
+
+pub three_texts : (a b c : Bool) (x y z : List ℕ) → IsText x → IsText y → IsText z → IsText (said_if a x ++ said_if b y ++ said_if c z)
+three_texts a b c x y z tx ty tz = many (said_if a x ++ said_if b y) (said_if c z) (many (said_if a x) (said_if b y) (said_text a x tx) (said_text b y ty)) (said_text c z tz)
+
+stroke_key_text : (marks : Marks) → IsText (stroke_key marks)
+stroke_key_text marks =
+    let one : List ℕ = codes " Circle and plain line: as an honest relay tells it." in
+    let two : List ℕ = codes " Diamond and dashes: something else." in
+    let three : List ℕ = codes " Cross and dots: nothing, where something was to be told." in
+    three_texts marks.circle marks.diamond marks.cross one two three (bare_text one refl) (bare_text two refl) (bare_text three refl)
+
+pub shape_key_text : (marks : Marks) → IsText (shape_key marks)
+shape_key_text marks =
+    let one : List ℕ = codes " Above the lines stand the accesses to the board, in its order." in
+    let two : List ℕ = codes " Square: a traitor." in
+    let three : List ℕ = codes " Circle at a name: a loyal general." in
+    three_texts marks.point marks.square marks.loyal one two three (bare_text one refl) (bare_text two refl) (bare_text three refl)
+
+cut_text : IsText cut_words
+unfolding cut_words
+cut_text =
+    let first : List ℕ = codes " rows, of orders and of silence. A longer one begins with the first row of each teller in which an " in
+    let second : List ℕ = codes "honest relay would tell something else, then come the others of this kind, then the rest; below it stands how " in
+    let third : List ℕ = codes "many are not drawn." in
+    many (codes " A list has at most ") (decimal most_rows ++ (first ++ (second ++ third))) (bare_text (codes " A list has at most ") refl)
+    (many (decimal most_rows) (first ++ (second ++ third)) (decimal_text most_rows)
+    (many first (second ++ third) (bare_text first refl) (many second third (bare_text second refl) (bare_text third refl))))
 
 pub copied_text : (accesses : List Access) → IsText (flat_map copied_words accesses)
 copied_text accesses =
@@ -544,31 +600,45 @@ described_content words more w m =
     subst IsContent (sym (description_parts (codes "<desc>") words more (codes "</desc>") (codes "\n")))
     (fed (element (codes "desc") [] (words ++ more)) (nested (codes "desc") [] (words ++ more) (bare_tag (codes "desc") refl) (text (words ++ more) (many words more w m))))
 
-description_content : (accesses : List Access) → IsContent (description accesses)
-unfolding key
-description_content accesses = described_content key_words (flat_map copied_words accesses) (bare_text key_words refl) (copied_text accesses)
+pub description_whole : (start a b c d end : List ℕ) → start ++ (a ++ b ++ c ++ d) ++ end ≡ start ++ a ++ b ++ c ++ d ++ end
+description_whole start a b c d end = simp append_assoc
+
+description_content : (accesses : List Access) (marks : Marks) (cut : Bool) → IsContent (description accesses marks cut)
+unfolding key_start
+description_content accesses marks cut =
+    let a : List ℕ = stroke_key marks in
+    let b : List ℕ = shape_key marks in
+    let c : List ℕ = said_if cut cut_words in
+    let d : List ℕ = flat_map copied_words accesses in
+    subst IsContent (description_whole key_start a b c d key_end)
+    (described_content key_words (a ++ b ++ c ++ d) (bare_text key_words refl)
+    (many (a ++ b ++ c) d (many (a ++ b) c (many a b (stroke_key_text marks) (shape_key_text marks)) (said_text cut cut_words cut_text)) (copied_text accesses)))
 
 abbrev look_words : List ℕ
 look_words =
-    codes "svg{background:#fff}text{fill:#111;font:13px sans-serif}.head{font:bold 16px sans-serif}.round{font-weight:bold}.small{"
-    ++ codes "font-size:11px}.life{stroke:#8a8a8a}.rule{stroke:#8a8a8a;stroke-dasharray:2 4}.access{stroke:#0b5fa5}.stroke{fill:none;stroke:"
-    ++ codes "#111;stroke-opacity:.45}.stroke.lie{stroke:#b00020;stroke-opacity:1;stroke-dasharray:9 4}.stroke.none{stroke:#b00020;stroke-op"
-    ++ codes "acity:1;stroke-dasharray:2 5}.mark{fill:#fff;stroke:#111;stroke-width:1.5}.mark.lie{fill:#b00020;stroke:#b00020}.mark.none{fil"
-    ++ codes "l:none;stroke:#b00020;stroke-width:2.5}.mark.point{fill:#0b5fa5;stroke:#0b5fa5}.mark.traitor{fill:#b00020}@media(prefers-color"
-    ++ codes "-scheme:dark){svg{background:#111}text{fill:#eee}.stroke,.mark{stroke:#eee}.mark{fill:#111}.access{stroke:#6cb8f5}.mark.point{"
-    ++ codes "fill:#6cb8f5;stroke:#6cb8f5}.stroke.lie,.stroke.none,.mark.none{stroke:#ff8095}.mark.lie{fill:#ff8095;stroke:#ff8095}.mark.tra"
-    ++ codes "itor{fill:#ff8095}}"
+    codes "svg{background:#fff}text{fill:#111;font:13px sans-serif}.head{font:bold 16px sans-serif}"
+    ++ codes ".round{font-weight:bold}.small{font-size:11px}.life{stroke:#8a8a8a}"
+    ++ codes ".rule{stroke:#8a8a8a;stroke-dasharray:2 4}.access{stroke:#0b5fa5}"
+    ++ codes ".stroke{fill:none;stroke:#111;stroke-opacity:.45}"
+    ++ codes ".stroke.lie{stroke:#b00020;stroke-opacity:1;stroke-dasharray:9 4}"
+    ++ codes ".stroke.none{stroke:#b00020;stroke-opacity:1;stroke-dasharray:2 5}"
+    ++ codes ".mark{fill:#fff;stroke:#111;stroke-width:1.5}.mark.lie{fill:#b00020;stroke:#b00020}"
+    ++ codes ".mark.none{fill:none;stroke:#b00020;stroke-width:2.5}.mark.point{fill:#0b5fa5;stroke:#0b5fa5}"
+    ++ codes ".mark.traitor{fill:#b00020}@media(prefers-color-scheme:dark){svg{background:#111}text{fill:#eee}"
+    ++ codes ".stroke,.mark{stroke:#eee}.mark{fill:#111}.access{stroke:#6cb8f5}"
+    ++ codes ".mark.point{fill:#6cb8f5;stroke:#6cb8f5}.stroke.lie,.stroke.none,.mark.none{stroke:#ff8095}"
+    ++ codes ".mark.lie{fill:#ff8095;stroke:#ff8095}.mark.traitor{fill:#ff8095}}"
 
 pub look_content : IsContent look
 unfolding look
 look_content = fed (element (codes "style") [] look_words) (nested (codes "style") [] look_words (bare_tag (codes "style") refl) (text look_words (bare_text look_words refl)))
 
-head_content : (s : Scenario) (accesses : List Access) → IsContent (head s accesses)
-head_content s accesses =
+head_content : (s : Scenario) (accesses : List Access) (marks : Marks) (cut : Bool) → IsContent (head s accesses marks cut)
+head_content s accesses marks cut =
     let w : List ℕ = campaign_words s.generals s.bound s.commander s.order in
     let t : IsText w = campaign_text s.generals s.bound s.commander s.order in
-    let d : List ℕ = description accesses in
-    joined (title w ++ d ++ look) (text_at (codes "head") 16 28 w) (joined (title w ++ d) look (joined (title w) d (title_content w t) (description_content accesses)) look_content)
+    let d : List ℕ = description accesses marks cut in
+    joined (title w ++ d ++ look) (text_at (codes "head") 16 28 w) (joined (title w ++ d) look (joined (title w) d (title_content w t) (description_content accesses marks cut)) look_content)
     (text_content (codes "head") 16 28 w (bare_text (codes "head") refl) t)
 
 general_content : (g : ℕ) (commander traitor : Bool) → IsContent (general_head g commander traitor)
@@ -642,19 +712,20 @@ proved_diagrams_are_elements t c =
     let bottom : ℕ = top_of s.generals drawn c.accesses (s.bound + 1) in
     let wide : ℕ = width s.generals c.accesses in
     let w : ℕ = wide + 16 in
-    let h : ℕ = bottom + 230 in
-    let a : List ℕ = head s c.accesses in
+    let marks : Marks = marks_of s c.accesses drawn in
+    let h : ℕ = bottom + foot_height marks in
+    let a : List ℕ = head s c.accesses marks (is_cut strokes) in
     let b : List ℕ = heads s c.accesses in
     let d : List ℕ = bands s.generals drawn c.accesses wide (s.bound + 1) in
     let m : List ℕ = mores s.generals strokes drawn c.accesses (s.bound + 1) in
-    let e : List ℕ = foot c wide bottom in
+    let e : List ℕ = foot c marks wide bottom in
     let inside : List ℕ = a ++ b ++ d ++ m ++ e in
     let is : IsContent inside =
     joined (a ++ b ++ d ++ m) e
     (joined (a ++ b ++ d) m
-    (joined (a ++ b) d (joined a b (head_content s c.accesses) (heads_content s c.accesses)) (all (band s.generals drawn c.accesses wide) (range_with_len 0 (s.bound + 1)) (band_content s.generals drawn c.accesses wide)))
+    (joined (a ++ b) d (joined a b (head_content s c.accesses marks (is_cut strokes)) (heads_content s c.accesses)) (all (band s.generals drawn c.accesses wide) (range_with_len 0 (s.bound + 1)) (band_content s.generals drawn c.accesses wide)))
     (mores_content s.generals strokes drawn c.accesses (s.bound + 1)))
-    (foot_content c wide bottom) in (
+    (foot_content c marks wide bottom) in (
       element (codes "svg") (attributes (decimal w) (decimal h)) (codes "\n" ++ inside),
       record {
         name = codes "svg";

@@ -6,18 +6,10 @@ use Rattle.std.specs.List.{range_with_len}
 use Rattle.roster.specs.Scenario.{Scenario, is_traitor}
 use Rattle.world.specs.Chronicle.{Chronicle}
 use Rattle.world.specs.declared.verdict.Verdict.{Verdict}
+use Rattle.diagram.specs.declared.mark.Marks.{Marks}
 use Rattle.diagram.specs.Layout.{column}
 use Rattle.diagram.specs.Legend.{legend}
-use Rattle.diagram.specs.Shapes.{group_at, line, mark, text_at}
-
--- a general's shape: a square for a traitor, a circle for a loyal one
-abbrev pub sort_of : Bool → List ℕ
-sort_of true = codes "traitor"
-sort_of false = codes "loyal"
-
-abbrev pub shape_of : Bool → List ℕ
-shape_of true = codes "M-6-6h12v12h-12z"
-shape_of false = codes "M0-6a6 6 0 0 1 0 12a6 6 0 0 1 0-12z"
+use Rattle.diagram.specs.Shapes.{group_at, line, mark, shape_of, sort_of, text_at}
 
 unfoldable pub decides_words : ℕ → List ℕ
 decides_words order = codes "decides " ++ decimal order
@@ -59,8 +51,8 @@ verdict_lines v =
     text_at (codes "name") 120 64 (alike_words v.alike) ++ text_at (codes "name") 120 84 (obeyed_words v.obeyed)
     ++ text_at (codes "name") 120 104 (bound_words v.bound)
 
-abbrev pub foot : Chronicle → ℕ → ℕ → List ℕ
-foot c wide top =
+abbrev pub foot : Chronicle → Marks → ℕ → ℕ → List ℕ
+foot c marks wide top =
     group_at 0 top
     (line (codes "rule") 16 0 wide 0 ++ text_at (codes "round") 16 28 (codes "decisions")
-    ++ decided_all c.scenario c.decisions ++ verdict_lines c.verdict ++ legend)
+    ++ decided_all c.scenario c.decisions ++ verdict_lines c.verdict ++ legend marks)

@@ -1,6 +1,6 @@
 -- Laws of what is drawn. Each is the contract of a function of this crate.
-use Rattle.std.specs.Prelude.{ℕ, ◌+◌, ◌≡◌, ◌≢◌, ◌<◌, ◌==◌, ◌&&◌, Bool, false, if◌then◌else◌, List, [], ◌∷◌, ◌++◌, count_by, codes, Some}
-use Rattle.std.specs.List.{All, list_any}
+use Rattle.std.specs.Prelude.{ℕ, ◌+◌, ◌≡◌, ◌≢◌, ◌<◌, ◌≤◌, ◌↔◌, ◌==◌, ◌&&◌, Bool, true, false, if◌then◌else◌, List, [], ◌∷◌, ◌++◌, length, map, take, drop, count_by, codes, Some}
+use Rattle.std.specs.List.{All, list_any, range_with_len}
 use Rattle.label.specs.Oral.{taken}
 use Rattle.markup.specs.Grammar.{IsElement}
 use Rattle.book.specs.Table.{MessageTable, told}
@@ -13,8 +13,9 @@ use Rattle.world.specs.World.{opening, run}
 use Rattle.world.specs.declared.event.Event.{Event}
 use Rattle.diagram.specs.declared.stroke.Stroke.{Stroke}
 use Rattle.diagram.specs.declared.telling.Telling.{Telling}
-use Rattle.diagram.specs.Facts.{is_before, is_same, strokes_of, telling_at, tellings_of}
-use Rattle.diagram.specs.Left.{is_left, with_rows}
+use Rattle.diagram.specs.Facts.{first_telling, strokes_of, telling_at, tellings_of}
+use Rattle.diagram.specs.Left.{is_left, is_left_lie}
+use Rattle.diagram.specs.Lists.{is_lie_to, is_same, is_to, labels_of, list_to, most_rows, with_rows}
 use Rattle.diagram.specs.Svg.{svg_text}
 use Rattle.diagram.specs.Words.{kind}
 
@@ -37,12 +38,16 @@ IsDrawnHonest stroke = (stroke.differs ≡ false) × (kind stroke ≡ codes "tol
 abbrev pub BlamesTraitors : Scenario → MessageTable → Type 0
 BlamesTraitors s t = All (λ stroke. is_traitor s stroke.teller ≡ false → IsDrawnHonest stroke) (strokes_of t s.order)
 
--- so it is there; and whoever tells of a label what he took of it does not differ
+-- so it is there; and what does not differ is just what is told as it should be: by the commander his order, by another
+-- what he took
 pub record OnlyTraitorsDiffer : Type 0 where
   pub drawn : (s : Scenario) (events : List Event) (t : MessageTable) → IsFinishedTable s events t →
       BlamesTraitors s t
-  pub honest : (t : MessageTable) (w : List ℕ) (j p : ℕ) →
-      told t.messages (w ++ j ∷ []) p ≡ Some (taken (told t.messages) w j) → (telling_at t w j p).differs ≡ false
+  pub first : (t : MessageTable) (order p : ℕ) →
+      ((first_telling t order p).differs ≡ false) ↔ (told t.messages (t.commander ∷ []) p ≡ Some order)
+  pub relayed : (t : MessageTable) (w : List ℕ) (j p : ℕ) →
+      ((telling_at t w j p).differs ≡ false)
+      ↔ (told t.messages (w ++ j ∷ []) p ≡ Some (taken (told t.messages) w j))
 
 -- what a stroke tells of each of its labels, and that it is the one of what p was told
 abbrev pub told_by : Stroke → Telling
@@ -53,17 +58,49 @@ is_of p telling stroke = stroke.receiver == p && is_same telling (told_by stroke
 
 -- of how many labels the receiver was told so
 abbrev pub labels_told : MessageTable → ℕ → Stroke → ℕ
-labels_told t order stroke = count_by (is_same (told_by stroke)) (tellings_of t order stroke.receiver)
+labels_told t order stroke = labels_of (tellings_of t order stroke.receiver) (told_by stroke)
 
 -- of all labels of a round of which one general told a lieutenant the same there is one stroke, and none of what he was
--- not told; each is as wide as it has labels; and of a list those that are drawn, and those of which is told how many
--- they are, make all
+-- not told; each is as wide as it has labels
 pub record StrokesAreExact : Type 0 where
   pub once : (t : MessageTable) (order p : ℕ) (telling : Telling) → p < t.generals → p ≢ t.commander →
       count_by (is_of p telling) (strokes_of t order)
       ≡ (if list_any (is_same telling) (tellings_of t order p) then 1 else 0)
   pub wide : (t : MessageTable) (order : ℕ) →
       All (λ stroke. stroke.labels ≡ labels_told t order stroke) (strokes_of t order)
-  pub none_lost : (strokes : List Stroke) (round p : ℕ) →
-      count_by (is_before round p) (with_rows strokes) + count_by (is_left round p) strokes
-      ≡ count_by (is_before round p) strokes
+
+-- the list of what a lieutenant was told in a round
+abbrev pub list_in : MessageTable → ℕ → ℕ → ℕ → List Stroke
+list_in t order round p = list_to round p (strokes_of t order)
+
+-- of which these are drawn
+abbrev pub drawn_in : MessageTable → ℕ → ℕ → ℕ → List Stroke
+drawn_in t order round p = list_to round p (with_rows (strokes_of t order))
+
+abbrev pub has_lied : Stroke → Bool
+has_lied stroke = stroke.differs
+
+abbrev pub has_lied_as : ℕ → Stroke → Bool
+has_lied_as j stroke = stroke.differs && stroke.teller == j
+
+-- the rows of a lieutenant's list are numbered, and the first are drawn; where a lie is not, no honest row is, and each
+-- liar has a row; those that are drawn and those that are counted as left make all, and so of the lies
+pub record RowsAreExact : Type 0 where
+  pub numbered : (t : MessageTable) (order round p : ℕ) → p < t.generals → p ≢ t.commander →
+      map (λ (stroke : Stroke). stroke.row) (list_in t order round p)
+      ≡ range_with_len 0 (length (list_in t order round p))
+  pub first : (t : MessageTable) (order round p : ℕ) → p < t.generals → p ≢ t.commander →
+      drawn_in t order round p ≡ take most_rows (list_in t order round p)
+  pub lies : (t : MessageTable) (order round p : ℕ) → p < t.generals → p ≢ t.commander →
+      list_any has_lied (drop most_rows (list_in t order round p)) ≡ true →
+      All (λ stroke. stroke.differs ≡ true) (drawn_in t order round p)
+  pub liars : (t : MessageTable) (order round p j : ℕ) → p < t.generals → p ≢ t.commander →
+      t.commander < t.generals → t.generals ≤ most_rows →
+      list_any (has_lied_as j) (list_in t order round p) ≡ true →
+      list_any (has_lied_as j) (drawn_in t order round p) ≡ true
+  pub counted : (strokes : List Stroke) (round p : ℕ) →
+      count_by (is_to round p) (with_rows strokes) + count_by (is_left round p) strokes
+      ≡ count_by (is_to round p) strokes
+  pub lies_counted : (strokes : List Stroke) (round p : ℕ) →
+      count_by (is_lie_to round p) (with_rows strokes) + count_by (is_left_lie round p) strokes
+      ≡ count_by (is_lie_to round p) strokes

@@ -1,41 +1,45 @@
--- The strokes that a picture has room for, and how many it has none for: of each list of what a lieutenant was told in
--- a round those with the first rows.
-use Rattle.std.specs.Prelude.{ℕ, ◌+◌, ◌*◌, ◌==◌, ◌&&◌, nat_le, nat_lt, Bool, if◌then◌else◌, List, [], ◌++◌, codes, count_by, filter, flat_map}
+-- How many strokes a picture has no room for: of each list of what a lieutenant was told in a round all but the first
+-- rows.
+use Rattle.std.specs.Prelude.{ℕ, ◌+◌, ◌*◌, ◌==◌, ◌&&◌, nat_le, Bool, if◌then◌else◌, List, [], ◌++◌, codes, count_by, flat_map}
 use Rattle.std.specs.Fmt.{decimal}
-use Rattle.std.specs.List.{range_with_len}
+use Rattle.std.specs.List.{list_any, range_with_len}
 use Rattle.board.specs.Board.{Access}
 use Rattle.diagram.specs.declared.stroke.Stroke.{Stroke}
-use Rattle.diagram.specs.Facts.{is_before}
 use Rattle.diagram.specs.Layout.{column, rows_top, top_of}
+use Rattle.diagram.specs.Lists.{is_lie_to, is_to, most_rows}
 use Rattle.diagram.specs.Shapes.{group_at, text_at, title}
 
--- how many rows a list has at most
-abbrev pub most_rows : ℕ
-most_rows = 24
+-- which strokes are not drawn
+abbrev pub is_past : Stroke → Bool
+is_past stroke = nat_le most_rows stroke.row
 
--- which strokes are drawn
-abbrev pub has_row : Stroke → Bool
-has_row stroke = nat_lt stroke.row most_rows
-
-abbrev pub with_rows : List Stroke → List Stroke
-with_rows strokes = filter has_row strokes
+-- whether any is not
+abbrev pub is_cut : List Stroke → Bool
+is_cut strokes = list_any is_past strokes
 
 -- which of a round to p are not, and which of these an honest relay would not tell
 abbrev pub is_left : ℕ → ℕ → Stroke → Bool
-is_left round p stroke = nat_le most_rows stroke.row && is_before round p stroke
+is_left round p stroke = is_past stroke && is_to round p stroke
 
 abbrev pub is_left_lie : ℕ → ℕ → Stroke → Bool
-is_left_lie round p stroke = stroke.differs && is_left round p stroke
+is_left_lie round p stroke = is_past stroke && is_lie_to round p stroke
 
 -- how many they are, below the list; and the same for those who point at it, or hear it
 unfoldable pub left_words : ℕ → ℕ → List ℕ
-left_words left lies = codes "and " ++ (decimal left ++ (codes " more, " ++ (decimal lies ++ codes " dishonest")))
+left_words left lies = codes "and " ++ (decimal left ++ (codes " more rows, " ++ (decimal lies ++ codes " dishonest")))
 
 unfoldable pub left_in_full : ℕ → ℕ → ℕ → ℕ → List ℕ
 left_in_full p round left lies = codes "general "
-    ++ (decimal p ++ (codes " was told " ++ (decimal left ++ (codes " things more in round "
-    ++ (decimal round ++ (codes ", which are not drawn: in place of "
+    ++ (decimal p ++ (codes " has " ++ (decimal left ++ (codes " more rows in round "
+    ++ (decimal round ++ (codes ", which are not drawn: in "
     ++ (decimal lies ++ codes " of them an honest relay would tell something else")))))))
+
+-- what is told to those who do not see it, where any is not drawn
+unfoldable pub cut_words : List ℕ
+cut_words = codes " A list has at most " ++ (decimal most_rows
+    ++ (codes " rows, of orders and of silence. A longer one begins with the first row of each teller in which an "
+    ++ (codes "honest relay would tell something else, then come the others of this kind, then the rest; below it stands how "
+    ++ codes "many are not drawn.")))
 
 abbrev pub more_told : ℕ → ℕ → ℕ → ℕ → List ℕ
 more_told p round left lies =

@@ -1,25 +1,97 @@
--- What the marks of a picture mean, below its foot.
-use Rattle.std.specs.Prelude.{ℕ, true, false, List, ◌++◌, codes, None, Some}
-use Rattle.diagram.specs.Shapes.{group_at, mark, stroke_at, text_at}
+-- What the marks of a picture mean, below its foot: a row for each mark that stands in it, and for no other.
+use Rattle.std.specs.Prelude.{ℕ, ◌+◌, ◌*◌, nat_lt, Bool, true, false, not, ◌&&◌, if◌then◌else◌, is_some, List, [], ◌++◌, length, codes, count_by, None, Some}
+use Rattle.std.specs.List.{list_any}
+use Rattle.board.specs.Board.{Access}
+use Rattle.label.specs.Labels.{generals}
+use Rattle.roster.specs.Scenario.{Scenario, is_traitor}
+use Rattle.diagram.specs.declared.mark.Marks.{Marks}
+use Rattle.diagram.specs.declared.stroke.Stroke.{Stroke}
+use Rattle.diagram.specs.Shapes.{group_at, mark, said_if, shape_of, stroke_at, text_at}
 use Rattle.diagram.specs.Words.{outline_of}
 
--- a stroke and its mark, and what they mean
+-- which strokes have a circle, a diamond, a cross
+abbrev pub has_circle : Stroke → Bool
+has_circle stroke = not stroke.differs
+
+abbrev pub has_diamond : Stroke → Bool
+has_diamond stroke = stroke.differs && is_some stroke.told
+
+abbrev pub has_cross : Stroke → Bool
+has_cross stroke = stroke.differs && not (is_some stroke.told)
+
+abbrev pub traitors : Scenario → ℕ
+traitors s = count_by (is_traitor s) (generals s.generals)
+
+-- the marks that stand in the picture of these strokes and accesses
+abbrev pub marks_of : Scenario → List Access → List Stroke → Marks
+marks_of s accesses strokes = record {
+  circle = list_any has_circle strokes;
+  diamond = list_any has_diamond strokes;
+  cross = list_any has_cross strokes;
+  square = nat_lt 0 (traitors s);
+  loyal = nat_lt (traitors s) s.generals;
+  point = nat_lt 0 (length accesses);
+}
+
+abbrev pub one_if : Bool → ℕ
+one_if stands = if stands then 1 else 0
+
+-- how many rows those of the strokes have, and all; and how high the legend is, with the foot above it
+abbrev pub stroke_rows : Marks → ℕ
+stroke_rows marks = one_if marks.circle + one_if marks.diamond + one_if marks.cross
+
+abbrev pub rows : Marks → ℕ
+rows marks = stroke_rows marks + one_if marks.square + one_if marks.loyal + one_if marks.point
+
+abbrev pub foot_height : Marks → ℕ
+foot_height marks = 152 + 20 * rows marks
+
+-- a stroke and its mark, or a mark alone, and what they mean
 abbrev pub meaning_at : ℕ → List ℕ → List ℕ → List ℕ → List ℕ
 meaning_at y kind outline words =
     group_at 120 y
     (stroke_at kind 2 0 0 36 0 words ++ group_at 52 0 (mark kind outline ++ text_at (codes "small") 12 4 words))
 
-unfoldable pub marks_words : List ℕ
-marks_words = codes "Square: a traitor. Circle at a name: a loyal general. Point: an access to the board."
+abbrev pub shape_at : ℕ → List ℕ → List ℕ → List ℕ → List ℕ
+shape_at y kind outline words = group_at 172 y (mark kind outline ++ text_at (codes "small") 12 4 words)
 
--- of what is told as it should be, of something else, and of nothing in its place; then what the width of a line tells
-abbrev pub legend_of : List ℕ → List ℕ → List ℕ → List ℕ → List ℕ
-legend_of told differs missing wide =
-    meaning_at 132 (codes "told key") (outline_of false None) told
-    ++ meaning_at 152 (codes "lie key") (outline_of true (Some 0)) differs
-    ++ meaning_at 172 (codes "none key") (outline_of true None) missing
-    ++ text_at (codes "small") 120 196 wide
-    ++ text_at (codes "small") 120 214 marks_words
+-- where they stand in the picture, in the row with this place
+abbrev pub meaning_if : Bool → ℕ → List ℕ → List ℕ → List ℕ → List ℕ
+meaning_if stands place kind outline words = if stands then meaning_at (132 + 20 * place) kind outline words else []
+
+abbrev pub shape_if : Bool → ℕ → List ℕ → List ℕ → List ℕ → List ℕ
+shape_if stands place kind outline words = if stands then shape_at (132 + 20 * place) kind outline words else []
+
+-- of what is told as it should be, of something else, and of nothing in its place
+abbrev pub stroke_meanings : Marks → List ℕ → List ℕ → List ℕ → List ℕ
+stroke_meanings marks told differs missing =
+    meaning_if marks.circle 0 (codes "told key") (outline_of false None) told
+    ++ meaning_if marks.diamond (one_if marks.circle) (codes "lie key") (outline_of true (Some 0)) differs
+    ++ meaning_if marks.cross (one_if marks.circle + one_if marks.diamond) (codes "none key") (outline_of true None)
+    missing
+
+-- of generals and of accesses, from this place on
+abbrev pub shape_meanings : Marks → ℕ → List ℕ
+shape_meanings marks place =
+    shape_if marks.square place (codes "traitor key") (shape_of true) (codes "a traitor")
+    ++ shape_if marks.loyal (place + one_if marks.square) (codes "loyal key") (shape_of false)
+    (codes "a loyal general")
+    ++ shape_if marks.point (place + one_if marks.square + one_if marks.loyal) (codes "point key")
+    (outline_of false None) (codes "an access to the board")
+
+-- these, and what the width of a line tells
+abbrev pub legend_of : Marks → List ℕ → List ℕ → List ℕ → List ℕ → List ℕ
+legend_of marks told differs missing wide =
+    stroke_meanings marks told differs missing
+    ++ shape_meanings marks (stroke_rows marks)
+    ++ text_at (codes "small") 120 (136 + 20 * rows marks) wide
+
+-- the last of them for those who do not see the picture
+abbrev pub shape_key : Marks → List ℕ
+shape_key marks =
+    said_if marks.point (codes " Above the lines stand the accesses to the board, in its order.")
+    ++ said_if marks.square (codes " Square: a traitor.")
+    ++ said_if marks.loyal (codes " Circle at a name: a loyal general.")
 
 -- of oral messages
 unfoldable pub told_meaning : List ℕ
@@ -34,5 +106,5 @@ missing_meaning = codes "nothing told, where something was to be told"
 unfoldable pub wide_meaning : List ℕ
 wide_meaning = codes "A line leads down to who is told, as wide as it has labels, up to 5."
 
-abbrev pub legend : List ℕ
-legend = legend_of told_meaning differs_meaning missing_meaning wide_meaning
+abbrev pub legend : Marks → List ℕ
+legend marks = legend_of marks told_meaning differs_meaning missing_meaning wide_meaning

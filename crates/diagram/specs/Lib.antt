@@ -1,3 +1,4 @@
+pub mod Lists
 pub mod Facts
 pub mod Words
 pub mod Shapes

@@ -1,5 +1,5 @@
 -- The elements of a picture.
-use Rattle.std.specs.Prelude.{ℕ, List, ◌++◌, codes}
+use Rattle.std.specs.Prelude.{ℕ, Bool, true, false, if◌then◌else◌, List, [], ◌++◌, codes}
 use Rattle.std.specs.Fmt.{decimal}
 
 unfoldable pub text_start : List ℕ → ℕ → ℕ → List ℕ
@@ -63,3 +63,16 @@ group_at x y inside = group_start x y ++ inside ++ group_end
 -- a mark of this outline
 unfoldable pub mark : List ℕ → List ℕ → List ℕ
 mark kind outline = codes "<path class=\"mark " ++ (kind ++ (codes "\" d=\"" ++ (outline ++ codes "\"/>\n")))
+
+-- a general's shape: a square for a traitor, a circle for a loyal one
+abbrev pub sort_of : Bool → List ℕ
+sort_of true = codes "traitor"
+sort_of false = codes "loyal"
+
+abbrev pub shape_of : Bool → List ℕ
+shape_of true = codes "M-6-6h12v12h-12z"
+shape_of false = codes "M0-6a6 6 0 0 1 0 12a6 6 0 0 1 0-12z"
+
+-- words, where this is so
+unfoldable pub said_if : Bool → List ℕ → List ℕ
+said_if stands words = if stands then words else []

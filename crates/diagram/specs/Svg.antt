@@ -6,13 +6,16 @@ use Rattle.board.specs.Board.{Access}
 use Rattle.book.specs.Table.{MessageTable}
 use Rattle.roster.specs.Scenario.{Scenario, is_traitor}
 use Rattle.world.specs.Chronicle.{Chronicle}
+use Rattle.diagram.specs.declared.mark.Marks.{Marks}
 use Rattle.diagram.specs.declared.stroke.Stroke.{Stroke}
 use Rattle.diagram.specs.Bands.{bands}
 use Rattle.diagram.specs.Facts.{strokes_of}
-use Rattle.diagram.specs.Foot.{foot, shape_of, sort_of}
-use Rattle.diagram.specs.Left.{mores, with_rows}
+use Rattle.diagram.specs.Foot.{foot}
 use Rattle.diagram.specs.Layout.{board, column, top_of, width}
-use Rattle.diagram.specs.Shapes.{group_at, mark, text_at, title}
+use Rattle.diagram.specs.Left.{cut_words, is_cut, mores}
+use Rattle.diagram.specs.Legend.{foot_height, marks_of, shape_key}
+use Rattle.diagram.specs.Lists.{with_rows}
+use Rattle.diagram.specs.Shapes.{group_at, mark, said_if, shape_of, sort_of, text_at, title}
 use Rattle.diagram.specs.Words.{copied_words, general_words, role_words}
 
 -- what every picture begins with, and its size, with its units
@@ -32,36 +35,47 @@ campaign_words n m c order =
     ++ (decimal m ++ (codes "; commander " ++ (decimal c ++ (codes " was given order " ++ decimal order)))))
 
 -- what is told of the picture to those who do not see it, and of accesses whose words it has no room for
-unfoldable pub key : List ℕ
-key =
-    codes "<desc>A column for each general, and a band for each round, from above. In a band a line leads down from who tells som"
-    ++ codes "ething to whom he tells it, as wide as he tells it of labels, up to 5, and below stands in the column of the receiver "
-    ++ codes "what he was told. Circle and plain line: as an honest relay tells it. Diamond and dashes: something else. Cross and do"
-    ++ codes "ts: nothing, where something was to be told. Above the lines stand the accesses to the board, in its order. Square: a "
-    ++ codes "traitor."
+unfoldable pub key_start : List ℕ
+key_start =
+    codes "<desc>A column for each general, and a band for each round, from above. In a band a line leads down from "
+    ++ codes "who tells something to whom he tells it, as wide as he tells it of labels, up to 5, and below stands "
+    ++ codes "in the column of the receiver what he was told."
+
+-- of each mark that stands in the picture
+abbrev pub stroke_key : Marks → List ℕ
+stroke_key marks =
+    said_if marks.circle (codes " Circle and plain line: as an honest relay tells it.")
+    ++ said_if marks.diamond (codes " Diamond and dashes: something else.")
+    ++ said_if marks.cross (codes " Cross and dots: nothing, where something was to be told.")
 
 abbrev pub key_end : List ℕ
 key_end = codes "</desc>\n"
 
-abbrev pub description : List Access → List ℕ
-description accesses = key ++ flat_map copied_words accesses ++ key_end
+abbrev pub description : List Access → Marks → Bool → List ℕ
+description accesses marks cut =
+    key_start ++ stroke_key marks ++ shape_key marks ++ said_if cut cut_words ++ flat_map copied_words accesses
+    ++ key_end
 
 -- how it looks: on paper, and on a dark ground where one is wished for
 unfoldable pub look : List ℕ
 look =
-    codes "<style>svg{background:#fff}text{fill:#111;font:13px sans-serif}.head{font:bold 16px sans-serif}.round{font-weight:bold}.small{"
-    ++ codes "font-size:11px}.life{stroke:#8a8a8a}.rule{stroke:#8a8a8a;stroke-dasharray:2 4}.access{stroke:#0b5fa5}.stroke{fill:none;stroke:"
-    ++ codes "#111;stroke-opacity:.45}.stroke.lie{stroke:#b00020;stroke-opacity:1;stroke-dasharray:9 4}.stroke.none{stroke:#b00020;stroke-op"
-    ++ codes "acity:1;stroke-dasharray:2 5}.mark{fill:#fff;stroke:#111;stroke-width:1.5}.mark.lie{fill:#b00020;stroke:#b00020}.mark.none{fil"
-    ++ codes "l:none;stroke:#b00020;stroke-width:2.5}.mark.point{fill:#0b5fa5;stroke:#0b5fa5}.mark.traitor{fill:#b00020}@media(prefers-color"
-    ++ codes "-scheme:dark){svg{background:#111}text{fill:#eee}.stroke,.mark{stroke:#eee}.mark{fill:#111}.access{stroke:#6cb8f5}.mark.point{"
-    ++ codes "fill:#6cb8f5;stroke:#6cb8f5}.stroke.lie,.stroke.none,.mark.none{stroke:#ff8095}.mark.lie{fill:#ff8095;stroke:#ff8095}.mark.tra"
-    ++ codes "itor{fill:#ff8095}}</style>\n"
+    codes "<style>svg{background:#fff}text{fill:#111;font:13px sans-serif}.head{font:bold 16px sans-serif}"
+    ++ codes ".round{font-weight:bold}.small{font-size:11px}.life{stroke:#8a8a8a}"
+    ++ codes ".rule{stroke:#8a8a8a;stroke-dasharray:2 4}.access{stroke:#0b5fa5}"
+    ++ codes ".stroke{fill:none;stroke:#111;stroke-opacity:.45}"
+    ++ codes ".stroke.lie{stroke:#b00020;stroke-opacity:1;stroke-dasharray:9 4}"
+    ++ codes ".stroke.none{stroke:#b00020;stroke-opacity:1;stroke-dasharray:2 5}"
+    ++ codes ".mark{fill:#fff;stroke:#111;stroke-width:1.5}.mark.lie{fill:#b00020;stroke:#b00020}"
+    ++ codes ".mark.none{fill:none;stroke:#b00020;stroke-width:2.5}.mark.point{fill:#0b5fa5;stroke:#0b5fa5}"
+    ++ codes ".mark.traitor{fill:#b00020}@media(prefers-color-scheme:dark){svg{background:#111}text{fill:#eee}"
+    ++ codes ".stroke,.mark{stroke:#eee}.mark{fill:#111}.access{stroke:#6cb8f5}"
+    ++ codes ".mark.point{fill:#6cb8f5;stroke:#6cb8f5}.stroke.lie,.stroke.none,.mark.none{stroke:#ff8095}"
+    ++ codes ".mark.lie{fill:#ff8095;stroke:#ff8095}.mark.traitor{fill:#ff8095}}</style>\n"
 
 -- what stands before the columns
-abbrev pub head : Scenario → List Access → List ℕ
-head s accesses =
-    title (campaign_words s.generals s.bound s.commander s.order) ++ description accesses ++ look
+abbrev pub head : Scenario → List Access → Marks → Bool → List ℕ
+head s accesses marks cut =
+    title (campaign_words s.generals s.bound s.commander s.order) ++ description accesses marks cut ++ look
     ++ text_at (codes "head") 16 28 (campaign_words s.generals s.bound s.commander s.order)
 
 -- who has which column
@@ -91,10 +105,12 @@ svg_with strokes drawn c =
     let s = c.scenario in
     let bottom = top_of s.generals drawn c.accesses (s.bound + 1) in
     let wide = width s.generals c.accesses in
-    picture (wide + 16) (bottom + 230)
-    (head s c.accesses ++ heads s c.accesses ++ bands s.generals drawn c.accesses wide (s.bound + 1)
+    let marks = marks_of s c.accesses drawn in
+    picture (wide + 16) (bottom + foot_height marks)
+    (head s c.accesses marks (is_cut strokes) ++ heads s c.accesses
+    ++ bands s.generals drawn c.accesses wide (s.bound + 1)
     ++ mores s.generals strokes drawn c.accesses (s.bound + 1)
-    ++ foot c wide bottom)
+    ++ foot c marks wide bottom)
 
 -- the picture of a chronicle, whose letters tell this message table
 unfoldable pub svg_text : MessageTable → Chronicle → List ℕ

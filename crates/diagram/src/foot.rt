@@ -1,25 +1,28 @@
 //! What stands below the bands of a picture: the decisions, the verdict, and what the marks mean.
 ghost use Rattle.std.specs.Prelude.{◌≡◌, ◌≤◌, ◌<◌, ◌++◌, flat_map, string_bytes, OnOk, slice_get};
 ghost use Rattle.std.specs.List.{range_with_len};
-ghost use Rattle.diagram.specs.Foot.{alike_words, bound_words, decided, decided_all, decided_at, decides_words, foot, obeyed_words, place_of, shape_of, sort_of, verdict_lines};
+ghost use Rattle.diagram.specs.Foot.{alike_words, bound_words, decided, decided_all, decided_at, decides_words, foot, obeyed_words, place_of, verdict_lines};
 
 use crate::layout::column;
 use crate::legend::put_legend;
+use crate::mark::Marks;
 use crate::shapes::{
     put_group_end, put_group_start, put_line, put_mark, put_text_end, put_text_start, put_words,
+    shape_of, sort_of,
 };
 use roster::Scenario;
 use std::alloc::AllocError;
 use world::{Chronicle, Verdict};
 
-/// Adds the decisions, the verdict and what the marks mean, at this height.
+/// Adds the decisions, the verdict and what these marks mean, at this height.
 pub(crate) fn put_foot(
     out: &mut String,
     chronicle: &Chronicle,
+    marks: Marks,
     wide: u128,
     top: u128,
 ) -> Result<(), AllocError>
-    ensures { OnOk result (string_bytes out.new ≡ string_bytes out.old ++ foot chronicle.now wide top) }
+    ensures { OnOk result (string_bytes out.new ≡ string_bytes out.old ++ foot chronicle.now marks wide top) }
 {
     let scenario = chronicle.scenario();
     put_group_start(out, 0, top)?;
@@ -27,7 +30,7 @@ pub(crate) fn put_foot(
     put_words(out, "round", 16, 28, "decisions")?;
     put_decisions(out, scenario, chronicle.decisions())?;
     put_verdict(out, chronicle.verdict())?;
-    put_legend(out)?;
+    put_legend(out, marks)?;
     put_group_end(out)
 }
 
@@ -103,24 +106,6 @@ fn put_decides(out: &mut String, order: u32) -> Result<(), AllocError>
     ensures { OnOk result (string_bytes out.new ≡ string_bytes out.old ++ decides_words order) }
 {
     write!(out, "decides {order}")
-}
-
-/// The class of a general's shape.
-pub(crate) fn sort_of(is_traitor: bool) -> &'static str
-    ensures { result.now ≡ sort_of is_traitor }
-{
-    if is_traitor { "traitor" } else { "loyal" }
-}
-
-/// The outline of a general's shape: a square for a traitor, a circle for a loyal one.
-pub(crate) fn shape_of(is_traitor: bool) -> &'static str
-    ensures { result.now ≡ shape_of is_traitor }
-{
-    if is_traitor {
-        "M-6-6h12v12h-12z"
-    } else {
-        "M0-6a6 6 0 0 1 0 12a6 6 0 0 1 0-12z"
-    }
 }
 
 /// Adds the verdict, a line for each of its parts.

@@ -1,18 +1,18 @@
 //! The strokes that a picture has room for, and how many it has none for.
 ghost use Rattle.std.specs.Prelude.{◌≡◌, ◌<◌, ◌++◌, ◌∷◌, [], codes, cond, count_by, string_bytes, IfOk, OnOk};
-ghost use Rattle.diagram.specs.Shapes.{text_at, title};
-ghost use Rattle.diagram.specs.Left.{has_row, is_left, is_left_lie, left_in_full, left_words, more_at, more_of, more_told, more_top, mores, mores_in, mores_of, with_rows};
+ghost use Rattle.std.specs.List.{list_any};
+ghost use Rattle.diagram.specs.Shapes.{said_if, text_at, title};
+ghost use Rattle.diagram.specs.Lists.{has_row, with_rows};
+ghost use Rattle.diagram.specs.Left.{cut_words, is_cut, is_left, is_left_lie, is_past, left_in_full, left_words, more_at, more_of, more_told, more_top, mores, mores_in, mores_of};
 
 use crate::layout::{column, rows_top, top_of};
+use crate::order::MOST;
 use crate::shapes::{
     put_group_end, put_group_start, put_text_end, put_text_start, put_title_end, put_title_start,
 };
 use crate::stroke::Stroke;
 use board::Access;
 use std::alloc::{AllocError, Global};
-
-/// How many rows the list of what a lieutenant was told in a round has at most.
-const MOST: usize = 24;
 
 /// Those that are drawn.
 ///
@@ -34,6 +34,20 @@ fn has_row(stroke: &Stroke) -> bool
     ensures { result ≡ has_row stroke.now }
 {
     stroke.row < MOST
+}
+
+/// Whether one of these is not drawn.
+pub(crate) fn is_cut(strokes: &[Stroke]) -> bool
+    ensures { result ≡ is_cut strokes.now }
+{
+    strokes.iter().any(|stroke| is_past(stroke))
+}
+
+/// Whether a stroke is not drawn.
+fn is_past(stroke: &Stroke) -> bool
+    ensures { result ≡ is_past stroke.now }
+{
+    stroke.row >= MOST
 }
 
 /// Adds a stroke, if it is drawn.
@@ -145,7 +159,7 @@ fn count_left_lies(strokes: &[Stroke], round: usize, receiver: u8) -> usize
 {
     strokes
         .iter()
-        .filter(|x| x.differs && (x.row >= MOST && (x.round == round && x.receiver == receiver)))
+        .filter(|x| x.row >= MOST && (x.differs && (x.round == round && x.receiver == receiver)))
         .count()
 }
 
@@ -211,8 +225,8 @@ fn put_left_in_full(
 {
     write!(
         out,
-        "general {general} was told {left} things more in round {round}, which are not drawn: in place of {lies} of \
-         them an honest relay would tell something else"
+        "general {general} has {left} more rows in round {round}, which are not drawn: in {lies} of them an honest \
+         relay would tell something else"
     )
 }
 
@@ -231,5 +245,27 @@ fn put_left_text(out: &mut String, left: usize, lies: usize) -> Result<(), Alloc
 fn put_left_words(out: &mut String, left: usize, lies: usize) -> Result<(), AllocError>
     ensures { OnOk result (string_bytes out.new ≡ string_bytes out.old ++ left_words left lies) }
 {
-    write!(out, "and {left} more, {lies} dishonest")
+    write!(out, "and {left} more rows, {lies} dishonest")
+}
+
+/// Adds for those who do not see the picture, where strokes are not drawn, that they are not.
+#[tactic(auto, unfolding(crate::specs::Shapes::said_if))]
+pub(crate) fn put_cut(out: &mut String, is_cut: bool) -> Result<(), AllocError>
+    ensures { OnOk result (string_bytes out.new ≡ string_bytes out.old ++ said_if is_cut cut_words) }
+{
+    if is_cut { put_cut_words(out) } else { Ok(()) }
+}
+
+/// Adds it in words.
+#[tactic(auto, unfolding(crate::specs::Left::cut_words))]
+fn put_cut_words(out: &mut String) -> Result<(), AllocError>
+    ensures { OnOk result (string_bytes out.new ≡ string_bytes out.old ++ cut_words) }
+{
+    let most = MOST;
+    write!(
+        out,
+        " A list has at most {most} rows, of orders and of silence. A longer one begins with the first row of each \
+         teller in which an honest relay would tell something else, then come the others of this kind, then the rest; \
+         below it stands how many are not drawn."
+    )
 }

@@ -1,6 +1,6 @@
 //! The elements of a picture.
 ghost use Rattle.std.specs.Prelude.{◌≡◌, ◌++◌, string_bytes, OnOk};
-ghost use Rattle.diagram.specs.Shapes.{group_start, line, mark, stroke_open, stroke_start, stroke_way, text_at, text_start, title_end, title_start, text_end, group_end, stroke_end};
+ghost use Rattle.diagram.specs.Shapes.{group_end, group_start, line, mark, said_if, shape_of, sort_of, stroke_end, stroke_open, stroke_start, stroke_way, text_at, text_end, text_start, title_end, title_start};
 
 use std::alloc::AllocError;
 
@@ -130,4 +130,30 @@ pub fn put_title_end(out: &mut String) -> Result<(), AllocError>
     ensures { OnOk result (string_bytes out.new ≡ string_bytes out.old ++ title_end) }
 {
     out.push_str("</title>\n")
+}
+
+/// The class of a general's shape.
+pub(crate) fn sort_of(is_traitor: bool) -> &'static str
+    ensures { result.now ≡ sort_of is_traitor }
+{
+    if is_traitor { "traitor" } else { "loyal" }
+}
+
+/// The outline of a general's shape: a square for a traitor, a circle for a loyal one.
+pub(crate) fn shape_of(is_traitor: bool) -> &'static str
+    ensures { result.now ≡ shape_of is_traitor }
+{
+    if is_traitor {
+        "M-6-6h12v12h-12z"
+    } else {
+        "M0-6a6 6 0 0 1 0 12a6 6 0 0 1 0-12z"
+    }
+}
+
+/// Adds these words, where this is so.
+#[tactic(auto, unfolding(crate::specs::Shapes::said_if))]
+pub fn put_if(out: &mut String, stands: bool, words: &str) -> Result<(), AllocError>
+    ensures { OnOk result (string_bytes out.new ≡ string_bytes out.old ++ said_if stands words.now) }
+{
+    if stands { out.push_str(words) } else { Ok(()) }
 }

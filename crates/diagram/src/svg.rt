@@ -1,18 +1,20 @@
 //! A campaign as a picture in SVG.
 ghost use Rattle.std.specs.Prelude.{◌≡◌, ◌<◌, ◌++◌, codes, flat_map, string_bytes, IfOk, OnOk};
 ghost use Rattle.std.specs.List.{range_with_len};
-ghost use Rattle.diagram.specs.Shapes.{text_at};
+ghost use Rattle.diagram.specs.Shapes.{text_at, title};
 ghost use Rattle.diagram.specs.Words.{general_words};
-ghost use Rattle.diagram.specs.Svg.{board_head, box_words, campaign_words, description, general_head, head, head_of, heads, key, key_end, look, start, svg_text};
+ghost use Rattle.diagram.specs.Svg.{board_head, box_words, campaign_words, description, general_head, head, head_of, heads, key_end, key_start, look, start, stroke_key, svg_text};
 
 use crate::bands::put_bands;
 use crate::facts::strokes;
-use crate::foot::{put_foot, shape_of, sort_of};
+use crate::foot::put_foot;
 use crate::layout::{board, column, top_of, width};
-use crate::left::{put_mores, with_rows};
+use crate::left::{is_cut, put_cut, put_mores, with_rows};
+use crate::legend::{foot_height, marks, put_shape_key};
+use crate::mark::Marks;
 use crate::shapes::{
-    put_group_end, put_group_start, put_mark, put_text_end, put_text_start, put_title_end,
-    put_title_start, put_words,
+    put_group_end, put_group_start, put_if, put_mark, put_text_end, put_text_start, put_title_end,
+    put_title_start, put_words, shape_of, sort_of,
 };
 use crate::stroke::Stroke;
 use crate::words::{put_copied, put_general, role_words};
@@ -43,9 +45,11 @@ pub fn campaign_svg<H: Heard>(
     let rounds = scenario.bound() + 1;
     let wide = width(alloc, generals, accesses)?;
     let bottom = top_of(generals, drawn.as_slice(), accesses, rounds);
+    let marks = marks(scenario, accesses, drawn.as_slice());
+    let is_cut = is_cut(strokes.as_slice());
     let mut text = String::from_str(alloc, start())?;
-    put_box(&mut text, wide + 16, bottom + 230)?;
-    put_head(&mut text, scenario, accesses)?;
+    put_box(&mut text, wide + 16, bottom + foot_height(marks))?;
+    put_head(&mut text, scenario, accesses, marks, is_cut)?;
     put_heads(&mut text, scenario, accesses)?;
     put_bands(
         &mut text,
@@ -63,7 +67,7 @@ pub fn campaign_svg<H: Heard>(
         accesses,
         rounds,
     )?;
-    put_foot(&mut text, chronicle, wide, bottom)?;
+    put_foot(&mut text, chronicle, marks, wide, bottom)?;
     text.push_str("</svg>\n")?;
     Ok(text)
 }
@@ -92,8 +96,27 @@ pub fn put_box(out: &mut String, width: u128, height: u128) -> Result<(), AllocE
 }
 
 /// Adds what stands before the columns: which campaign it is, what the picture shows, and how it looks.
-fn put_head(out: &mut String, scenario: &Scenario, accesses: &[Access]) -> Result<(), AllocError>
-    ensures { OnOk result (string_bytes out.new ≡ string_bytes out.old ++ head scenario.now accesses.now) }
+fn put_head(
+    out: &mut String,
+    scenario: &Scenario,
+    accesses: &[Access],
+    marks: Marks,
+    is_cut: bool,
+) -> Result<(), AllocError>
+    ensures { OnOk result (string_bytes out.new ≡ string_bytes out.old
+        ++ head scenario.now accesses.now marks is_cut) }
+{
+    put_title_of(out, scenario)?;
+    put_description(out, accesses, marks, is_cut)?;
+    out.push_str(look())?;
+    put_headline(out, scenario)?;
+    Ok(())
+}
+
+/// Adds which campaign it is, as the picture's title.
+fn put_title_of(out: &mut String, scenario: &Scenario) -> Result<(), AllocError>
+    ensures { OnOk result (string_bytes out.new ≡ string_bytes out.old
+        ++ title (campaign_words scenario.now.generals scenario.now.bound scenario.now.commander scenario.now.order)) }
 {
     put_title_start(out)?;
     put_campaign(
@@ -103,9 +126,14 @@ fn put_head(out: &mut String, scenario: &Scenario, accesses: &[Access]) -> Resul
         scenario.commander(),
         scenario.order(),
     )?;
-    put_title_end(out)?;
-    put_description(out, accesses)?;
-    out.push_str(look())?;
+    put_title_end(out)
+}
+
+/// Adds it above the columns.
+fn put_headline(out: &mut String, scenario: &Scenario) -> Result<(), AllocError>
+    ensures { OnOk result (string_bytes out.new ≡ string_bytes out.old ++ text_at (codes "head") 16 28
+        (campaign_words scenario.now.generals scenario.now.bound scenario.now.commander scenario.now.order)) }
+{
     put_text_start(out, "head", 16, 28)?;
     put_campaign(
         out,
@@ -136,10 +164,18 @@ pub fn put_campaign(
 }
 
 /// Adds what is told of the picture to those who do not see it, and of accesses whose words it has no room for.
-fn put_description(out: &mut String, accesses: &[Access]) -> Result<(), AllocError>
-    ensures { OnOk result (string_bytes out.new ≡ string_bytes out.old ++ description accesses.now) }
+fn put_description(
+    out: &mut String,
+    accesses: &[Access],
+    marks: Marks,
+    is_cut: bool,
+) -> Result<(), AllocError>
+    ensures { OnOk result (string_bytes out.new ≡ string_bytes out.old ++ description accesses.now marks is_cut) }
 {
-    out.push_str(key())?;
+    out.push_str(key_start())?;
+    put_stroke_key(out, marks)?;
+    put_shape_key(out, marks)?;
+    put_cut(out, is_cut)?;
     put_copied(out, accesses)?;
     put_key_end(out)
 }
@@ -152,16 +188,31 @@ pub fn put_key_end(out: &mut String) -> Result<(), AllocError>
 }
 
 /// What every description of such a picture begins with.
-#[tactic(auto, unfolding(crate::specs::Svg::key))]
-fn key() -> &'static str
-    ensures { result.now ≡ key }
+#[tactic(auto, unfolding(crate::specs::Svg::key_start))]
+fn key_start() -> &'static str
+    ensures { result.now ≡ key_start }
 {
-    "<desc>A column for each general, and a band for each round, from above. In a band a line leads down from who tells something \
-     to whom he tells it, as wide as he tells it of labels, up to 5, and below stands in \
-     the column of the receiver what he was told. \
-     Circle and plain line: as an honest relay tells it. Diamond and dashes: something else. Cross and dots: nothing, \
-     where \
-     something was to be told. Above the lines stand the accesses to the board, in its order. Square: a traitor."
+    "<desc>A column for each general, and a band for each round, from above. In a band a line leads down from who \
+     tells something to whom he tells it, as wide as he tells it of labels, up to 5, and below stands in the column \
+     of the receiver what he was told."
+}
+
+/// Adds what the marks of strokes mean.
+fn put_stroke_key(out: &mut String, marks: Marks) -> Result<(), AllocError>
+    ensures { OnOk result (string_bytes out.new ≡ string_bytes out.old ++ stroke_key marks) }
+{
+    put_if(
+        out,
+        marks.circle,
+        " Circle and plain line: as an honest relay tells it.",
+    )?;
+    put_if(out, marks.diamond, " Diamond and dashes: something else.")?;
+    put_if(
+        out,
+        marks.cross,
+        " Cross and dots: nothing, where something was to be told.",
+    )?;
+    Ok(())
 }
 
 /// How it looks: on paper, and on a dark ground where one is wished for.
@@ -169,14 +220,18 @@ fn key() -> &'static str
 pub fn look() -> &'static str
     ensures { result.now ≡ look }
 {
-    "<style>svg{background:#fff}text{fill:#111;font:13px sans-serif}.head{font:bold 16px sans-serif}.round{font-weight:bold}\
-     .small{font-size:11px}.life{stroke:#8a8a8a}.rule{stroke:#8a8a8a;stroke-dasharray:2 4}.access{stroke:#0b5fa5}\
-     .stroke{fill:none;stroke:#111;stroke-opacity:.45}.stroke.lie{stroke:#b00020;stroke-opacity:1;stroke-dasharray:9 4}\
-     .stroke.none{stroke:#b00020;stroke-opacity:1;stroke-dasharray:2 5}.mark{fill:#fff;stroke:#111;stroke-width:1.5}\
-     .mark.lie{fill:#b00020;stroke:#b00020}.mark.none{fill:none;stroke:#b00020;stroke-width:2.5}.mark.point{fill:#0b5fa5;stroke:#0b5fa5}\
-     .mark.traitor{fill:#b00020}@media(prefers-color-scheme:dark){svg{background:#111}text{fill:#eee}.stroke,.mark{stroke:#eee}\
-     .mark{fill:#111}.access{stroke:#6cb8f5}.mark.point{fill:#6cb8f5;stroke:#6cb8f5}.stroke.lie,.stroke.none,.mark.none{stroke:#ff8095}\
-     .mark.lie{fill:#ff8095;stroke:#ff8095}.mark.traitor{fill:#ff8095}}</style>\n"
+    "<style>svg{background:#fff}text{fill:#111;font:13px sans-serif}.head{font:bold 16px sans-serif}\
+     .round{font-weight:bold}.small{font-size:11px}.life{stroke:#8a8a8a}\
+     .rule{stroke:#8a8a8a;stroke-dasharray:2 4}.access{stroke:#0b5fa5}\
+     .stroke{fill:none;stroke:#111;stroke-opacity:.45}\
+     .stroke.lie{stroke:#b00020;stroke-opacity:1;stroke-dasharray:9 4}\
+     .stroke.none{stroke:#b00020;stroke-opacity:1;stroke-dasharray:2 5}\
+     .mark{fill:#fff;stroke:#111;stroke-width:1.5}.mark.lie{fill:#b00020;stroke:#b00020}\
+     .mark.none{fill:none;stroke:#b00020;stroke-width:2.5}.mark.point{fill:#0b5fa5;stroke:#0b5fa5}\
+     .mark.traitor{fill:#b00020}@media(prefers-color-scheme:dark){svg{background:#111}text{fill:#eee}\
+     .stroke,.mark{stroke:#eee}.mark{fill:#111}.access{stroke:#6cb8f5}.mark.point{fill:#6cb8f5;stroke:#6cb8f5}\
+     .stroke.lie,.stroke.none,.mark.none{stroke:#ff8095}.mark.lie{fill:#ff8095;stroke:#ff8095}\
+     .mark.traitor{fill:#ff8095}}</style>\n"
 }
 
 /// Adds who has which column.

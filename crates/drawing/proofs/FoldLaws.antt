@@ -1,5 +1,5 @@
 -- What a fold leaves out.
-use Rattle.std.proofs.Common.{ℕ, zero, suc, ◌+◌, ◌-◌, ◌*◌, ◌<◌, ◌≤◌, ◌≡◌, Bool, true, false, not, cond, ◌&&◌, List, [], ◌∷◌, ◌++◌, map, length, length-append, append_assoc, inl, inr, refl, sym, ap, ◌∙◌, arith}
+use Rattle.std.proofs.Common.{ℕ, zero, suc, ◌+◌, ◌-◌, ◌*◌, ◌<◌, ◌≤◌, ◌≡◌, Bool, true, false, not, cond, ◌&&◌, List, [], ◌∷◌, ◌++◌, map, length, length-append, inl, inr, refl, sym, ap, ◌∙◌, arith}
 use Rattle.std.specs.Prelude.{◌==◌, None, Option, Some, count_by, if◌then◌else◌, sum_by}
 use Rattle.std.specs.List.{AllByRecursion, list_all}
 use Rattle.std.proofs.lemmas.Bool.{and_from, and_parts, cases_Bool, cond-false, cond-true, eqb-true, ne_eqb, or_cases, or_parts, eq-eqb, or_left, or_right, true≢false}
@@ -10,7 +10,7 @@ use Rattle.std.proofs.lemmas.List.Sums.{sum_by-cons}
 use Rattle.std.proofs.Math.Nat.{suc-mul}
 use Rattle.combine.specs.declared.chosen.Rule.{Rule}
 use Rattle.combine.specs.Chosen.{chosen_is_rule, combined_by}
-use Rattle.combine.specs.Outcome.{outcome_head, outcome_of, outcome_order}
+use Rattle.combine.specs.Outcome.{outcome_of}
 use Rattle.combine.proofs.Found.{outcomes_law}
 use Rattle.label.specs.Labels.{is_distinct, on, others}
 use Rattle.label.specs.Oral.{AllBelow, om, order_of, taken}
@@ -27,7 +27,6 @@ use Rattle.drawing.specs.declared.node.Node.{Node}
 use Rattle.drawing.specs.declared.node.View.{View}
 use Rattle.drawing.specs.Facts.{below, extent_at, is_alike, is_honest, is_same, mark_at, node_at, outcome_at, tells}
 use Rattle.drawing.specs.Laws.{OutcomesAreExplained}
-use Rattle.std.specs.Fmt.{decimal}
 use Rattle.drawing.specs.Folds.{FoldsAreAlike, IsLike, all_below, order_at}
 use Rattle.drawing.specs.Shown.{deeper, is_open, nodes_below, nodes_by, with_those}
 use Rattle.drawing.proofs.PlaceLemmas.{place_parts}
@@ -76,10 +75,7 @@ listed t k w p =
 
 -- is told as it is explained
 pub explained : OutcomesAreExplained
-explained = record {
-  lists = listed;
-  words = λ stop outcome. append_assoc stop (outcome_head outcome) (decimal (outcome_order outcome));
-}
+explained = listed
 
 -- and is decided so
 at_decided : (t : MessageTable) (k : ℕ) (w : List ℕ) (p : ℕ) → order_at (outcome_at t k w p) (told t.messages w p) ≡ decided t k w p

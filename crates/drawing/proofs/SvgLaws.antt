@@ -18,7 +18,7 @@ use Rattle.drawing.specs.declared.node.Marks.{Marks}
 use Rattle.drawing.specs.declared.node.Node.{Node}
 use Rattle.combine.specs.declared.outcome.Outcome.{Outcome}
 use Rattle.combine.specs.declared.outcome.Outcome.TheVariants.{Agreed, Divided, Middle}
-use Rattle.combine.specs.Outcome.{outcome_head, outcome_order}
+use Rattle.combine.specs.Outcome.{outcome_head, outcome_order, outcome_words as list_words}
 use Rattle.drawing.specs.Laws.{PicturesAreElements}
 use Rattle.drawing.specs.Legend.{dashed_shape, legend, marks_of, meaning, meaning_if, meaning_words, meanings, one_if, rule, rule_at}
 use Rattle.drawing.specs.Places.{branch_at}
@@ -53,7 +53,7 @@ head_text (Middle order) = bare_text (codes "median ") refl
 
 outcome_text : (o : Option Outcome) → IsText (outcome_words stop o)
 outcome_text None = no_text
-outcome_text (Some o) = many (stop ++ outcome_head o) (decimal (outcome_order o)) (many stop (outcome_head o) stop_text (head_text o)) (decimal_text (outcome_order o))
+outcome_text (Some o) = many stop (list_words o) stop_text (many (outcome_head o) (decimal (outcome_order o)) (head_text o) (decimal_text (outcome_order o)))
 
 mark_text : (m : Mark) → IsText (mark_words stop m)
 mark_text Honest = no_text

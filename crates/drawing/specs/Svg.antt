@@ -49,9 +49,10 @@ key marks = key_start ++ shape_words marks ++ codes "</desc>\n"
 -- what the shapes look like: on paper, and on a dark ground where one is wished for
 unfoldable pub look : List ℕ
 look =
-    codes "<style>svg{background:#fff}text{fill:#111;font:14px sans-serif}.line{fill:none;stroke:#767676}.told{fill:#fff;stroke:#111}"
-    ++ codes ".word{fill:#ffd24d;stroke:#111}.lie{fill:#b00020;stroke:#111}.split{stroke-dasharray:3 2}"
-    ++ codes "@media(prefers-color-scheme:dark){svg{background:#111}text{fill:#eee}.told,.word,.lie{stroke:#eee}.told{fill:#111}}</style>\n"
+    codes "<style>svg{background:#fff}text{fill:#111;font:14px sans-serif}.line{fill:none;stroke:#767676}.told{fill"
+    ++ codes ":#fff;stroke:#111}.word{fill:#ffd24d;stroke:#111}.lie{fill:#b00020;stroke:#111}.split{stroke-dasharray:3"
+    ++ codes " 2}@media(prefers-color-scheme:dark){svg{background:#111}text{fill:#eee}.told,.word,.lie{stroke:#eee}.to"
+    ++ codes "ld{fill:#111}}</style>\n"
 
 -- what stands before the rows
 abbrev pub head : Marks → ℕ → ℕ → List ℕ

@@ -3,7 +3,7 @@ use Rattle.std.specs.Prelude.{ℕ, List, [], ◌++◌, codes, None, Option, Some
 use Rattle.std.specs.Fmt.{decimal}
 use Rattle.book.specs.Explained.{dotted, order_words}
 use Rattle.combine.specs.declared.outcome.Outcome.{Outcome}
-use Rattle.combine.specs.Outcome.{outcome_head, outcome_order}
+use Rattle.combine.specs.Outcome.{outcome_words as list_words}
 use Rattle.drawing.specs.declared.node.Mark.{Mark}
 use Rattle.drawing.specs.declared.node.Mark.TheVariants.{Honest, Traitor, Lie}
 use Rattle.drawing.specs.declared.node.Extent.{Extent}
@@ -18,9 +18,10 @@ abbrev pub counted_words : Option Outcome → Option ℕ → List ℕ
 counted_words None None = codes ", so 0"
 counted_words outcome told = []
 
+-- what a list comes to
 abbrev pub outcome_words : List ℕ → Option Outcome → List ℕ
 outcome_words stop None = []
-outcome_words stop (Some outcome) = stop ++ outcome_head outcome ++ decimal (outcome_order outcome)
+outcome_words stop (Some outcome) = stop ++ list_words outcome
 
 abbrev pub mark_words : List ℕ → Mark → List ℕ
 mark_words stop Honest = []

@@ -2,7 +2,7 @@
 ghost use Rattle.drawing.specs.Folds.{FoldsAreAlike};
 ghost use Rattle.drawing.specs.Laws.{OutcomesAreExplained, PicturesAreElements};
 
-/// What is said of a label's list are the words by which `book::explain` says what it comes to.
+/// What is said that a label comes to is what `book::explain` says of its list.
 pub fn outcomes_are_explained()
     ensures { OutcomesAreExplained }
 {}

@@ -1,5 +1,5 @@
 //! What the marks of a picture mean, below its rows.
-ghost use Rattle.std.specs.Prelude.{◌≡◌, ◌≤◌, ◌<◌, ◌^◌, ◌++◌, string_bytes, OnOk};
+ghost use Rattle.std.specs.Prelude.{◌≡◌, ◌≤◌, ◌<◌, ◌^◌, ◌++◌, string_bytes, None, OnOk};
 ghost use Rattle.std.specs.List.{list_any};
 ghost use Rattle.drawing.specs.Legend.{count_of, dashed_shape, has_circle, has_dashed_circle, has_dashed_square, has_dashes, has_diamond, has_square, legend, marks_of, meaning, meaning_if, meaning_words, meanings, one_if, rule, rule_at};
 
@@ -177,28 +177,19 @@ fn put_meanings(out: &mut String, marks: Marks, dashed: Mark, place: u128) -> Re
     let second = place + one_if(marks.circle);
     let third = second + one_if(marks.square);
     let last = third + one_if(marks.diamond);
-    put_meaning_if(
-        out,
-        marks.circle,
-        place,
-        Mark::Honest,
-        None,
-        "no lie is known",
-    )?;
-    put_meaning_if(
+    put_shape_if(out, marks.circle, place, Mark::Honest, "no lie is known")?;
+    put_shape_if(
         out,
         marks.square,
         second,
         Mark::Traitor,
-        None,
         "a named commander, his word",
     )?;
-    put_meaning_if(
+    put_shape_if(
         out,
         marks.diamond,
         third,
         Mark::Lie(0, 0),
-        None,
         "a lie of a named traitor",
     )?;
     put_meaning_if(
@@ -212,6 +203,21 @@ fn put_meanings(out: &mut String, marks: Marks, dashed: Mark, place: u128) -> Re
     Ok(())
 }
 
+/// Adds what a shape without dashes means, where it stands in the picture.
+fn put_shape_if(
+    out: &mut String,
+    stands: bool,
+    place: u128,
+    mark: Mark,
+    words: &str,
+) -> Result<(), AllocError>
+    requires { place < 2 ^ 100 }
+    ensures { OnOk result (string_bytes out.new
+        ≡ string_bytes out.old ++ meaning_if stands place mark None words.now) }
+{
+    put_meaning_if(out, stands, place, mark, None, words)
+}
+
 /// Adds what a mark means, where it stands in the picture.
 fn put_meaning_if(
     out: &mut String,
@@ -222,7 +228,8 @@ fn put_meaning_if(
     words: &str,
 ) -> Result<(), AllocError>
     requires { place < 2 ^ 100 }
-    ensures { OnOk result (string_bytes out.new ≡ string_bytes out.old ++ meaning_if stands place mark outcome words.now) }
+    ensures { OnOk result (string_bytes out.new
+        ≡ string_bytes out.old ++ meaning_if stands place mark outcome words.now) }
 {
     if stands {
         put_meaning(out, place, mark, outcome, words)

@@ -13,15 +13,22 @@ use Rattle.retold.proofs.Tables.{numbers_within}
 use Rattle.letter.specs.Letters.{messages}
 use Rattle.roster.specs.Scenario.{Scenario, IsScenario}
 use Rattle.delivery.specs.Told.{ToldSeen, WasTold}
+use Rattle.scenario.specs.declared.messages.Campaign.TheVariants.{Signed}
 use Rattle.signed_diagram.specs.Svg.{signed_svg}
 use Rattle.tables.specs.Hearing.{heard}
 use Rattle.tables.specs.Laws.{AreOrders, IsTableOf}
 use Rattle.tables.proofs.Flattened.{tables_same}
 use Rattle.tables.proofs.Reread.{decides_same, proved_tables_are_read, within}
 use Rattle.tree.specs.LieutenantTree.{LieutenantTree}
+use Rattle.trace.specs.SignedAudit.{IsSoundSignedText, signed_chronicle_told}
 use Rattle.world.specs.Chronicle.{Chronicle}
-use Rattle.lab.specs.Diagrams.{IsDiagram}
+use Rattle.world.specs.declared.schedule.Repeat.{Repeat}
+use Rattle.lab.specs.Campaigns.{signed_played}
+use Rattle.lab.specs.Diagrams.{IsCampaignDrawn, IsDiagram, IsRecordDrawn}
 use Rattle.lab.specs.Promises.{AreFaithful}
+use Rattle.lab.proofs.BlameLemmas.{signed_played_blames, signed_told_blames}
+use Rattle.lab.proofs.CampaignLemmas.{played_wholly, told_wholly}
+use Rattle.lab.proofs.PromiseLemmas.{played_faithful, played_kept, signed_played_kept, signed_told_kept, told_faithful, told_kept}
 
 one_table : (text : List ℕ) (a b : MessageTable) → table_told text ≡ Ok a → table_told text ≡ Ok b → a ≡ b
 one_table text a b e f = cc
@@ -64,3 +71,16 @@ of_same c own picture same drawn = subst (λ (x : Chronicle). IsDiagram x pictur
 
 pub of_signed : (c own : Chronicle) (picture : List ℕ) → c ≡ own → picture ≡ signed_svg c → picture ≡ signed_svg own
 of_signed c own picture same is = is ∙ ap signed_svg same
+
+pub signed_played_drawn : (s : Scenario) (schedule : List (List Repeat)) (c : Chronicle) (picture : List ℕ) → IsScenario s → c ≡ signed_played s schedule → picture ≡ signed_svg c → IsCampaignDrawn (Signed s) schedule picture
+signed_played_drawn s schedule c picture is same drawn = ((signed_played_blames s schedule is, of_signed c (signed_played s schedule) picture same drawn), signed_played_kept s schedule is)
+
+pub signed_told_drawn : (s : Scenario) (text bytes : List ℕ) (c : Chronicle) (picture : List ℕ) → IsScenario s → text ≡ bytes → IsSoundSignedText s text → c ≡ signed_chronicle_told s text → picture ≡ signed_svg c → IsRecordDrawn (Signed s) bytes picture
+signed_told_drawn s text bytes c picture is same sound told drawn =
+    subst (λ (b : List ℕ). IsRecordDrawn (Signed s) b picture) same
+    (sound, (signed_told_blames s text is, of_signed c (signed_chronicle_told s text) picture told drawn), signed_told_kept s text is)
+
+-- of a picture by a schedule, and of one of a chronicle's text
+pub ruleset played_drawn = (played_wholly, of_same, played_faithful, played_kept)
+
+pub ruleset told_drawn = (told_wholly, of_same, told_faithful, told_kept)

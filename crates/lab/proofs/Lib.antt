@@ -6,6 +6,7 @@ pub mod FilesLemmas
 pub mod ReadLemmas
 pub mod RefusalLemmas
 pub mod ScheduleLemmas
+pub mod BlameLemmas
 pub mod DiagramLemmas
 pub mod PageLemmas
 pub mod PromiseLemmas

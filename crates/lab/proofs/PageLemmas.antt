@@ -1,20 +1,26 @@
 -- The page of a chronicle.
-use Rattle.std.proofs.Common.{ℕ, ◌≡◌, ◌∙◌, List, Option, Ok, ap, subst}
+use Rattle.std.proofs.Common.{ℕ, ◌≡◌, ◌∙◌, List, None, Option, Ok, Some, ap, subst}
 use Rattle.book.specs.Grammar.{table_told}
 use Rattle.book.specs.Table.{MessageTable}
 use Rattle.campaign_page.specs.Account.{page_text}
 use Rattle.retold.specs.Retold.{table_of}
 use Rattle.roster.specs.Scenario.{Scenario, IsScenario}
 use Rattle.delivery.specs.Told.{ToldSeen, WasTold}
+use Rattle.scenario.specs.declared.messages.Campaign.TheVariants.{Signed}
 use Rattle.signed_page.specs.Account.{signed_page_text}
 use Rattle.tables.specs.Hearing.{heard}
 use Rattle.tables.specs.Laws.{AreOrders}
 use Rattle.tree.specs.LieutenantTree.{LieutenantTree}
+use Rattle.trace.specs.SignedAudit.{IsSoundSignedText, signed_chronicle_told}
 use Rattle.world.specs.Chronicle.{Chronicle}
 use Rattle.world.specs.declared.schedule.Repeat.{Repeat}
-use Rattle.lab.specs.Pages.{IsPage}
+use Rattle.lab.specs.Campaigns.{signed_played}
+use Rattle.lab.specs.Pages.{IsCampaignPaged, IsPage, IsRecordTold}
 use Rattle.lab.specs.Promises.{AreFaithful}
+use Rattle.lab.proofs.BlameLemmas.{signed_played_blames, signed_told_blames}
+use Rattle.lab.proofs.CampaignLemmas.{played_wholly, told_wholly}
 use Rattle.lab.proofs.DiagramLemmas.{blames}
+use Rattle.lab.proofs.PromiseLemmas.{played_faithful, played_kept, signed_played_kept, signed_told_kept, told_faithful, told_kept}
 
 pub is_page : (scenario : List ℕ) (schedule : Option (List (List Repeat))) (c : Chronicle) (s : Scenario) (h : ToldSeen) (trees : List LieutenantTree) (t : MessageTable) (page : List ℕ)
     → s ≡ c.scenario → IsScenario s → AreFaithful c → WasTold c.scenario c.letters h → trees ≡ h.trees → AreOrders (heard trees) → table_told (table_of c) ≡ Ok t
@@ -27,3 +33,18 @@ of_same scenario schedule c own page same told = subst (λ (x : Chronicle). IsPa
 pub of_signed : (scenario : List ℕ) (schedule : Option (List (List Repeat))) (c own : Chronicle) (page : List ℕ)
     → c ≡ own → page ≡ signed_page_text scenario schedule c → page ≡ signed_page_text scenario schedule own
 of_signed scenario schedule c own page same is = is ∙ ap (signed_page_text scenario schedule) same
+
+pub signed_played_paged : (s : Scenario) (text : List ℕ) (schedule : List (List Repeat)) (c : Chronicle) (page : List ℕ) → IsScenario s → c ≡ signed_played s schedule → page ≡ signed_page_text text (Some schedule) c → IsCampaignPaged (Signed s) text schedule page
+signed_played_paged s text schedule c page is same told =
+    ((signed_played_blames s schedule is, of_signed text (Some schedule) c (signed_played s schedule) page same told), signed_played_kept s schedule is)
+
+pub signed_told_paged : (s : Scenario) (text record_text bytes : List ℕ) (c : Chronicle) (page : List ℕ) → IsScenario s → record_text ≡ bytes → IsSoundSignedText s record_text → c ≡ signed_chronicle_told s record_text → page ≡ signed_page_text text None c
+    → IsRecordTold (Signed s) text bytes page
+signed_told_paged s text record_text bytes c page is same sound comes told =
+    subst (λ (b : List ℕ). IsRecordTold (Signed s) text b page) same
+    (sound, (signed_told_blames s record_text is, of_signed text None c (signed_chronicle_told s record_text) page comes told), signed_told_kept s record_text is)
+
+-- of a page by a schedule, and of one of a chronicle's text
+pub ruleset played_paged = (played_wholly, of_same, played_faithful, played_kept)
+
+pub ruleset told_paged = (told_wholly, of_same, told_faithful, told_kept)

@@ -41,3 +41,5 @@ not_drawn general traitors text refusal toml is refuses = subst (λ (own : Bool)
 
 pub known_in : (general : ℕ) (traitors text : List ℕ) (toml : Bool) → is_toml text ≡ toml → KnowsTree toml text general traitors → KnowsTree (is_toml text) text general traitors
 known_in general traitors text toml is known = subst (λ (own : Bool). KnowsTree own text general traitors) (sym is) known
+
+pub ruleset pictured = (of_table, of_campaign, not_drawn, known_in)

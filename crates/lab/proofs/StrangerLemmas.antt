@@ -169,3 +169,12 @@ none_more p (y ∷ xs) (suc i) x none at e = elim (cases_Bool (p y)) [
   | inl here ↦ absurd (some_none (sym (cond-true (p y) (Some y) (find p (take i xs)) here) ∙ none))
   | inr apart ↦ cond-false (p y) (Some y) (find p (take (suc i) xs)) apart ∙ none_more p xs i x (sym (cond-false (p y) (Some y) (find p (take i xs)) apart) ∙ none) at e
 ]
+
+-- of a table that is explained or drawn, of a campaign that is drawn, and of the words of a form
+pub ruleset table_explained = (of_table, unread_table, strange_to_table)
+
+pub ruleset table_known = (tree_of_table, no_table_to_draw, strange_to_tree)
+
+pub ruleset scenario_known = (tree_of_scenario, no_campaign_to_draw, strange_to_campaign)
+
+pub ruleset liar_known = (unfilled, of_numbers, strange_liar)

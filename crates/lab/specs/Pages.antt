@@ -17,21 +17,26 @@ use Rattle.trace.specs.SignedAudit.{IsSoundSignedText, signed_chronicle_told}
 use Rattle.world.specs.declared.schedule.Repeat.{Repeat}
 use Rattle.world.specs.Chronicle.{Chronicle}
 use Rattle.lab.specs.Campaigns.{IsSchedule, played, signed_played}
+use Rattle.lab.specs.Diagrams.{BlamesSignedTraitors}
 use Rattle.lab.specs.Promises.{KeepsPromises, KeepsSignedPromises}
 
 -- the page is that of the chronicle, of the message table that its own letters tell, of the scenario's text, and of the
--- schedule, if it was played by one, and in its picture in red is only what traitors tell
+-- schedule, if it was played by one, and in its picture every stroke of a loyal general is drawn as an honest relay's
 abbrev pub IsPage : List ℕ → Option (List (List Repeat)) → Chronicle → List ℕ → Type 0
 IsPage text schedule c page =
     (table : MessageTable) × (table_told (table_of c) ≡ Ok table) × BlamesTraitors c.scenario table
     × (page ≡ page_text text schedule table c)
+
+-- so is that of a signed campaign, and its loyal generals' strokes are drawn so
+abbrev pub IsSignedPage : List ℕ → Option (List (List Repeat)) → Chronicle → List ℕ → Type 0
+IsSignedPage text schedule c page = BlamesSignedTraitors c × (page ≡ signed_page_text text schedule c)
 
 -- the page is that of the campaign's chronicle by a schedule, which keeps what is promised, and of the scenario's text
 abbrev pub IsCampaignPaged : Campaign → List ℕ → List (List Repeat) → List ℕ → Type 0
 IsCampaignPaged (Oral s) text schedule page =
     IsPage text (Some schedule) (played s schedule) page × KeepsPromises s (played s schedule)
 IsCampaignPaged (Signed s) text schedule page =
-    (page ≡ signed_page_text text (Some schedule) (signed_played s schedule))
+    IsSignedPage text (Some schedule) (signed_played s schedule) page
     × KeepsSignedPromises s (signed_played s schedule)
 
 -- the bytes are the text of a chronicle of the campaign, which keeps what is promised, and this is its page
@@ -39,7 +44,7 @@ abbrev pub IsRecordTold : Campaign → List ℕ → List ℕ → List ℕ → Ty
 IsRecordTold (Oral s) text bytes page =
     IsSoundText s bytes × IsPage text None (chronicle_told s bytes) page × KeepsPromises s (chronicle_told s bytes)
 IsRecordTold (Signed s) text bytes page =
-    IsSoundSignedText s bytes × (page ≡ signed_page_text text None (signed_chronicle_told s bytes))
+    IsSoundSignedText s bytes × IsSignedPage text None (signed_chronicle_told s bytes) page
     × KeepsSignedPromises s (signed_chronicle_told s bytes)
 
 -- the first file's bytes tell a campaign, and the page has them, and is that of its chronicle by the schedule that the

@@ -26,7 +26,7 @@ pub fn decided(alloc: Global, text: &str) -> Result<String, Refusal>
 /// # Errors
 ///
 /// What the table refuses; the first who is named and is none of its generals; or want of memory.
-#[tactic(auto, using(crate::proofs::StrangerLemmas::of_table, crate::proofs::StrangerLemmas::unread_table, crate::proofs::StrangerLemmas::strange_to_table))]
+#[tactic(auto, using(crate::proofs::StrangerLemmas::table_explained))]
 pub fn explained(alloc: Global, text: &str, traitors: &[u8]) -> Result<String, Refusal>
     ensures known { OnOk result (KnowsAll text.now traitors.now) }
     ensures explained { IfOk result (λ lines. ExplainsTable text.now traitors.now (string_bytes lines)) }

@@ -39,7 +39,7 @@ pub fn diagrammed(
 }
 
 /// An oral one.
-#[tactic(auto, using(crate::proofs::CampaignLemmas::played_wholly, crate::proofs::DiagramLemmas::of_same, crate::proofs::PromiseLemmas::played_faithful, crate::proofs::PromiseLemmas::played_kept))]
+#[tactic(auto, using(crate::proofs::DiagramLemmas::played_drawn))]
 fn oral_diagrammed(
     alloc: Global,
     scenario: Scenario,
@@ -53,7 +53,6 @@ fn oral_diagrammed(
 }
 
 /// A signed one.
-#[tactic(auto, using(crate::proofs::DiagramLemmas::of_signed, crate::proofs::PromiseLemmas::signed_played_kept))]
 fn signed_diagrammed(
     alloc: Global,
     scenario: Scenario,
@@ -86,7 +85,7 @@ pub fn record_diagrammed(
 }
 
 /// An oral one.
-#[tactic(auto, using(crate::proofs::CampaignLemmas::told_wholly, crate::proofs::DiagramLemmas::of_same, crate::proofs::PromiseLemmas::told_faithful, crate::proofs::PromiseLemmas::told_kept))]
+#[tactic(auto, using(crate::proofs::DiagramLemmas::told_drawn))]
 fn oral_record_diagrammed(
     alloc: Global,
     scenario: &Scenario,
@@ -101,7 +100,6 @@ fn oral_record_diagrammed(
 }
 
 /// A signed one.
-#[tactic(auto, using(crate::proofs::DiagramLemmas::of_signed, crate::proofs::PromiseLemmas::signed_told_kept))]
 fn signed_record_diagrammed(
     alloc: Global,
     scenario: &Scenario,

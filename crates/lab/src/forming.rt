@@ -49,7 +49,7 @@ pub fn filled(
 }
 
 /// Makes sure that the words are numbers of a campaign, and the liar one of its generals.
-#[tactic(auto, using(crate::proofs::StrangerLemmas::unfilled, crate::proofs::StrangerLemmas::of_numbers, crate::proofs::StrangerLemmas::strange_liar))]
+#[tactic(auto, using(crate::proofs::StrangerLemmas::liar_known))]
 fn know_liar(generals: &str, bound: &str, commander: &str, liar: Option<u8>) -> Result<(), Refusal>
     ensures known { OnOk result (KnowsLiar generals.now bound.now commander.now liar) }
     ensures refused { IfErr result (RefusesFilled generals.now bound.now commander.now liar) }

@@ -40,7 +40,7 @@ pub fn paged(
 }
 
 /// An oral one.
-#[tactic(auto, using(crate::proofs::CampaignLemmas::played_wholly, crate::proofs::PageLemmas::of_same, crate::proofs::PromiseLemmas::played_faithful, crate::proofs::PromiseLemmas::played_kept))]
+#[tactic(auto, using(crate::proofs::PageLemmas::played_paged))]
 fn oral_paged(
     alloc: Global,
     text: &str,
@@ -55,7 +55,6 @@ fn oral_paged(
 }
 
 /// A signed one.
-#[tactic(auto, using(crate::proofs::PageLemmas::of_signed, crate::proofs::PromiseLemmas::signed_played_kept))]
 fn signed_paged(
     alloc: Global,
     text: &str,
@@ -90,7 +89,7 @@ pub fn record_paged(
 }
 
 /// An oral one.
-#[tactic(auto, using(crate::proofs::CampaignLemmas::told_wholly, crate::proofs::PageLemmas::of_same, crate::proofs::PromiseLemmas::told_faithful, crate::proofs::PromiseLemmas::told_kept))]
+#[tactic(auto, using(crate::proofs::PageLemmas::told_paged))]
 fn oral_record_paged(
     alloc: Global,
     text: &str,
@@ -106,7 +105,6 @@ fn oral_record_paged(
 }
 
 /// A signed one.
-#[tactic(auto, using(crate::proofs::PageLemmas::of_signed, crate::proofs::PromiseLemmas::signed_told_kept))]
 fn signed_record_paged(
     alloc: Global,
     text: &str,

@@ -25,7 +25,7 @@ use world::{Chronicle, Schedule, play};
 ///
 /// What the table or the scenario refuses; he, if he is no lieutenant of it, since a commander is told nothing; the
 /// first who is named and is none of its generals; or want of memory.
-#[tactic(auto, using(crate::proofs::PicturingLemmas::of_table, crate::proofs::PicturingLemmas::of_campaign, crate::proofs::PicturingLemmas::not_drawn, crate::proofs::PicturingLemmas::known_in))]
+#[tactic(auto, using(crate::proofs::PicturingLemmas::pictured))]
 pub fn pictured(
     alloc: Global,
     text: &str,
@@ -49,7 +49,7 @@ pub fn pictured(
 }
 
 /// What he was told by the message table.
-#[tactic(auto, using(crate::proofs::StrangerLemmas::tree_of_table, crate::proofs::StrangerLemmas::no_table_to_draw, crate::proofs::StrangerLemmas::strange_to_tree))]
+#[tactic(auto, using(crate::proofs::StrangerLemmas::table_known))]
 fn table_pictured(
     alloc: Global,
     text: &str,
@@ -68,7 +68,7 @@ fn table_pictured(
 }
 
 /// The oral campaign that the text tells, of which he is a lieutenant, and all who are named are generals.
-#[tactic(auto, using(crate::proofs::StrangerLemmas::tree_of_scenario, crate::proofs::StrangerLemmas::no_campaign_to_draw, crate::proofs::StrangerLemmas::strange_to_campaign))]
+#[tactic(auto, using(crate::proofs::StrangerLemmas::scenario_known))]
 fn known_scenario(
     alloc: Global,
     text: &str,

@@ -1,70 +1,82 @@
 -- The results of many seeds.
-use Rattle.std.proofs.Common.{ℕ, zero, suc, ◌+◌, ◌-◌, ◌<◌, ◌≤◌, ◌≡◌, ◌≢◌, List, [], ◌∷◌, length, get_or, map, subst, sym, arith, Ok, Err, Option, None, Some, Vec, ◌⊎◌, ⊎_elim}
-use Rattle.std.specs.Prelude.{IfErr, IfOk, MatchOption, MatchResult}
-use Rattle.std.specs.Global.{Global}
+use Rattle.std.proofs.Common.{ℕ, zero, suc, ◌+◌, ◌-◌, ◌<◌, ◌≤◌, ◌≡◌, ◌≢◌, ◌∙◌, List, [], ◌∷◌, ◌++◌, ap, map, length, get_or, take, drop, subst, sym, arith, Ok, Err, Option, None, Some, ◌⊎◌, ⊎_elim}
 use Rattle.std.specs.declared.result.Result.{Result}
-use Rattle.std.specs.List.{All, AllZip, Contains, range_with_len}
+use Rattle.std.specs.List.{All, AllZip, range_with_len}
 use Rattle.std.proofs.lemmas.Bool.{cases_lt}
+use Rattle.std.proofs.lemmas.List.{length-map}
 use Rattle.std.proofs.lemmas.List.Elements.{All-head, All-tail}
 use Rattle.scenario.specs.declared.fault.ScenarioError.{ScenarioError}
 use Rattle.scenario.specs.declared.fault.ScenarioError.TheVariants.{Memory}
 use Rattle.survey.specs.Plot.{Plot}
 use Rattle.shrink.specs.declared.breach.Breach.{Breach}
 use Rattle.shrink.specs.Shrinking.{ComesWell}
-use Rattle.shrink.specs.Breaches.{AreAllSound, IsLeastBreach, IsRefusedBy, IsRefusedIn, IsShrunk}
-
--- what holds of a number and of its result, if it is good
-abbrev pub Gives : (ℕ → Option Breach → Type 0) → ℕ → Result (Option Breach) ScenarioError → Type 0
-Gives R seed r = IfOk r (R seed)
-
-all_good : (R : ℕ → Option Breach → Type 0) (seeds : List ℕ) (found : List (Option Breach)) → AllZip (Gives R) seeds (map Ok found) → AllZip R seeds found
-all_good R [] [] h = tt
-all_good R [] (f ∷ fs) h = absurd h
-all_good R (s ∷ seeds) [] h = absurd h
-all_good R (s ∷ seeds) (f ∷ fs) h = (h.0, all_good R seeds fs h.1)
+use Rattle.shrink.specs.Breaches.{AreAllSound, IsAnswerTo, IsFirstError, IsLeastBreach, IsRefusedIn, IsShrunk}
 
 -- where all are good, so it is with all
-pub all_found : (R : ℕ → Option Breach → Type 0) (seeds : List ℕ) (rs : List (Result (Option Breach) ScenarioError)) (v : Result (Vec (Option Breach) Global) ScenarioError) → AllZip (Gives R) seeds rs
-    → MatchResult v (λ c. (found : List (Option Breach)) × (rs ≡ map Ok found) × (c.items ≡ found)) (λ e. Contains rs (Err e)) → IfOk v (λ c. AllZip R seeds c.items)
-all_found R seeds rs (Ok c) h m = subst (AllZip R seeds) (sym m.2) (all_good R seeds m.0 (subst (AllZip (Gives R) seeds) m.1 h))
-all_found R seeds rs (Err e) h m = tt
+all_good : (plots : ℕ → Plot) (seeds : List ℕ) (found : List (Option Breach)) → AllZip (IsAnswerTo plots) seeds (map Ok found) → AllZip (IsShrunk plots) seeds found
+all_good plots [] [] h = tt
+all_good plots [] (f ∷ fs) h = absurd h
+all_good plots (s ∷ seeds) [] h = absurd h
+all_good plots (s ∷ seeds) (f ∷ fs) h = (h.0.0, all_good plots seeds fs h.1)
 
--- both of a number and its result
-abbrev pub Both : (ℕ → Option Breach → Type 0) → (ℕ → ScenarioError → Type 0) → ℕ → Result (Option Breach) ScenarioError → Type 0
-Both R Q seed r = IfOk r (R seed) × IfErr r (Q seed)
+pub all_found : (plots : ℕ → Plot) (seeds : List ℕ) (answers : List (Result (Option Breach) ScenarioError)) (found : List (Option Breach)) → AllZip (IsAnswerTo plots) seeds answers → answers ≡ map Ok found → AllZip (IsShrunk plots) seeds found
+all_found plots seeds answers found h is = all_good plots seeds found (subst (AllZip (IsAnswerTo plots) seeds) is h)
 
-pub goods : (R : ℕ → Option Breach → Type 0) (Q : ℕ → ScenarioError → Type 0) (seeds : List ℕ) (rs : List (Result (Option Breach) ScenarioError)) → AllZip (Both R Q) seeds rs → AllZip (Gives R) seeds rs
-goods R Q [] [] h = tt
-goods R Q [] (r ∷ rs) h = absurd h
-goods R Q (s ∷ seeds) [] h = absurd h
-goods R Q (s ∷ seeds) (r ∷ rs) h = (h.0.0, goods R Q seeds rs h.1)
+-- a first number, or a later one
+first_or_later : (a seed : ℕ) → a ≤ seed → (a ≡ seed) ⊎ (a < seed)
+first_or_later a seed low = grind arith
 
--- of an error among the results, a number that gives it
-error_at : (R : ℕ → Option Breach → Type 0) (Q : ℕ → ScenarioError → Type 0) (a n : ℕ) (rs : List (Result (Option Breach) ScenarioError)) (e : ScenarioError) (k : ℕ)
-    → k < length rs → get_or rs k (Err e) ≡ Err e → AllZip (Both R Q) (range_with_len a n) rs → (seed : ℕ) × (a ≤ seed) × (seed < a + n) × Q seed e
-error_at R Q a zero [] e k lt at h = absurd (omega arith)
-error_at R Q a zero (r ∷ rs) e k lt at h = absurd h
-error_at R Q a (suc n) [] e k lt at h = absurd h
-error_at R Q a (suc n) (r ∷ rs) e zero lt at h = (a, omega arith, omega arith, subst (λ x. IfErr x (Q a)) at h.0.1)
-error_at R Q a (suc n) (r ∷ rs) e (suc k) lt at h =
-    let w = error_at R Q (a + 1) n rs e k (omega arith) at h.1 in
-    let low = w.1 in
-    let high = w.2 in
-    (w.0, omega arith, omega arith, w.3)
+-- behind good answers an error is that of a number, before which all are good
+error_at : (plots : ℕ → Plot) (a n : ℕ) (before : List (Option Breach)) (e : ScenarioError) (rest : List (Result (Option Breach) ScenarioError)) → e ≢ Memory
+    → AllZip (IsAnswerTo plots) (range_with_len a n) (map Ok before ++ Err e ∷ rest) → IsRefusedIn plots a (a + n) e
+error_at plots a zero [] e rest other h = absurd h
+error_at plots a zero (o ∷ os) e rest other h = absurd h
+error_at plots a (suc n) [] e rest other h = record {
+  seed = a;
+  behind = omega arith;
+  before = omega arith;
+  refused = h.0.1 other;
+  earlier = λ s low high. absurd (omega (arith, low, high));
+}
+error_at plots a (suc n) (o ∷ os) e rest other h =
+    let later = error_at plots (a + 1) n os e rest other h.1 in
+    let low = later.behind in
+    let high = later.before in
+    record {
+      seed = later.seed;
+      behind = omega (arith, low);
+      before = omega (arith, high);
+      refused = later.refused;
+      earlier = λ s from to. ⊎_elim (λ is. (o, subst (λ x. IsShrunk plots x o) is h.0.0)) (λ lt. later.earlier s (omega (arith, lt)) to) (first_or_later a s from);
+    }
 
-refused_at : (R : ℕ → Option Breach → Type 0) (plots : ℕ → Plot) (a b : ℕ) (rs : List (Result (Option Breach) ScenarioError)) (e : ScenarioError)
-    → AllZip (Both R (IsRefusedBy plots)) (range_with_len a (b - a)) rs → Contains rs (Err e) → e ≢ Memory → IsRefusedIn plots a b e
-refused_at R plots a b rs e h w other =
-    let found = error_at R (IsRefusedBy plots) a (b - a) rs e w.0 w.1 w.2 h in
-    let low = found.1 in
-    let high = found.2 in
-    record { seed = found.0; behind = low; before = omega arith; refused = found.3 other }
+pub first_refused : (plots : ℕ → Plot) (first end : ℕ) (answers : List (Result (Option Breach) ScenarioError)) (e : ScenarioError) → e ≢ Memory
+    → AllZip (IsAnswerTo plots) (range_with_len first (end - first)) answers → IsFirstError answers e → IsRefusedIn plots first end e
+first_refused plots first end answers e other h is =
+    let at = error_at plots first (end - first) is.0 e is.1 other (subst (AllZip (IsAnswerTo plots) (range_with_len first (end - first))) is.2 h) in
+    let low = at.behind in
+    let high = at.before in
+    record { seed = at.seed; behind = low; before = omega (arith, low, high); refused = at.refused; earlier = at.earlier }
 
--- where one is an error, it is refused so
-pub all_refused : (R : ℕ → Option Breach → Type 0) (plots : ℕ → Plot) (a b : ℕ) (rs : List (Result (Option Breach) ScenarioError)) (v : Result (Vec (Option Breach) Global) ScenarioError) → AllZip (Both R (IsRefusedBy plots)) (range_with_len a (b - a)) rs
-    → MatchResult v (λ c. (found : List (Option Breach)) × (rs ≡ map Ok found) × (c.items ≡ found)) (λ e. Contains rs (Err e)) → IfErr v (λ e. e ≢ Memory → IsRefusedIn plots a b e)
-all_refused R plots a b rs (Ok c) h m = tt
-all_refused R plots a b rs (Err e) h m = refused_at R plots a b rs e h m
+-- the first error among the answers, behind those that were taken
+behind_good : (found : List (Option Breach)) (answers : List (Result (Option Breach) ScenarioError)) (e : ScenarioError) → map Ok found ≡ take (length found) answers → length found < length answers
+    → Err e ≡ get_or answers (length found) (Err e) → answers ≡ map Ok found ++ Err e ∷ drop (suc (length found)) answers
+behind_good [] [] e so lt at = absurd (omega arith)
+behind_good [] (r ∷ rs) e so lt at = ap (λ all. all ∷ rs) (sym at)
+behind_good (o ∷ os) [] e so lt at = absurd (omega arith)
+behind_good (o ∷ os) (r ∷ rs) e so lt at =
+    let first : Ok o ≡ r = cc in
+    let later : map Ok os ≡ take (length os) rs = cc in
+    ap (λ x. x ∷ rs) (sym first) ∙ ap (λ xs. Ok o ∷ xs) (behind_good os rs e later (omega arith) at)
+
+pub first_error : (found : List (Option Breach)) (answers taken : List (Result (Option Breach) ScenarioError)) (e : ScenarioError) → taken ≡ map Ok found → taken ≡ take (length taken) answers
+    → length taken < length answers → Err e ≡ get_or answers (length taken) (Err e) → IsFirstError answers e
+first_error found answers taken e is so lt at =
+    let many : length taken ≡ length found = ap length is ∙ length-map found Ok in (
+      found,
+      drop (suc (length found)) answers,
+      behind_good found answers e (sym is ∙ so ∙ ap (λ n. take n answers) many) (subst (λ n. n < length answers) many lt) (subst (λ n. Err e ≡ get_or answers n (Err e)) many at),
+    )
 
 -- where nothing is left of any of them, agreement is broken in none
 sound_one : (f : ℕ → Plot) (seed : ℕ) (o : Option Breach) → o ≡ None → IsShrunk f seed o → ComesWell (f seed)
@@ -78,9 +90,6 @@ all_sound f a (suc n) (o ∷ os) h none seed low high = ⊎_elim
     (λ e. subst (λ x. ComesWell (f x)) e (sound_one f a o (All-head (λ o. o ≡ None) o os none) h.0))
     (λ lt. all_sound f (a + 1) n os h.1 (All-tail (λ o. o ≡ None) o os none) seed (omega arith) (omega arith))
     (first_or_later a seed low)
-  where
-    first_or_later : (a seed : ℕ) → a ≤ seed → (a ≡ seed) ⊎ (a < seed)
-    first_or_later a seed low = grind arith
 
 pub none_broken : (f : ℕ → Plot) (first end : ℕ) → IsLeastBreach f first end None → AreAllSound f first end
 none_broken f first end h = λ seed low high. all_sound f first (end - first) h.all h.shrunk h.least seed low (omega arith)

@@ -4,7 +4,6 @@ use Rattle.std.specs.Prelude.{◌%◌}
 use Rattle.survey.specs.declared.adversary.Adversary.{Adversary}
 use Rattle.survey.specs.Draws.{draw}
 use Rattle.survey.specs.Family.{Family}
-use Rattle.survey.specs.Plot.{Plot}
 use Rattle.survey.specs.Plotting.{bound_of, chosen, count_of, generals_of, plot_of}
 use Rattle.shrink.specs.Breaches.{IsSameAs, narrowed, only}
 

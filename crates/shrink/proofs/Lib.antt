@@ -2,3 +2,4 @@ pub mod Parts
 pub mod Ranks
 pub mod Found
 pub mod Keeping
+pub mod Walks

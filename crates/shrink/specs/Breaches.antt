@@ -1,5 +1,5 @@
 -- The least of the campaigns that are left of many (own).
-use Rattle.std.specs.Prelude.{ℕ, ◌≡◌, ◌≢◌, ◌<◌, ◌≤◌, ◌==◌, nat_lt, Bool, false, cond, ◌&&◌, ◌||◌, List, length, sum_by, Option, None, Some, IfSome, MatchOption}
+use Rattle.std.specs.Prelude.{ℕ, ◌≡◌, ◌≢◌, ◌<◌, ◌≤◌, ◌==◌, nat_lt, Bool, false, cond, ◌&&◌, ◌||◌, List, ◌∷◌, ◌++◌, map, length, sum_by, Option, None, Some, Result, Ok, Err, IfOk, IfErr, IfSome, MatchOption}
 use Rattle.std.specs.List.{All, AllZip, Contains}
 use Rattle.rayon.specs.Numbers.{nat_range}
 use Rattle.scenario.specs.declared.fault.ScenarioError.{ScenarioError}
@@ -12,7 +12,7 @@ use Rattle.survey.specs.declared.adversary.Adversary.{Adversary}
 use Rattle.survey.specs.declared.manner.Manner.{Manner}
 use Rattle.shrink.specs.declared.breach.Breach.{Breach}
 use Rattle.shrink.specs.declared.breach.Breaking.{Breaking}
-use Rattle.shrink.specs.Shrinking.{ComesWell, IsLeast, IsPartOf, IsRefusedOf}
+use Rattle.shrink.specs.Shrinking.{ComesWell, IsLeast, IsPartOf, IsRefusedOf, ShrinksTo}
 
 -- how many statements the traitors have
 abbrev pub statements : Plot → ℕ
@@ -31,6 +31,7 @@ pub record IsBreachOf (p : Plot) (by : ℕ) (b : Breach) : Type 0 where
   pub seed : b.seed ≡ by
   pub least : IsLeast b.plot
   pub part : IsPartOf p b.plot
+  pub course : ShrinksTo b.plot p
 
 -- the same, or that nothing is broken in it, of the campaign of a seed
 abbrev pub IsShrunk : (ℕ → Plot) → ℕ → Option Breach → Type 0
@@ -86,12 +87,22 @@ NoneBreaks f n m span first end =
 abbrev pub IsRefusedBy : (ℕ → Plot) → ℕ → ScenarioError → Type 0
 IsRefusedBy plots seed e = e ≢ Memory → IsRefusedOf (plots seed) e
 
--- of the campaign of one of these seeds
+-- what is answered to a seed
+abbrev pub IsAnswerTo : (ℕ → Plot) → ℕ → Result (Option Breach) ScenarioError → Type 0
+IsAnswerTo plots seed answer = IfOk answer (IsShrunk plots seed) × IfErr answer (IsRefusedBy plots seed)
+
+-- the error is the first among the answers
+abbrev pub IsFirstError : {X : Type 0} → List (Result X ScenarioError) → ScenarioError → Type 0
+IsFirstError {X} answers e =
+    (before : List X) × (rest : List (Result X ScenarioError)) × (answers ≡ map Ok before ++ Err e ∷ rest)
+
+-- of the campaign of the first of these seeds of which one is
 pub record IsRefusedIn (plots : ℕ → Plot) (first end : ℕ) (e : ScenarioError) : Type 0 where
   pub seed : ℕ
   pub behind : first ≤ seed
   pub before : seed < end
   pub refused : IsRefusedOf (plots seed) e
+  pub earlier : (other : ℕ) → first ≤ other → other < seed → (o : Option Breach) × IsShrunk plots other o
 
 -- so it is with so many traitors of the span, of whom fewer break agreement in none of the campaigns
 pub record IsRefusedWith (f : Family) (n m : ℕ) (span : Span) (first end : ℕ) (e : ScenarioError) : Type 0 where

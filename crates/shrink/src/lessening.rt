@@ -1,7 +1,7 @@
 //! Campaigns with a traitor or a statement less.
 ghost use Rattle.std.specs.Prelude.{◌≡◌, ◌≢◌, ◌<◌, IfErr, IfOk, IfSome, IfNone, length};
 ghost use Rattle.scenario.specs.declared.fault.ScenarioError.TheVariants.{Memory};
-ghost use Rattle.shrink.specs.Shrinking.{AllLiesAreNeeded, Comes, ComesWell, IsBroken, IsPartOf, IsRefusedOf, IsStillBroken, LiesAreNeeded, TraitorsAreNeeded, traitor_at, without_lie, without_traitor};
+ghost use Rattle.shrink.specs.Shrinking.{AllLiesAreNeeded, Comes, ComesWell, IsBroken, IsPartOf, IsRefusedOf, IsStillBroken, IsWithoutFirst, IsWithoutFirstLie, IsWithoutFirstLieOf, IsWithoutFirstTraitor, LieWalk, LieWalks, LiesAreNeeded, TraitorWalk, TraitorsAreNeeded, traitor_at, without_lie, without_traitor};
 ghost use Rattle.survey.specs.Judging.{IsRefused};
 ghost use Rattle.survey.specs.Wording.{plot_text};
 
@@ -45,6 +45,7 @@ pub(crate) fn comes_well(alloc: Global, plot: &Plot) -> Result<bool, ScenarioErr
 fn less_traitor(alloc: Global, plot: &Plot, place: usize) -> Result<Option<Plot>, ScenarioError>
     requires { place < length plot.now.traitors }
     ensures some { IfOk result (λ less. IfSome less (IsStillBroken plot.now)) }
+    ensures exact { IfOk result (λ less. IfSome less (λ q. q ≡ without_traitor plot.now place)) }
     ensures none { IfOk result (λ less. IfNone less (ComesWell (without_traitor plot.now place))) }
     ensures refused { IfErr result (λ e. e ≢ Memory → IsRefusedOf plot.now e) }
 {
@@ -65,6 +66,7 @@ fn less_lie(
     requires place { place < length plot.now.traitors }
     requires index { index < length (traitor_at plot.now place).lies }
     ensures some { IfOk result (λ less. IfSome less (IsStillBroken plot.now)) }
+    ensures exact { IfOk result (λ less. IfSome less (λ q. q ≡ without_lie plot.now place index)) }
     ensures none { IfOk result (λ less. IfNone less (ComesWell (without_lie plot.now place index))) }
     ensures refused { IfErr result (λ e. e ≢ Memory → IsRefusedOf plot.now e) }
 {
@@ -78,6 +80,7 @@ fn less_lie(
 /// The campaign without the first traitor without whom it is still broken.
 fn fewer_traitors(alloc: Global, plot: &Plot) -> Result<Option<Plot>, ScenarioError>
     ensures some { IfOk result (λ less. IfSome less (IsStillBroken plot.now)) }
+    ensures first { IfOk result (λ less. IfSome less (IsWithoutFirstTraitor plot.now)) }
     ensures none { IfOk result (λ less. IfNone less (TraitorsAreNeeded plot.now)) }
     ensures refused { IfErr result (λ e. e ≢ Memory → IsRefusedOf plot.now e) }
 {
@@ -94,6 +97,7 @@ fn fewer_traitors(alloc: Global, plot: &Plot) -> Result<Option<Plot>, ScenarioEr
 fn fewer_lies_of(alloc: Global, plot: &Plot, place: usize) -> Result<Option<Plot>, ScenarioError>
     requires { place < length plot.now.traitors }
     ensures some { IfOk result (λ less. IfSome less (IsStillBroken plot.now)) }
+    ensures first { IfOk result (λ less. IfSome less (IsWithoutFirstLieOf plot.now place)) }
     ensures none { IfOk result (λ less. IfNone less (LiesAreNeeded plot.now place)) }
     ensures refused { IfErr result (λ e. e ≢ Memory → IsRefusedOf plot.now e) }
 {
@@ -109,6 +113,7 @@ fn fewer_lies_of(alloc: Global, plot: &Plot, place: usize) -> Result<Option<Plot
 /// The campaign without the first statement without which it is still broken.
 fn fewer_lies(alloc: Global, plot: &Plot) -> Result<Option<Plot>, ScenarioError>
     ensures some { IfOk result (λ less. IfSome less (IsStillBroken plot.now)) }
+    ensures first { IfOk result (λ less. IfSome less (IsWithoutFirstLie plot.now)) }
     ensures none { IfOk result (λ less. IfNone less (AllLiesAreNeeded plot.now)) }
     ensures refused { IfErr result (λ e. e ≢ Memory → IsRefusedOf plot.now e) }
 {
@@ -121,9 +126,11 @@ fn fewer_lies(alloc: Global, plot: &Plot) -> Result<Option<Plot>, ScenarioError>
     Ok(None)
 }
 
-/// The campaign with one traitor or statement less, where it is still broken.
+/// The campaign without the first traitor without whom it is still broken; where all are needed, without the first
+/// such statement.
 pub(crate) fn less(alloc: Global, plot: &Plot) -> Result<Option<Plot>, ScenarioError>
     ensures some { IfOk result (λ less. IfSome less (IsStillBroken plot.now)) }
+    ensures first { IfOk result (λ less. IfSome less (IsWithoutFirst plot.now)) }
     ensures traitors { IfOk result (λ less. IfNone less (TraitorsAreNeeded plot.now)) }
     ensures lies { IfOk result (λ less. IfNone less (AllLiesAreNeeded plot.now)) }
     ensures refused { IfErr result (λ e. e ≢ Memory → IsRefusedOf plot.now e) }
@@ -140,16 +147,15 @@ pub(crate) fn fewest_traitors(alloc: Global, plot: Plot) -> Result<Plot, Scenari
     requires { IsBroken plot }
     ensures broken { IfOk result IsBroken }
     ensures part { IfOk result (IsPartOf plot) }
+    ensures walk { IfOk result (λ left. TraitorWalk left 0 plot) }
     ensures refused { IfErr result (λ e. e ≢ Memory → IsRefusedOf plot e) }
 {
     let mut left = plot;
     let mut place = 0;
-    for _ in 0..left.traitors.len() {
-        if place < left.traitors.len() {
-            match less_traitor(alloc, &left, place)? {
-                Some(less) => left = less,
-                None => place += 1,
-            }
+    while place < left.traitors.len() {
+        match less_traitor(alloc, &left, place)? {
+            Some(less) => left = less,
+            None => place += 1,
         }
     }
     Ok(left)
@@ -162,16 +168,15 @@ fn fewest_lies_of(alloc: Global, plot: Plot, place: usize) -> Result<Plot, Scena
     requires broken { IsBroken plot }
     ensures broken { IfOk result IsBroken }
     ensures part { IfOk result (IsPartOf plot) }
+    ensures walk { IfOk result (λ left. LieWalk place left 0 plot) }
     ensures refused { IfErr result (λ e. e ≢ Memory → IsRefusedOf plot e) }
 {
     let mut left = plot;
     let mut index = 0;
-    for _ in 0..left.traitors[place].lies.len() {
-        if place < left.traitors.len() && index < left.traitors[place].lies.len() {
-            match less_lie(alloc, &left, place, index)? {
-                Some(less) => left = less,
-                None => index += 1,
-            }
+    while index < left.traitors[place].lies.len() {
+        match less_lie(alloc, &left, place, index)? {
+            Some(less) => left = less,
+            None => index += 1,
         }
     }
     Ok(left)
@@ -182,13 +187,12 @@ pub(crate) fn fewest_lies(alloc: Global, plot: Plot) -> Result<Plot, ScenarioErr
     requires { IsBroken plot }
     ensures broken { IfOk result IsBroken }
     ensures part { IfOk result (IsPartOf plot) }
+    ensures walk { IfOk result (λ left. LieWalks left 0 plot) }
     ensures refused { IfErr result (λ e. e ≢ Memory → IsRefusedOf plot e) }
 {
     let mut left = plot;
     for place in 0..left.traitors.len() {
-        if place < left.traitors.len() {
-            left = fewest_lies_of(alloc, left, place)?;
-        }
+        left = fewest_lies_of(alloc, left, place)?;
     }
     Ok(left)
 }

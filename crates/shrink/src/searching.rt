@@ -1,9 +1,9 @@
 //! The least of many broken campaigns.
-ghost use Rattle.std.specs.Prelude.{◌≡◌, ◌≢◌, ◌≤◌, IfErr, IfOk, IfSome, IfNone};
+ghost use Rattle.std.specs.Prelude.{◌≡◌, ◌≢◌, ◌≤◌, IfErr, IfOk, IfSome, IfNone, Ok, map};
 ghost use Rattle.std.specs.List.{AllZip};
 ghost use Rattle.rayon.specs.Numbers.{nat_range};
 ghost use Rattle.scenario.specs.declared.fault.ScenarioError.TheVariants.{Memory};
-ghost use Rattle.shrink.specs.Breaches.{IsBreaking, IsLeastBreach, IsLeastOf, IsRefusedBy, IsRefusedIn, IsRefusedWith, IsShrunk, NoneBreaks, better};
+ghost use Rattle.shrink.specs.Breaches.{IsAnswerTo, IsBreaking, IsFirstError, IsLeastBreach, IsLeastOf, IsRefusedBy, IsRefusedIn, IsRefusedWith, IsShrunk, NoneBreaks, better};
 ghost use Rattle.survey.specs.Plotting.{plot_of};
 
 use crate::breach::{Breach, Breaking};
@@ -32,25 +32,21 @@ pub fn breach_of(alloc: Global, family: &Family, seed: u64) -> Result<Option<Bre
     }
 }
 
-/// The same of each seed from `first` up to `end`, without that, by as many threads as there are processors, or why
-/// not.
+/// The same of each seed from `first` up to `end`, without that, by as many threads as there are processors.
 fn gathered<R: Threads + Sync>(
     rt: &R,
     alloc: Global,
     family: &Family,
     first: u64,
     end: u64,
-) -> Result<Result<Vec<Option<Breach>>, ScenarioError>, AllocError>
-    ensures shrunk { IfOk result (λ all. IfOk all
-        (λ found. AllZip (IsShrunk (plot_of family.now)) (nat_range first end) found.items)) }
-    ensures refused { IfOk result (λ all. IfErr all (λ e. e ≢ Memory → IsRefusedIn (plot_of family.now) first end e)) }
+) -> Result<Vec<Result<Option<Breach>, ScenarioError>>, AllocError>
+    ensures { IfOk result (λ answers. AllZip (IsAnswerTo (plot_of family.now)) (nat_range first end) answers.items) }
 {
     (first..end)
         .into_par_iter()
         .map(
             |seed: u64| -> Result<Option<Breach>, ScenarioError>
-                ensures { IfOk result (IsShrunk (plot_of family.entry.now) seed)
-                    × IfErr result (IsRefusedBy (plot_of family.entry.now) seed) }
+                ensures { IsAnswerTo (plot_of family.entry.now) seed result }
             { breach_of(alloc, family, seed) },
         )
         .with_min_len(LEAST_PIECE)
@@ -59,6 +55,21 @@ fn gathered<R: Threads + Sync>(
 
 /// How many campaigns are worth a thread of their own.
 const LEAST_PIECE: usize = 8;
+
+/// What all the answers give, or the first error among them.
+fn all_of(
+    alloc: Global,
+    answers: Vec<Result<Option<Breach>, ScenarioError>>,
+) -> Result<Vec<Option<Breach>>, ScenarioError>
+    ensures found { IfOk result (λ found. answers.items ≡ map Ok found.items) }
+    ensures refused { IfErr result (λ e. e ≢ Memory → IsFirstError answers.items e) }
+{
+    let mut found = Vec::new(alloc);
+    for answer in answers {
+        found.push(answer?)?;
+    }
+    Ok(found)
+}
 
 /// What is left of the campaign of each seed from `first` up to `end`, without that.
 pub fn breaches<R: Threads + Sync>(
@@ -71,7 +82,8 @@ pub fn breaches<R: Threads + Sync>(
     ensures shrunk { IfOk result (λ found. AllZip (IsShrunk (plot_of family.now)) (nat_range first end) found.items) }
     ensures refused { IfErr result (λ e. e ≢ Memory → IsRefusedIn (plot_of family.now) first end e) }
 {
-    gathered(rt, alloc, family, first, end)?
+    let answers = gathered(rt, alloc, family, first, end)?;
+    all_of(alloc, answers)
 }
 
 /// The first of the two, unless the second is less.

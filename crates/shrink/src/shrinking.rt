@@ -1,7 +1,7 @@
 //! Campaigns of which nothing more can be taken out while they are broken.
 ghost use Rattle.std.specs.Prelude.{◌≢◌, IfErr, IfOk, IfSome, IfNone};
 ghost use Rattle.scenario.specs.declared.fault.ScenarioError.TheVariants.{Memory};
-ghost use Rattle.shrink.specs.Shrinking.{ComesWell, IsBroken, IsLeast, IsPartOf, IsRefusedOf};
+ghost use Rattle.shrink.specs.Shrinking.{ComesWell, IsBroken, IsLeast, IsPartOf, IsRefusedOf, IsWalked, ShrinksTo};
 
 use crate::lessening::{comes_well, fewest_lies, fewest_traitors, less};
 use scenario::ScenarioError;
@@ -14,6 +14,7 @@ fn walked(alloc: Global, plot: Plot) -> Result<Plot, ScenarioError>
     requires { IsBroken plot }
     ensures broken { IfOk result IsBroken }
     ensures part { IfOk result (IsPartOf plot) }
+    ensures walk { IfOk result (IsWalked plot) }
     ensures refused { IfErr result (λ e. e ≢ Memory → IsRefusedOf plot e) }
 {
     let fewer = fewest_traitors(alloc, plot)?;
@@ -29,6 +30,7 @@ fn walked(alloc: Global, plot: Plot) -> Result<Plot, ScenarioError>
 pub fn shrunk(alloc: Global, plot: Plot) -> Result<Option<Plot>, ScenarioError>
     ensures least { IfOk result (λ left. IfSome left IsLeast) }
     ensures part { IfOk result (λ left. IfSome left (IsPartOf plot)) }
+    ensures course { IfOk result (λ left. IfSome left (λ q. ShrinksTo q plot)) }
     ensures well { IfOk result (λ left. IfNone left (ComesWell plot)) }
     ensures refused { IfErr result (λ e. e ≢ Memory → IsRefusedOf plot e) }
 {

@@ -3,3 +3,4 @@ pub mod OwedLemmas
 pub mod PictureLemmas
 pub mod PictureLaws
 pub mod LoyalLaws
+pub mod RowLaws

@@ -23,7 +23,7 @@ use Rattle.signed_diagram.specs.Strokes.{grouped, told_between, way}
 same_as_itself : (ch : Chain) → is_same ch ch ≡ true
 same_as_itself ch = and_from (ch.order == ch.order) (bytes_eq ch.signers ch.signers) (eq-eqb ch.order ch.order refl) ((bytes_eq-Decides ch.signers ch.signers).1 refl)
 
-among_them : (xs : List Chain) (x : Chain) → Among x xs → is_among xs x ≡ true
+pub among_them : (xs : List Chain) (x : Chain) → Among x xs → is_among xs x ≡ true
 among_them [] x m = absurd m
 among_them (y ∷ xs) x (inl e) = or_left (is_same x y) (is_among xs x) (subst (λ z. is_same x z ≡ true) (sym e) (same_as_itself x))
 among_them (y ∷ xs) x (inr m) = or_right (is_same x y) (is_among xs x) (among_them xs x m)

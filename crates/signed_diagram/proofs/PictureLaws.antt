@@ -1,5 +1,5 @@
 -- Pictures are elements of XML.
-use Rattle.std.proofs.Common.{ℕ, ◌+◌, ◌*◌, Bool, true, false, List, [], ◌∷◌, ◌++◌, Option, Some, None, refl, sym, ap, subst, append_assoc}
+use Rattle.std.proofs.Common.{ℕ, ◌+◌, ◌*◌, Bool, true, false, List, [], ◌∷◌, ◌++◌, Option, Some, None, refl, sym, ap, subst}
 use Rattle.std.proofs.lemmas.Bool.{cond_both}
 use Rattle.std.specs.Prelude.{codes, ◌==◌, nat_lt, min}
 use Rattle.std.specs.Fmt.{decimal}
@@ -12,21 +12,23 @@ use Rattle.book.specs.Explained.{dotted}
 use Rattle.roster.specs.Scenario.{Scenario}
 use Rattle.world.specs.Chronicle.{Chronicle}
 use Rattle.world.specs.declared.verdict.Verdict.{Verdict}
+use Rattle.diagram.specs.declared.mark.Marks.{Marks}
 use Rattle.diagram.specs.declared.stroke.Stroke.{Stroke}
 use Rattle.diagram.specs.Bands.{accesses_from, lives, round_words}
 use Rattle.diagram.specs.Foot.{alike_words, decided_all, obeyed_words}
 use Rattle.diagram.specs.Layout.{column, fan_top, height, rows_top, top_of, width}
+use Rattle.diagram.specs.Legend.{foot_height, marks_of, shape_key}
 use Rattle.diagram.specs.Shapes.{line, mark, text_at, title}
 use Rattle.diagram.specs.Svg.{campaign_words, heads, key_end, look}
 use Rattle.diagram.specs.Words.{copied_words, in_full, kind, outline}
-use Rattle.diagram.proofs.SvgLaws.{accesses_content, alike_text, all, attributes, campaign_text, copied_text, decisions_content, described_content, feed, full_text, group_content, heads_content, kind_text, legend_of_content, line_content, lives_content, look_content, many, mark_content, name, numbered, obeyed_text, outline_text, picture_is, round_text, small, stroke_content, svg_tag, text_content, title_content}
+use Rattle.diagram.proofs.SvgLaws.{accesses_content, alike_text, all, attributes, campaign_text, copied_text, decisions_content, described_content, description_whole, feed, full_text, group_content, heads_content, kind_text, legend_of_content, line_content, lives_content, look_content, many, mark_content, name, numbered, obeyed_text, outline_text, picture_is, round_text, shape_key_text, small, stroke_content, svg_tag, text_content, three_texts, title_content}
 use Rattle.signed.specs.Chains.{Chain}
 use Rattle.signed_diagram.specs.Bands.{band, bands, drawn, inside, row, stroke_line}
 use Rattle.signed_diagram.specs.Foot.{bound_words, foot, verdict_lines}
 use Rattle.signed_diagram.specs.Laws.{SignedDiagramsAreElements}
 use Rattle.signed_diagram.specs.Legend.{differs_meaning, legend, missing_meaning, sent_meaning, wide_meaning}
 use Rattle.signed_diagram.specs.Strokes.{Drawn, bare, strokes_of}
-use Rattle.signed_diagram.specs.Svg.{description, head, headline, key, signed_svg, signed_words}
+use Rattle.signed_diagram.specs.Svg.{description, head, headline, key_start, signed_svg, signed_words, stroke_key}
 use Rattle.signed_diagram.specs.Words.{chain_words, chains_words, count_words, differs_words, first_words, further_words, lead_words, row_words, sends_words, several_words, short_words, stroke_words, withholds_words}
 
 -- ---- words
@@ -152,54 +154,62 @@ verdict_content v =
     (joined a b (text_content (codes "name") 120 64 (alike_words v.alike) name (alike_text v.alike)) (text_content (codes "name") 120 84 (obeyed_words v.obeyed) name (obeyed_text v.obeyed)))
     (text_content (codes "name") 120 104 (bound_words v.bound) name (bound_text v.bound))
 
-legend_content : IsContent legend
+legend_content : (marks : Marks) → IsContent (legend marks)
 unfolding sent_meaning differs_meaning missing_meaning wide_meaning
-legend_content =
-    legend_of_content sent_meaning differs_meaning missing_meaning wide_meaning (bare_text sent_meaning refl) (bare_text differs_meaning refl)
+legend_content marks =
+    legend_of_content marks sent_meaning differs_meaning missing_meaning wide_meaning (bare_text sent_meaning refl) (bare_text differs_meaning refl)
     (bare_text missing_meaning refl) (bare_text wide_meaning refl)
 
-foot_content : (c : Chronicle) (wide top : ℕ) → IsContent (foot c wide top)
-foot_content c wide top =
+foot_content : (c : Chronicle) (marks : Marks) (wide top : ℕ) → IsContent (foot c marks wide top)
+foot_content c marks wide top =
     let a : List ℕ = line (codes "rule") 16 0 wide 0 in
     let b : List ℕ = text_at (codes "round") 16 28 (codes "decisions") in
     let d : List ℕ = decided_all c.scenario c.decisions in
-    group_content 0 top (a ++ b ++ d ++ verdict_lines c.verdict ++ legend)
-    (joined (a ++ b ++ d ++ verdict_lines c.verdict) legend
+    group_content 0 top (a ++ b ++ d ++ verdict_lines c.verdict ++ legend marks)
+    (joined (a ++ b ++ d ++ verdict_lines c.verdict) (legend marks)
     (joined (a ++ b ++ d) (verdict_lines c.verdict)
     (joined (a ++ b) d
     (joined a b (rule_content wide) (text_content (codes "round") 16 28 (codes "decisions") (bare_text (codes "round") refl) (bare_text (codes "decisions") refl)))
     (decisions_content c.scenario c.decisions))
     (verdict_content c.verdict))
-    legend_content)
+    (legend_content marks))
 
 abbrev key_words : List ℕ
 key_words =
     codes "A column for each general, and a band for each round, from above. In a band a line leads from "
     ++ codes "who sends chains to whom he sends them, one line for each order, as wide as it has chains; below "
     ++ codes "stands in the column of the receiver what he was sent: the order, and who signed it, the commander "
-    ++ codes "first and the sender last. Circle and plain line: a loyal general in place of the sender would send "
-    ++ codes "so. Diamond and dashes: he would not. Cross and dots: he would, and nothing was sent. Above the "
-    ++ codes "lines stand the accesses to the board, in its order. Square: a traitor."
+    ++ codes "first and the sender last."
+
+stroke_key_text : (marks : Marks) → IsText (stroke_key marks)
+stroke_key_text marks =
+    let one : List ℕ = codes " Circle and plain line: a loyal general in place of the sender would send so." in
+    let two : List ℕ = codes " Diamond and dashes: a loyal general would not send so." in
+    let three : List ℕ = codes " Cross and dots: a loyal general would send so, and it was not sent." in
+    three_texts marks.circle marks.diamond marks.cross one two three (bare_text one refl) (bare_text two refl) (bare_text three refl)
 
 several_text : (strokes : List Drawn) → IsText (flat_map several_words strokes)
 several_text strokes =
     text-flat_map several_words strokes
     (λ x. cond_both (nat_lt 1 x.stroke.labels) (in_full (stroke_words x)) [] IsText (λ _. full_text (stroke_words x) (stroke_text x)) (λ _. no_text))
 
-description_content : (strokes : List Drawn) (accesses : List Access) → IsContent (description strokes accesses)
-unfolding key
-description_content strokes accesses =
-    let several : List ℕ = flat_map several_words strokes in
-    let copied : List ℕ = flat_map copied_words accesses in
-    subst IsContent (ap (λ xs. xs ++ key_end) (sym (append_assoc key several copied)))
-    (described_content key_words (several ++ copied) (bare_text key_words refl) (many several copied (several_text strokes) (copied_text accesses)))
+description_content : (strokes : List Drawn) (accesses : List Access) (marks : Marks) → IsContent (description strokes accesses marks)
+unfolding key_start
+description_content strokes accesses marks =
+    let a : List ℕ = stroke_key marks in
+    let b : List ℕ = shape_key marks in
+    let c : List ℕ = flat_map several_words strokes in
+    let d : List ℕ = flat_map copied_words accesses in
+    subst IsContent (description_whole key_start a b c d key_end)
+    (described_content key_words (a ++ b ++ c ++ d) (bare_text key_words refl)
+    (many (a ++ b ++ c) d (many (a ++ b) c (many a b (stroke_key_text marks) (shape_key_text marks)) (several_text strokes)) (copied_text accesses)))
 
-head_content : (s : Scenario) (strokes : List Drawn) (accesses : List Access) → IsContent (head s strokes accesses)
-head_content s strokes accesses =
+head_content : (s : Scenario) (strokes : List Drawn) (accesses : List Access) (marks : Marks) → IsContent (head s strokes accesses marks)
+head_content s strokes accesses marks =
     let w : List ℕ = signed_words s in
     let n : List ℕ = campaign_words s.generals s.bound s.commander s.order in
-    let d : List ℕ = description strokes accesses in
-    joined (title w ++ d ++ look) (headline s) (joined (title w ++ d) look (joined (title w) d (title_content w (signed_text s)) (description_content strokes accesses)) look_content)
+    let d : List ℕ = description strokes accesses marks in
+    joined (title w ++ d ++ look) (headline s) (joined (title w ++ d) look (joined (title w) d (title_content w (signed_text s)) (description_content strokes accesses marks)) look_content)
     (joined (text_at (codes "head") 16 28 n ++ text_at (codes "small") 16 58 (codes "signed")) (text_at (codes "small") 16 72 (codes "messages"))
     (joined (text_at (codes "head") 16 28 n) (text_at (codes "small") 16 58 (codes "signed"))
     (text_content (codes "head") 16 28 n (bare_text (codes "head") refl) (campaign_text s.generals s.bound s.commander s.order))
@@ -217,16 +227,17 @@ proved_signed_diagrams_are_elements c =
     let bottom : ℕ = top_of s.generals plain c.accesses (s.bound + 1) in
     let wide : ℕ = width s.generals c.accesses in
     let w : ℕ = wide + 16 in
-    let h : ℕ = bottom + 230 in
-    let a : List ℕ = head s strokes c.accesses in
+    let marks : Marks = marks_of s c.accesses plain in
+    let h : ℕ = bottom + foot_height marks in
+    let a : List ℕ = head s strokes c.accesses marks in
     let b : List ℕ = heads s c.accesses in
     let d : List ℕ = bands s.generals strokes plain c.accesses wide (s.bound + 1) in
-    let e : List ℕ = foot c wide bottom in
+    let e : List ℕ = foot c marks wide bottom in
     let parts : List ℕ = a ++ b ++ d ++ e in
     let is : IsContent parts =
     joined (a ++ b ++ d) e
-    (joined (a ++ b) d (joined a b (head_content s strokes c.accesses) (heads_content s c.accesses)) (all (band s.generals strokes plain c.accesses wide) (range_with_len 0 (s.bound + 1)) (band_content s.generals strokes plain c.accesses wide)))
-    (foot_content c wide bottom) in (
+    (joined (a ++ b) d (joined a b (head_content s strokes c.accesses marks) (heads_content s c.accesses)) (all (band s.generals strokes plain c.accesses wide) (range_with_len 0 (s.bound + 1)) (band_content s.generals strokes plain c.accesses wide)))
+    (foot_content c marks wide bottom) in (
       element (codes "svg") (attributes (decimal w) (decimal h)) (codes "\n" ++ parts),
       record {
         name = codes "svg";

@@ -5,6 +5,7 @@ use Rattle.world.specs.Chronicle.{Chronicle}
 use Rattle.world.specs.declared.verdict.Verdict.{Verdict}
 use Rattle.diagram.specs.Foot.{alike_words, decided_all, obeyed_words, bound_words as oral_bound}
 use Rattle.diagram.specs.Shapes.{group_at, line, text_at}
+use Rattle.diagram.specs.declared.mark.Marks.{Marks}
 use Rattle.signed_diagram.specs.Legend.{legend}
 
 abbrev pub bound_words : Bool → List ℕ
@@ -17,11 +18,11 @@ verdict_lines v =
     ++ text_at (codes "name") 120 84 (obeyed_words v.obeyed)
     ++ text_at (codes "name") 120 104 (bound_words v.bound)
 
-abbrev pub foot : Chronicle → ℕ → ℕ → List ℕ
-foot c wide top =
+abbrev pub foot : Chronicle → Marks → ℕ → ℕ → List ℕ
+foot c marks wide top =
     group_at 0 top
     (line (codes "rule") 16 0 wide 0
     ++ text_at (codes "round") 16 28 (codes "decisions")
     ++ decided_all c.scenario c.decisions
     ++ verdict_lines c.verdict
-    ++ legend)
+    ++ legend marks)

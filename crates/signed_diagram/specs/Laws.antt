@@ -1,14 +1,19 @@
 -- Laws of what is drawn. Each is the contract of a function of this crate.
-use Rattle.std.specs.Prelude.{ℕ, ◌<◌, ◌≡◌, true, false, List, ◌++◌, codes}
+use Rattle.std.specs.Prelude.{ℕ, ◌+◌, ◌<◌, ◌≤◌, ◌≡◌, true, false, not, is_some, List, ◌++◌, codes, filter, length, map}
+use Rattle.std.specs.Bool.{beq}
+use Rattle.std.specs.List.{All, range_with_len}
 use Rattle.markup.specs.Grammar.{IsElement}
 use Rattle.roster.specs.Scenario.{Scenario, IsScenario, is_traitor}
 use Rattle.world.specs.Agreement.{IsFinished}
 use Rattle.world.specs.Chronicle.{Chronicle}
 use Rattle.world.specs.declared.event.Event.{Event}
 use Rattle.signed.specs.Chronicle.{signed_chronicle_of}
+use Rattle.signed.specs.Chains.{Chain}
 use Rattle.signed.specs.Kind.{played}
-use Rattle.signed_diagram.specs.Owed.{owed_to, sent_to}
-use Rattle.signed_diagram.specs.Strokes.{between, grouped, way}
+use Rattle.diagram.specs.declared.stroke.Stroke.{Stroke}
+use Rattle.diagram.specs.Lists.{is_to}
+use Rattle.signed_diagram.specs.Owed.{is_among, owed_to, sent_to}
+use Rattle.signed_diagram.specs.Strokes.{Drawn, between, grouped, strokes_of, way}
 use Rattle.signed_diagram.specs.Svg.{signed_svg}
 
 -- each picture is one element of XML, and a line feed
@@ -26,3 +31,22 @@ pub record OnlyTraitorsDiffer : Type 0 where
       IsFinished (played s events) → g < s.generals → p < s.generals → is_traitor s g ≡ false →
       between (signed_chronicle_of (played s events)) round p g
       ≡ grouped (way round p g true false) (sent_to (signed_chronicle_of (played s events)) round g p)
+
+-- the list of what was sent to p, or withheld from him, in a round
+abbrev pub list_in : Chronicle → ℕ → ℕ → List Drawn
+list_in c round p = filter (λ x. is_to round p x.stroke) (strokes_of c)
+
+-- what a stroke says of a chain: that it was sent, or was not; and that just one of its sender and a loyal general in
+-- his place sends it
+pub record IsTold (c : Chronicle) (stroke : Stroke) (ch : Chain) : Type 0 where
+  pub sent : is_some stroke.told ≡ is_among (sent_to c stroke.round stroke.teller stroke.receiver) ch
+  pub differs : stroke.differs
+      ≡ not (beq (is_among (sent_to c stroke.round stroke.teller stroke.receiver) ch)
+      (is_among (owed_to c stroke.round stroke.teller stroke.receiver) ch))
+
+-- the rows of each list are numbered, and each stroke tells so of each of its chains
+pub record RowsAreExact : Type 0 where
+  pub numbered : (c : Chronicle) (round p : ℕ) → p < c.scenario.generals → 0 < round →
+      round ≤ c.scenario.bound + 1 →
+      map (λ (x : Drawn). x.stroke.row) (list_in c round p) ≡ range_with_len 0 (length (list_in c round p))
+  pub told : (c : Chronicle) → All (λ x. All (IsTold c x.stroke) x.chains) (strokes_of c)

@@ -4,9 +4,11 @@ use Rattle.board.specs.Board.{Access}
 use Rattle.roster.specs.Scenario.{Scenario}
 use Rattle.world.specs.Chronicle.{Chronicle}
 use Rattle.diagram.specs.Layout.{top_of, width}
-use Rattle.diagram.specs.Shapes.{text_at, title}
+use Rattle.diagram.specs.Legend.{foot_height, marks_of, shape_key}
+use Rattle.diagram.specs.Shapes.{said_if, text_at, title}
 use Rattle.diagram.specs.Svg.{campaign_words, heads, key_end, look, picture}
 use Rattle.diagram.specs.Words.{copied_words}
+use Rattle.diagram.specs.declared.mark.Marks.{Marks}
 use Rattle.signed_diagram.specs.Bands.{bands}
 use Rattle.signed_diagram.specs.Foot.{foot}
 use Rattle.signed_diagram.specs.Strokes.{Drawn, bare, strokes_of}
@@ -17,17 +19,24 @@ abbrev pub signed_words : Scenario → List ℕ
 signed_words s = campaign_words s.generals s.bound s.commander s.order ++ codes "; signed messages"
 
 -- what is told of the picture to those who do not see it, and of strokes and accesses that it has no room for
-unfoldable pub key : List ℕ
-key =
+unfoldable pub key_start : List ℕ
+key_start =
     codes "<desc>A column for each general, and a band for each round, from above. In a band a line leads from "
     ++ codes "who sends chains to whom he sends them, one line for each order, as wide as it has chains; below "
     ++ codes "stands in the column of the receiver what he was sent: the order, and who signed it, the commander "
-    ++ codes "first and the sender last. Circle and plain line: a loyal general in place of the sender would send "
-    ++ codes "so. Diamond and dashes: he would not. Cross and dots: he would, and nothing was sent. Above the "
-    ++ codes "lines stand the accesses to the board, in its order. Square: a traitor."
+    ++ codes "first and the sender last."
 
-abbrev pub description : List Drawn → List Access → List ℕ
-description strokes accesses = key ++ flat_map several_words strokes ++ flat_map copied_words accesses ++ key_end
+-- of each mark that stands in the picture
+abbrev pub stroke_key : Marks → List ℕ
+stroke_key marks =
+    said_if marks.circle (codes " Circle and plain line: a loyal general in place of the sender would send so.")
+    ++ said_if marks.diamond (codes " Diamond and dashes: a loyal general would not send so.")
+    ++ said_if marks.cross (codes " Cross and dots: a loyal general would send so, and it was not sent.")
+
+abbrev pub description : List Drawn → List Access → Marks → List ℕ
+description strokes accesses marks =
+    key_start ++ stroke_key marks ++ shape_key marks ++ flat_map several_words strokes
+    ++ flat_map copied_words accesses ++ key_end
 
 -- what stands before the columns
 abbrev pub headline : Scenario → List ℕ
@@ -35,8 +44,8 @@ headline s =
     text_at (codes "head") 16 28 (campaign_words s.generals s.bound s.commander s.order)
     ++ text_at (codes "small") 16 58 (codes "signed") ++ text_at (codes "small") 16 72 (codes "messages")
 
-abbrev pub head : Scenario → List Drawn → List Access → List ℕ
-head s strokes accesses = title (signed_words s) ++ description strokes accesses ++ look ++ headline s
+abbrev pub head : Scenario → List Drawn → List Access → Marks → List ℕ
+head s strokes accesses marks = title (signed_words s) ++ description strokes accesses marks ++ look ++ headline s
 
 -- the picture with these strokes
 abbrev pub svg_with : List Drawn → Chronicle → List ℕ
@@ -44,11 +53,12 @@ svg_with strokes c =
     let s = c.scenario in
     let bottom = top_of s.generals (bare strokes) c.accesses (s.bound + 1) in
     let wide = width s.generals c.accesses in
-    picture (wide + 16) (bottom + 230)
-    (head s strokes c.accesses
+    let marks = marks_of s c.accesses (bare strokes) in
+    picture (wide + 16) (bottom + foot_height marks)
+    (head s strokes c.accesses marks
     ++ heads s c.accesses
     ++ bands s.generals strokes (bare strokes) c.accesses wide (s.bound + 1)
-    ++ foot c wide bottom)
+    ++ foot c marks wide bottom)
 
 -- the picture of a chronicle
 unfoldable pub signed_svg : Chronicle → List ℕ

@@ -3,20 +3,22 @@ ghost use Rattle.std.specs.Prelude.{◌≡◌, ◌++◌, string_bytes, OnOk};
 ghost use Rattle.signed_diagram.specs.Foot.{bound_words, foot, verdict_lines};
 
 use crate::legend::put_legend;
+use diagram::Marks;
 use diagram::foot::{alike_words, bound_words as oral_bound_words, obeyed_words, put_decisions};
 use diagram::shapes::{put_group_end, put_group_start, put_line, put_words};
 use signed::SignedChronicle;
 use std::alloc::AllocError;
 use world::Verdict;
 
-/// Adds the decisions, the verdict and what the marks mean, at this height.
+/// Adds the decisions, the verdict and what these marks mean, at this height.
 pub(crate) fn put_foot(
     out: &mut String,
     chronicle: &SignedChronicle,
+    marks: Marks,
     wide: u128,
     top: u128,
 ) -> Result<(), AllocError>
-    ensures { OnOk result (string_bytes out.new ≡ string_bytes out.old ++ foot chronicle.now wide top) }
+    ensures { OnOk result (string_bytes out.new ≡ string_bytes out.old ++ foot chronicle.now marks wide top) }
 {
     let scenario = chronicle.scenario();
     put_group_start(out, 0, top)?;
@@ -24,7 +26,7 @@ pub(crate) fn put_foot(
     put_words(out, "round", 16, 28, "decisions")?;
     put_decisions(out, scenario, chronicle.decisions())?;
     put_verdict(out, chronicle.verdict())?;
-    put_legend(out)?;
+    put_legend(out, marks)?;
     put_group_end(out)
 }
 

@@ -1,5 +1,5 @@
 //! Laws of what is drawn: each function does nothing, and its contract is the law.
-ghost use Rattle.signed_diagram.specs.Laws.{OnlyTraitorsDiffer, SignedDiagramsAreElements};
+ghost use Rattle.signed_diagram.specs.Laws.{OnlyTraitorsDiffer, RowsAreExact, SignedDiagramsAreElements};
 
 /// A picture is one element of XML, whatever the chronicle.
 pub fn signed_diagrams_are_elements()
@@ -9,4 +9,10 @@ pub fn signed_diagrams_are_elements()
 /// In a finished campaign only traitors send what a loyal general would not, or withhold what he would send.
 pub fn only_traitors_differ()
     ensures { OnlyTraitorsDiffer }
+{}
+
+/// The rows of a list are numbered from 0 on; each stroke tells of its chains whether they were sent, and differs where
+/// a loyal general would do otherwise.
+pub fn rows_are_exact()
+    ensures { RowsAreExact }
 {}

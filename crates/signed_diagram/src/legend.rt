@@ -2,15 +2,17 @@
 ghost use Rattle.std.specs.Prelude.{◌≡◌, ◌++◌, string_bytes, OnOk};
 ghost use Rattle.signed_diagram.specs.Legend.{differs_meaning, legend, missing_meaning, sent_meaning, wide_meaning};
 
+use diagram::Marks;
 use diagram::legend::put_legend_of;
 use std::alloc::AllocError;
 
-/// Adds what the marks mean.
-pub(crate) fn put_legend(out: &mut String) -> Result<(), AllocError>
-    ensures { OnOk result (string_bytes out.new ≡ string_bytes out.old ++ legend) }
+/// Adds what those of these marks mean that stand in the picture.
+pub(crate) fn put_legend(out: &mut String, marks: Marks) -> Result<(), AllocError>
+    ensures { OnOk result (string_bytes out.new ≡ string_bytes out.old ++ legend marks) }
 {
     put_legend_of(
         out,
+        marks,
         sent_meaning(),
         differs_meaning(),
         missing_meaning(),

@@ -15,5 +15,5 @@ mod svg;
 mod words;
 
 pub use foot::bound_words;
-pub use laws::{only_traitors_differ, signed_diagrams_are_elements};
+pub use laws::{only_traitors_differ, rows_are_exact, signed_diagrams_are_elements};
 pub use svg::{put_signed_words, signed_campaign_svg};

@@ -1,7 +1,8 @@
 //! A campaign of signed messages as a picture in SVG.
 ghost use Rattle.std.specs.Prelude.{◌≡◌, ◌++◌, string_bytes, IfOk, OnOk};
+ghost use Rattle.diagram.specs.Shapes.{title};
 ghost use Rattle.diagram.specs.Svg.{campaign_words};
-ghost use Rattle.signed_diagram.specs.Svg.{description, head, headline, key, signed_svg, signed_words};
+ghost use Rattle.signed_diagram.specs.Svg.{description, head, headline, key_start, signed_svg, signed_words, stroke_key};
 
 use crate::bands::put_bands;
 use crate::foot::put_foot;
@@ -9,8 +10,12 @@ use crate::stroke::ChainStroke;
 use crate::strokes::{bare, strokes};
 use crate::words::put_several;
 use board::Access;
+use diagram::Marks;
 use diagram::layout::{top_of, width};
-use diagram::shapes::{put_text_end, put_text_start, put_title_end, put_title_start, put_words};
+use diagram::legend::{foot_height, marks, put_shape_key};
+use diagram::shapes::{
+    put_if, put_text_end, put_text_start, put_title_end, put_title_start, put_words,
+};
 use diagram::svg::{look, put_box, put_campaign, put_heads, put_key_end, start};
 use diagram::words::put_copied;
 use roster::Scenario;
@@ -36,9 +41,10 @@ pub fn signed_campaign_svg(alloc: Global, chronicle: &SignedChronicle) -> Result
     let rounds = scenario.bound() + 1;
     let wide = width(alloc, generals, accesses)?;
     let bottom = top_of(generals, plain.as_slice(), accesses, rounds);
+    let marks = marks(scenario, accesses, plain.as_slice());
     let mut text = String::from_str(alloc, start())?;
-    put_box(&mut text, wide + 16, bottom + 230)?;
-    put_head(&mut text, scenario, strokes.as_slice(), accesses)?;
+    put_box(&mut text, wide + 16, bottom + foot_height(marks))?;
+    put_head(&mut text, scenario, strokes.as_slice(), accesses, marks)?;
     put_heads(&mut text, scenario, accesses)?;
     put_bands(
         &mut text,
@@ -49,7 +55,7 @@ pub fn signed_campaign_svg(alloc: Global, chronicle: &SignedChronicle) -> Result
         wide,
         rounds,
     )?;
-    put_foot(&mut text, chronicle, wide, bottom)?;
+    put_foot(&mut text, chronicle, marks, wide, bottom)?;
     text.push_str("</svg>\n")?;
     Ok(text)
 }
@@ -60,15 +66,25 @@ fn put_head(
     scenario: &Scenario,
     strokes: &[ChainStroke],
     accesses: &[Access],
+    marks: Marks,
 ) -> Result<(), AllocError>
-    ensures { OnOk result (string_bytes out.new ≡ string_bytes out.old ++ head scenario.now strokes.now accesses.now) }
+    ensures { OnOk result (string_bytes out.new ≡ string_bytes out.old
+        ++ head scenario.now strokes.now accesses.now marks) }
+{
+    put_title_of(out, scenario)?;
+    put_description(out, strokes, accesses, marks)?;
+    out.push_str(look())?;
+    put_headline(out, scenario)?;
+    Ok(())
+}
+
+/// Adds which campaign it is, as the picture's title.
+fn put_title_of(out: &mut String, scenario: &Scenario) -> Result<(), AllocError>
+    ensures { OnOk result (string_bytes out.new ≡ string_bytes out.old ++ title (signed_words scenario.now)) }
 {
     put_title_start(out)?;
     put_signed_words(out, scenario)?;
-    put_title_end(out)?;
-    put_description(out, strokes, accesses)?;
-    out.push_str(look())?;
-    put_headline(out, scenario)
+    put_title_end(out)
 }
 
 /// Adds the campaign's numbers and, beside the columns, that its messages are signed.
@@ -113,24 +129,47 @@ fn put_description(
     out: &mut String,
     strokes: &[ChainStroke],
     accesses: &[Access],
+    marks: Marks,
 ) -> Result<(), AllocError>
-    ensures { OnOk result (string_bytes out.new ≡ string_bytes out.old ++ description strokes.now accesses.now) }
+    ensures { OnOk result (string_bytes out.new ≡ string_bytes out.old
+        ++ description strokes.now accesses.now marks) }
 {
-    out.push_str(key())?;
+    out.push_str(key_start())?;
+    put_stroke_key(out, marks)?;
+    put_shape_key(out, marks)?;
     put_several(out, strokes)?;
     put_copied(out, accesses)?;
     put_key_end(out)
 }
 
 /// What every description of such a picture begins with.
-#[tactic(auto, unfolding(crate::specs::Svg::key))]
-fn key() -> &'static str
-    ensures { result.now ≡ key }
+#[tactic(auto, unfolding(crate::specs::Svg::key_start))]
+fn key_start() -> &'static str
+    ensures { result.now ≡ key_start }
 {
     "<desc>A column for each general, and a band for each round, from above. In a band a line leads from who sends \
      chains to whom he sends them, one line for each order, as wide as it has chains; below stands in the column of \
-     the receiver what he was sent: the order, and who signed it, the commander first and the sender last. Circle \
-     and plain line: a loyal general in place of the sender would send so. Diamond and dashes: he would not. Cross \
-     and dots: he would, and nothing was sent. Above the lines stand the accesses to the board, in its order. \
-     Square: a traitor."
+     the receiver what he was sent: the order, and who signed it, the commander first and the sender last."
+}
+
+/// Adds what the marks of strokes mean.
+fn put_stroke_key(out: &mut String, marks: Marks) -> Result<(), AllocError>
+    ensures { OnOk result (string_bytes out.new ≡ string_bytes out.old ++ stroke_key marks) }
+{
+    put_if(
+        out,
+        marks.circle,
+        " Circle and plain line: a loyal general in place of the sender would send so.",
+    )?;
+    put_if(
+        out,
+        marks.diamond,
+        " Diamond and dashes: a loyal general would not send so.",
+    )?;
+    put_if(
+        out,
+        marks.cross,
+        " Cross and dots: a loyal general would send so, and it was not sent.",
+    )?;
+    Ok(())
 }

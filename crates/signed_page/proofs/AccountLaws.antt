@@ -1,6 +1,6 @@
 -- Signed campaigns' pages are elements.
 use Rattle.std.proofs.Common.{ℕ, ◌==◌, List, [], Option}
-use Rattle.std.specs.List.{flat_map, range_with_len}
+use Rattle.std.specs.List.{range_with_len}
 use Rattle.std.proofs.lemmas.Bool.{cond_both}
 use Rattle.markup.specs.Grammar.{IsContent, joined, no_text, text}
 use Rattle.page.specs.Page.{lines}
@@ -11,9 +11,9 @@ use Rattle.signed_diagram.proofs.PictureLaws.{proved_signed_diagrams_are_element
 use Rattle.trace.specs.SignedText.{signed_text}
 use Rattle.world.specs.Chronicle.{Chronicle}
 use Rattle.world.specs.declared.schedule.Repeat.{Repeat}
-use Rattle.campaign_page.specs.Account.{accesses_part, chronicle_shown, is_wide, programs_part, scenario_part, schedule_part, verdict_told}
-use Rattle.campaign_page.proofs.AccountLaws.{accesses_content, all, below, chronicle_content, programs_content, scenario_content, schedule_content, svg_content, verdict_content}
-use Rattle.signed_page.specs.Account.{bound_told, lieutenant_part, lieutenant_heading, lieutenant_told, lieutenants_heading, lieutenants_part, parts, picture_part, signed_title}
+use Rattle.campaign_page.specs.Account.{accesses_part, chronicle_shown, is_wide, lieutenants_fitted, programs_part, scenario_part, schedule_part, verdict_told}
+use Rattle.campaign_page.proofs.AccountLaws.{accesses_content, all, below, chronicle_content, lieutenants_fitted_content, programs_content, scenario_content, schedule_content, svg_content, verdict_content}
+use Rattle.signed_page.specs.Account.{bound_told, each_lieutenant, lieutenant_part, lieutenant_heading, lieutenant_told, lieutenants_heading, lieutenants_part, parts, picture_part, signed_title}
 use Rattle.signed_page.specs.Laws.{SignedPagesAreElements}
 
 picture_content : (c : Chronicle) → IsContent (picture_part c)
@@ -26,7 +26,8 @@ lieutenant_content c g =
 
 lieutenants_content : (c : Chronicle) → IsContent (lieutenants_part c)
 lieutenants_content c =
-    below lieutenants_heading (flat_map (lieutenant_part c) (range_with_len 0 c.scenario.generals)) (all (lieutenant_part c) (range_with_len 0 c.scenario.generals) (lieutenant_content c))
+    below lieutenants_heading (lieutenants_fitted (each_lieutenant c))
+    (lieutenants_fitted_content (each_lieutenant c) (all (lieutenant_part c) (range_with_len 0 c.scenario.generals) (lieutenant_content c)))
 
 parts_content : (words : List ℕ) (schedule : Option (List (List Repeat))) (c : Chronicle) → IsContent (parts words schedule c)
 unfolding parts

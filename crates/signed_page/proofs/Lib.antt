@@ -1,1 +1,2 @@
 mod AccountLaws
+mod ShortLaws

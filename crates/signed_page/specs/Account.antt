@@ -11,7 +11,7 @@ use Rattle.signed_diagram.specs.Svg.{signed_svg}
 use Rattle.trace.specs.SignedText.{signed_text}
 use Rattle.world.specs.Chronicle.{Chronicle}
 use Rattle.world.specs.declared.schedule.Repeat.{Repeat}
-use Rattle.campaign_page.specs.Account.{accesses_part, chronicle_shown, is_wide, picture_told, programs_part, promise_words, scenario_part, schedule_part, title, verdict_told}
+use Rattle.campaign_page.specs.Account.{accesses_part, chronicle_shown, is_wide, lieutenants_fitted, picture_told, programs_part, promise_words, scenario_part, schedule_part, title, verdict_told}
 
 -- the picture
 abbrev pub picture_part : Chronicle → List ℕ
@@ -40,8 +40,11 @@ lieutenant_told c g = fold (lieutenant_heading c g) (lines (acceptance_of c g))
 abbrev pub lieutenant_part : Chronicle → ℕ → List ℕ
 lieutenant_part c g = if g == c.scenario.commander then [] else lieutenant_told c g
 
+abbrev pub each_lieutenant : Chronicle → List ℕ
+each_lieutenant c = flat_map (lieutenant_part c) (range_with_len 0 c.scenario.generals)
+
 abbrev pub lieutenants_part : Chronicle → List ℕ
-lieutenants_part c = heading lieutenants_heading ++ flat_map (lieutenant_part c) (range_with_len 0 c.scenario.generals)
+lieutenants_part c = heading lieutenants_heading ++ lieutenants_fitted (each_lieutenant c)
 
 -- which promise holds (TOPLAS 1982, Theorem 2)
 abbrev pub bound_told : Bool → List ℕ

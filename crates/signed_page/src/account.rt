@@ -51,7 +51,7 @@ fn put_parts(
     ensures { OnOk result (string_bytes out.new ≡ string_bytes out.old
         ++ parts scenario_text.now (option_map (λ s. s.now) schedule.entry) chronicle.now) }
 {
-    put_scenario(out, scenario_text)?;
+    put_scenario(alloc, out, scenario_text)?;
     put_schedule(alloc, out, schedule)?;
     put_programs_of(alloc, out, chronicle)?;
     put_diagram(alloc, out, chronicle)?;

@@ -1,8 +1,13 @@
-//! A law of such pages: the function does nothing, and its contract is the law.
-ghost use Rattle.signed_page.specs.Laws.{SignedPagesAreElements};
+//! Laws of such pages: each function does nothing, and its contract is the law.
+ghost use Rattle.signed_page.specs.Laws.{SignedPagesAreElements, SignedPagesAreShort};
 
 /// A signed campaign's page is a line that says that it is HTML, and one element, whatever the scenario's text and the
 /// chronicle.
 pub fn signed_pages_are_elements()
     ensures { SignedPagesAreElements }
+{}
+
+/// No page is longer than 2,000,000 bytes, whatever the scenario's text, the schedule and the chronicle.
+pub fn signed_pages_are_short()
+    ensures { SignedPagesAreShort }
 {}

@@ -8,4 +8,4 @@ mod lieutenants;
 mod verdict;
 
 pub use account::signed_page_text;
-pub use laws::signed_pages_are_elements;
+pub use laws::{signed_pages_are_elements, signed_pages_are_short};

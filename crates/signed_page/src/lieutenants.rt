@@ -1,9 +1,9 @@
 //! What each lieutenant of a signed campaign accepted, and why he decides so.
-ghost use Rattle.std.specs.Prelude.{◌≡◌, ◌<◌, ◌++◌, flat_map, slice_get, string_bytes, IfOk, OnOk};
-ghost use Rattle.std.specs.List.{range_with_len};
+ghost use Rattle.std.specs.Prelude.{◌≡◌, ◌<◌, ◌++◌, slice_get, string_bytes, IfOk, OnOk};
 ghost use Rattle.diagram.specs.Foot.{place_of};
-ghost use Rattle.signed_page.specs.Account.{lieutenant_part, lieutenant_words, lieutenants_heading, lieutenants_part, traitor_words};
+ghost use Rattle.signed_page.specs.Account.{each_lieutenant, lieutenant_part, lieutenant_words, lieutenants_heading, lieutenants_part, traitor_words};
 
+use campaign_page::put_fitted_lieutenants;
 use page::{put_fold_end, put_fold_start, put_heading, put_lines};
 use signed::{SignedChronicle, explain_one_signed};
 use std::alloc::{AllocError, Global};
@@ -16,8 +16,10 @@ pub(crate) fn put_lieutenants(
 ) -> Result<(), AllocError>
     ensures { OnOk result (string_bytes out.new ≡ string_bytes out.old ++ lieutenants_part chronicle.now) }
 {
+    let mut told = String::new(alloc);
+    put_each_lieutenant(alloc, &mut told, chronicle)?;
     put_heading(out, lieutenants_heading())?;
-    put_each_lieutenant(alloc, out, chronicle)
+    put_fitted_lieutenants(alloc, out, told.as_str())
 }
 
 /// Adds that of each lieutenant.
@@ -26,8 +28,7 @@ fn put_each_lieutenant(
     out: &mut String,
     chronicle: &SignedChronicle,
 ) -> Result<(), AllocError>
-    ensures { OnOk result (string_bytes out.new ≡ string_bytes out.old
-        ++ flat_map (lieutenant_part chronicle.now) (range_with_len 0 chronicle.now.scenario.generals)) }
+    ensures { OnOk result (string_bytes out.new ≡ string_bytes out.old ++ each_lieutenant chronicle.now) }
 {
     for general in 0..chronicle.scenario().generals() {
         put_lieutenant_of(alloc, out, chronicle, general)?;

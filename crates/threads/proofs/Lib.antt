@@ -8,4 +8,3 @@ pub mod Tasks
 pub mod Concluded
 pub mod Among
 pub mod Numbered
-pub mod Ending

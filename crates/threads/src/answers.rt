@@ -1,37 +1,22 @@
 //! What the answers of others come to: which error stands for them.
-ghost use Rattle.std.specs.Prelude.{◌≡◌, ◌≤◌, ◌+◌, ◌++◌, ◌∷◌, [], length, find, is_some, Ok, Err, Some, MatchBool, MatchOption, MatchResult};
-ghost use Rattle.threads.specs.Answers.{ended_as, first_failure};
+ghost use Rattle.std.specs.Prelude.{◌≡◌, ◌≤◌, ◌+◌, ◌++◌, ◌∷◌, [], length, Ok, Err, IsSomeAnd, MatchBool, MatchOption, MatchResult};
 ghost use Rattle.threads.specs.declared.error.MusterError.TheVariants.{Memory, Unaccounted, Spawn, Post};
 
 use crate::error::MusterError;
 use letter::Letter;
 
-/// The error of the lowest general who has failed, where these are the generals' failures, ascending.
-pub(crate) fn first_failure(failures: &[Option<MusterError>]) -> Option<MusterError>
-    ensures { result ≡ first_failure failures.now }
-{
-    first_failed(failures).flatten()
+/// Why not all threads were started, as `kept` alone tells.
+#[derive(Clone, Copy, Debug)]
+pub(crate) struct Refused {
+    error: MusterError,
 }
 
-/// The first of the failures.
-fn first_failed(failures: &[Option<MusterError>]) -> Option<Option<MusterError>>
-    ensures { result ≡ find (λ failure. is_some failure) failures.now }
-{
-    failures.iter().copied().find(|failure| failure.is_some())
-}
-
-/// The outcome, unless something was refused before, or someone has failed.
-pub(crate) fn ended<T: Drop>(
-    refused: Option<MusterError>,
-    failed: Option<MusterError>,
-    outcome: Result<T, MusterError>,
-) -> Result<T, MusterError>
-    ensures { result ≡ ended_as refused failed outcome }
-{
-    match (refused, failed) {
-        (Some(error), _) => Err(error),
-        (None, Some(error)) => Err(error),
-        (None, None) => outcome,
+impl Refused {
+    /// The error that tells it.
+    pub(crate) fn error(self) -> MusterError
+        ensures { result ≡ self.error }
+    {
+        self.error
     }
 }
 
@@ -68,20 +53,18 @@ pub(crate) fn found<T: Drop>(found: Option<T>) -> Result<T, MusterError>
 
 /// Keeps the handle of a thread that was started: what went wrong, where one was not or there is no memory for the
 /// handle.
-pub(crate) fn kept<H: Drop, E: Drop>(
-    handles: &mut Vec<H>,
-    started: Result<H, E>,
-) -> Option<MusterError>
+pub(crate) fn kept<H: Drop, E: Drop>(handles: &mut Vec<H>, started: Result<H, E>) -> Option<Refused>
     ensures handle { MatchResult started
-        (λ handle. MatchOption result (handles.new.items ≡ handles.old.items ++ handle ∷ []) (λ e. e ≡ Memory))
-        (λ _. result ≡ Some Spawn) }
+        (λ handle. MatchOption result (handles.new.items ≡ handles.old.items ++ handle ∷ []) (λ r. r.error ≡ Memory))
+        (λ _. IsSomeAnd result (λ r. r.error ≡ Spawn)) }
     ensures more { length handles.new.items ≤ length handles.old.items + 1 }
 {
-    match started {
-        Err(_) => Some(MusterError::Spawn),
+    let error = match started {
+        Err(_) => MusterError::Spawn,
         Ok(handle) => match handles.push(handle) {
-            Ok(()) => None,
-            Err(error) => Some(MusterError::from(error)),
+            Ok(()) => return None,
+            Err(error) => MusterError::from(error),
         },
-    }
+    };
+    Some(Refused { error })
 }

@@ -1,22 +1,23 @@
 //! The letters of a campaign whose generals stay in their threads for all rounds.
-ghost use Rattle.std.specs.Prelude.{◌≡◌, ℕ, ◌<◌, ◌≤◌, [], suc, length, slice_index_or, Err, IfOk, IfSome};
+ghost use Rattle.std.specs.Prelude.{◌≡◌, ℕ, ◌<◌, ◌≤◌, [], suc, length, slice_index_or, vec_capacity, None, IsPermutation, IfOk};
 ghost use Rattle.delivery.specs.Told.{WasTold};
 ghost use Rattle.post.specs.Seen.{PosterSeen, poster_seen};
+ghost use Rattle.threads.specs.Answers.{AreAscending};
 ghost use Rattle.threads.specs.Inboxes.{AreOwn};
 
-use crate::answers::{ended, first_failure, kept};
+use crate::answers::{Refused, kept};
 use crate::camp::Camp;
 use crate::conducting::conduct;
+use crate::ending::Ending;
 use crate::error::MusterError;
 use crate::gate::Gate;
-use crate::inbox::Closed;
-use arrayvec::ArrayVec;
+use crate::resident::Answer;
 use delivery::Told;
 use letter::Round;
 use post::{Collector, Poster};
 use roster::Scenario;
 use shared_board::{Room, SharedBoard, Witness};
-use std::alloc::Global;
+use std::alloc::{AllocError, Global};
 use std::sync::Wait;
 use std::thread;
 use std::thread::{JoinHandle, Threads};
@@ -42,12 +43,17 @@ pub(crate) fn collect<R: Threads + Wait + Sync, G: Gate + Sync, J: Room + Send +
     ensures told { IfOk result (λ r. WasTold scenario.now r.0.items r.1) }
 {
     let (camp, posters, collector) = Camp::new(alloc, scenario.generals(), gate, board)?;
-    through_residents(
+    let ending = through_residents(
         rt, alloc, scenario, &camp, posters, witnesses, collector, stack,
-    )
+    )?;
+    ending.told()
 }
 
-/// The same, from the generals of these posters, in this camp.
+/// What the generals of these posters come to, in this camp.
+///
+/// # Errors
+///
+/// `AllocError` where memory is refused before a thread is started.
 fn through_residents<R: Threads + Wait + Sync, G: Gate + Sync, J: Room + Send + Sync>(
     rt: &R,
     alloc: Global,
@@ -57,7 +63,7 @@ fn through_residents<R: Threads + Wait + Sync, G: Gate + Sync, J: Room + Send + 
     mut witnesses: Vec<Witness<J>>,
     collector: Collector,
     stack: usize,
-) -> Result<(Vec<Round>, Told), MusterError>
+) -> Result<Ending, AllocError>
     requires few { length posters.items ≤ 13 }
     requires witnesses { length posters.items ≤ length witnesses.items }
     requires posters { (g : ℕ) (d : PosterSeen) → g < length posters.items →
@@ -66,15 +72,20 @@ fn through_residents<R: Threads + Wait + Sync, G: Gate + Sync, J: Room + Send + 
     requires generals { scenario.now.generals ≤ length camp.now.inboxes.items }
     requires own { AreOwn camp.now.inboxes.items }
     requires collector { collector.table ≡ camp.now.post.table }
-    ensures rounds { IfOk result (λ r. length r.0.items ≡ suc scenario.now.bound) }
-    ensures told { IfOk result (λ r. WasTold scenario.now r.0.items r.1) }
+    ensures all { IfOk result (λ ending. ending.refused ≡ None → length ending.answers.items ≡ length posters.items) }
+    ensures ascending { IfOk result (λ ending. AreAscending ending.answers.items) }
+    ensures rounds { IfOk result
+        (λ ending. IfOk ending.outcome (λ r. length r.0.items ≡ suc scenario.now.bound)) }
+    ensures told { IfOk result (λ ending. IfOk ending.outcome (λ r. WasTold scenario.now r.0.items r.1)) }
 {
     let mut handles = Vec::with_capacity(alloc, posters.len())?;
-    thread::scope(
+    let answers = Vec::with_capacity(alloc, posters.len())?;
+    let ending = thread::scope(
         thread::scope_env(),
         rt,
-        |scope| -> Result<(Vec<Round>, Told), MusterError>
-            requires fresh { handles.items ≡ [] }
+        |scope| -> Ending
+            requires fresh { (handles.items ≡ []) × (answers.items ≡ []) }
+            requires room { length posters.items ≤ vec_capacity answers }
             requires few { length posters.items ≤ 13 }
             requires witnesses { length posters.items ≤ length witnesses.items }
             requires posters { (g : ℕ) (d : PosterSeen) → g < length posters.items →
@@ -83,8 +94,10 @@ fn through_residents<R: Threads + Wait + Sync, G: Gate + Sync, J: Room + Send + 
             requires generals { scenario.now.generals ≤ length camp.now.inboxes.items }
             requires own { AreOwn camp.now.inboxes.items }
             requires collector { collector.table ≡ camp.now.post.table }
-            ensures rounds { IfOk result (λ r. length r.0.items ≡ suc scenario.entry.now.bound) }
-            ensures told { IfOk result (λ r. WasTold scenario.entry.now r.0.items r.1) }
+            ensures all { result.refused ≡ None → length result.answers.items ≡ length posters.entry.items }
+            ensures ascending { AreAscending result.answers.items }
+            ensures rounds { IfOk result.outcome (λ r. length r.0.items ≡ suc scenario.entry.now.bound) }
+            ensures told { IfOk result.outcome (λ r. WasTold scenario.entry.now r.0.items r.1) }
         {
             let mut refused = None;
             while let Some(poster) = posters.pop() {
@@ -94,7 +107,7 @@ fn through_residents<R: Threads + Wait + Sync, G: Gate + Sync, J: Room + Send + 
                 let resident = camp.resident(posters.len() as u8);
                 let started = thread::Builder::new().stack_size(stack).spawn_scoped(
                     scope,
-                    move || -> Result<Closed, MusterError>
+                    move || -> Answer
                         requires post { poster.table ≡ camp.now.post.table }
                         requires general { poster.general ≡ resident.general }
                     { resident.stay(rt, alloc, &camp.post, poster, me) },
@@ -104,48 +117,51 @@ fn through_residents<R: Threads + Wait + Sync, G: Gate + Sync, J: Room + Send + 
                     break;
                 }
             }
-            finish(rt, alloc, scenario, camp, collector, handles, refused)
+            finish(
+                rt, alloc, scenario, camp, collector, handles, answers, refused,
+            )
         },
-    )
+    );
+    Ok(ending)
 }
 
-/// Conducts the rounds, unless something was refused, then sends the generals home and waits for their threads, which
-/// were started from the highest general on.
-///
-/// # Errors
-///
-/// What was refused; else the error of the lowest general who failed, if one has; else as `conduct`.
+/// Conducts the rounds, unless a thread was refused, then sends the generals home and waits for their threads: what
+/// that has come to.
 fn finish<R: Threads + Wait, G, J: Room>(
     rt: &R,
     alloc: Global,
     scenario: &Scenario,
     camp: &Camp<G, J>,
     collector: Collector,
-    handles: Vec<JoinHandle<Result<Closed, MusterError>>>,
-    refused: Option<MusterError>,
-) -> Result<(Vec<Round>, Told), MusterError>
+    handles: Vec<JoinHandle<Answer>>,
+    answers: Vec<Answer>,
+    refused: Option<Refused>,
+) -> Ending
     requires collector { collector.table ≡ camp.now.post.table }
     requires inboxes { scenario.now.generals ≤ length camp.now.inboxes.items }
     requires own { AreOwn camp.now.inboxes.items }
-    requires few { length handles.items ≤ 13 }
-    ensures refused { IfSome refused (λ e. result ≡ Err e) }
-    ensures rounds { IfOk result (λ r. length r.0.items ≡ suc scenario.now.bound) }
-    ensures told { IfOk result (λ r. WasTold scenario.now r.0.items r.1) }
+    requires fresh { answers.items ≡ [] }
+    requires room { length handles.items ≤ vec_capacity answers }
+    ensures refused { result.refused ≡ refused }
+    ensures all { length result.answers.items ≡ length handles.items }
+    ensures ascending { AreAscending result.answers.items }
+    ensures rounds { IfOk result.outcome (λ r. length r.0.items ≡ suc scenario.now.bound) }
+    ensures told { IfOk result.outcome (λ r. WasTold scenario.now r.0.items r.1) }
 {
     let outcome = conducted(rt, alloc, scenario, camp, collector, refused);
     camp.close(rt);
-    let failures = failures(rt, handles);
-    ended(refused, first_failure(failures.as_slice()), outcome)
+    let answers = by_general(joined(rt, handles, answers));
+    Ending::new(refused, answers, outcome)
 }
 
-/// Conducts the rounds, unless something was refused.
+/// Conducts the rounds, unless a thread was refused.
 fn conducted<R: Wait, G, J: Room>(
     rt: &R,
     alloc: Global,
     scenario: &Scenario,
     camp: &Camp<G, J>,
     collector: Collector,
-    refused: Option<MusterError>,
+    refused: Option<Refused>,
 ) -> Result<(Vec<Round>, Told), MusterError>
     requires collector { collector.table ≡ camp.now.post.table }
     requires inboxes { scenario.now.generals ≤ length camp.now.inboxes.items }
@@ -154,22 +170,35 @@ fn conducted<R: Wait, G, J: Room>(
     ensures told { IfOk result (λ r. WasTold scenario.now r.0.items r.1) }
 {
     match refused {
-        Some(error) => Err(error),
+        Some(refused) => Err(refused.error()),
         None => conduct(rt, alloc, scenario, camp, collector),
     }
 }
 
-/// Waits for the threads of the generals, who were started from the highest on: by what each has failed, ascending.
-fn failures<R: Threads>(
+/// Waits for the threads of the generals: an answer of each, in a list that has room for them.
+fn joined<R: Threads>(
     rt: &R,
-    mut handles: Vec<JoinHandle<Result<Closed, MusterError>>>,
-) -> ArrayVec<Option<MusterError>, 13>
-    requires { length handles.items ≤ 13 }
+    mut handles: Vec<JoinHandle<Answer>>,
+    mut answers: Vec<Answer>,
+) -> Vec<Answer>
+    requires fresh { answers.items ≡ [] }
+    requires room { length handles.items ≤ vec_capacity answers }
     ensures { length result.items ≡ length handles.items }
 {
-    let mut failures = ArrayVec::new();
     while let Some(handle) = handles.pop() {
-        failures.push(handle.join(rt).err());
+        let Ok(()) = answers.push(handle.join(rt)) else {
+            unreachable!()
+        };
     }
-    failures
+    answers
+}
+
+/// The same answers, ascending by general.
+fn by_general(mut answers: Vec<Answer>) -> Vec<Answer>
+    ensures same { IsPermutation answers.items result.items }
+    ensures count { length result.items ≡ length answers.items }
+    ensures ascending { AreAscending result.items }
+{
+    answers.sort_unstable_by_key(|answer| answer.general());
+    answers
 }

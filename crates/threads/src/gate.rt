@@ -1,6 +1,5 @@
 //! What holds a general before each access.
-ghost use Rattle.std.specs.Prelude.{◌≡◌, length};
-
+use crate::made::{Made, Passed};
 use board::Access;
 use round::Server;
 use semantics::{Reply, Request};
@@ -34,7 +33,7 @@ pub(crate) struct Gated<'a, R, G, J: Room> {
     /// His leave to have accesses served.
     pub(crate) me: Witness<J>,
     /// The accesses that he has made in this round.
-    pub(crate) made: Vec<Access>,
+    pub(crate) made: Made,
 }
 
 impl<'a, R, G, J: Room> Model for Gated<'a, R, G, J> {
@@ -42,25 +41,16 @@ impl<'a, R, G, J: Room> Model for Gated<'a, R, G, J> {
 
     ghost Value = { Served };
 
-    ghost view = { λ g. record { made = g.made.items; seen = g.me.seen } };
+    ghost view = { λ g. record { made = g.made.accesses.items; seen = g.me.seen } };
 
-    ghost invariant = { λ g. AreAmong g.made.items g.me.seen };
-}
-
-impl<'a, R, G: Gate, J: Room> Gated<'a, R, G, J> {
-    /// Waits at the gate before the access of this number, counted from 0.
-    fn pass_gate(&self, general: u32, round: u32, nth: u64)
-        requires { nth ≡ length self.now.made }
-    {
-        self.gate.before_access(general, round, nth);
-    }
+    ghost invariant = { λ g. AreAmong g.made.accesses.items g.me.seen };
 }
 
 impl<'a, R: Wait, G: Gate, J: Room> Server for Gated<'a, R, G, J> {
     ghost served = { λ gated. gated.made };
 
     fn serve(&mut self, general: u32, round: u32, request: Request) -> Result<Reply, AllocError> {
-        self.pass_gate(general, round, self.made.len() as u64);
+        let passed = Passed::gate(self.gate, general, round, self.made.count());
         let reply = self
             .board
             .apply(self.rt, &mut self.me, general, round, request)?;
@@ -70,7 +60,7 @@ impl<'a, R: Wait, G: Gate, J: Room> Server for Gated<'a, R, G, J> {
             request,
             reply,
         };
-        self.made.push(access.copy(self.alloc)?)?;
+        self.made.enter(passed, access.copy(self.alloc)?)?;
         let Access { reply, .. } = access;
         Ok(reply)
     }

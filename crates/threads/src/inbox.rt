@@ -1,6 +1,7 @@
 //! Where a general waits for his next task.
 ghost use Rattle.std.specs.Prelude.{◌≡◌, IfErr};
 ghost use Rattle.threads.specs.Inboxes.{task_in, left_in};
+ghost use Rattle.threads.specs.declared.inbox.Phase.TheVariants.{Given, Closed as NoMore};
 
 use crate::task::Task;
 use std::mem;
@@ -17,8 +18,38 @@ enum Phase {
     Closed,
 }
 
+impl Phase {
+    /// A task is to be done.
+    fn give(&mut self, task: Task)
+        ensures { self.new ≡ Given task }
+    {
+        *self = Phase::Given(task);
+    }
+
+    /// No task will come any more.
+    fn close(&mut self)
+        ensures { self.new ≡ NoMore }
+    {
+        *self = Phase::Closed;
+    }
+
+    /// Takes the task that is given; where none is, the inbox is closed.
+    fn take(&mut self) -> Option<Task>
+        ensures task { result ≡ task_in self.old }
+        ensures left { self.new ≡ left_in self.old }
+    {
+        match mem::replace(self, Phase::Waiting) {
+            Phase::Given(task) => Some(task),
+            Phase::Waiting | Phase::Closed => {
+                self.close();
+                None
+            }
+        }
+    }
+}
+
 /// That an inbox is closed: only the inbox tells so.
-#[derive(Clone, Copy, Debug)]
+#[derive(Drop)]
 pub(crate) struct Closed {
     /// Whose it is.
     general: u32,
@@ -49,13 +80,13 @@ impl Inbox {
     pub(crate) fn put<R: Wait>(&self, rt: &R, task: Task)
         requires { task.general ≡ self.now.general }
     {
-        *self.phase.lock(rt) = Phase::Given(task);
+        self.phase.lock(rt).give(task);
         self.changed.notify_one();
     }
 
     /// Closes the inbox for good: who waits at it goes home.
     pub(crate) fn close<R: Wait>(&self, rt: &R) {
-        *self.phase.lock(rt) = Phase::Closed;
+        self.phase.lock(rt).close();
         self.changed.notify_one();
     }
 
@@ -70,25 +101,11 @@ impl Inbox {
         let mut phase = self.changed.wait_while(rt, self.phase.lock(rt), |phase| {
             matches!(phase, Phase::Waiting)
         });
-        let Some(task) = taken(&mut phase) else {
+        let Some(task) = phase.take() else {
             return Err(Closed {
                 general: self.general,
             });
         };
         Ok(task)
-    }
-}
-
-/// Takes the task that is given; where none is, the inbox is closed.
-fn taken(phase: &mut Phase) -> Option<Task>
-    ensures task { result ≡ task_in phase.old }
-    ensures left { phase.new ≡ left_in phase.old }
-{
-    match mem::replace(phase, Phase::Waiting) {
-        Phase::Given(task) => Some(task),
-        Phase::Waiting | Phase::Closed => {
-            *phase = Phase::Closed;
-            None
-        }
     }
 }

@@ -1,6 +1,7 @@
 //! A general's thread through all rounds.
 ghost use Rattle.std.specs.Prelude.{◌≡◌, ◌≢◌, ◌++◌, ◌∷◌, [], Err, IfOk, IfErr};
 ghost use Rattle.letter.specs.Letters.{Letter as LetterSeen};
+ghost use Rattle.threads.specs.Answers.{failure_of};
 ghost use Rattle.threads.specs.Duties.{IsDone};
 ghost use Rattle.threads.specs.Served.{AreAmong};
 ghost use Rattle.threads.specs.declared.error.MusterError.TheVariants.{Unaccounted, Spawn, Post as PostFull};
@@ -9,6 +10,7 @@ use crate::answers::{accounted, posted};
 use crate::error::MusterError;
 use crate::gate::{Gate, Gated};
 use crate::inbox::{Closed, Inbox};
+use crate::made::Made;
 use crate::tally::Tally;
 use crate::task::Task;
 use letter::Letter;
@@ -16,6 +18,34 @@ use post::{Post, Poster};
 use shared_board::{Room, SharedBoard, Witness};
 use std::alloc::Global;
 use std::sync::Wait;
+
+/// What a general's thread has answered, as `stay` alone does.
+#[derive(Drop)]
+pub(crate) struct Answer {
+    /// Whose it is.
+    general: u32,
+    /// That his inbox was closed, with his poster, which a task that fails takes from him; or by what he has failed.
+    ended: Result<(Closed, Poster), MusterError>,
+}
+
+impl Answer {
+    /// Whose it is.
+    pub(crate) fn general(&self) -> u32
+        ensures { result ≡ self.now.general }
+    {
+        self.general
+    }
+
+    /// By what he has failed, if he has.
+    pub(crate) fn failure(&self) -> Option<MusterError>
+        ensures { result ≡ failure_of self.now }
+    {
+        match &self.ended {
+            Ok(_) => None,
+            Err(error) => Some(*error),
+        }
+    }
+}
 
 /// A general who stays for all rounds: his inbox, and what he shares with the others.
 #[derive(Drop)]
@@ -28,11 +58,8 @@ pub(crate) struct Resident<'a, G, J: Room> {
 }
 
 impl<'a, G: Gate, J: Room> Resident<'a, G, J> {
-    /// Does his tasks until his inbox is closed. Where he fails, he says so to the one who waits for the letters.
-    ///
-    /// # Errors
-    ///
-    /// As `do_tasks`.
+    /// Does his tasks until his inbox is closed, or he fails; where he fails, he says so to the one who waits for the
+    /// letters.
     pub(crate) fn stay<R: Wait>(
         self,
         rt: &R,
@@ -40,20 +67,27 @@ impl<'a, G: Gate, J: Room> Resident<'a, G, J> {
         post: &Post,
         poster: Poster,
         me: Witness<J>,
-    ) -> Result<Closed, MusterError>
+    ) -> Answer
         requires post { poster.table ≡ post.now.table }
         requires general { poster.general ≡ self.general }
-        ensures closed { IfOk result (λ closed. closed.general ≡ self.entry.inbox.now.general) }
-        ensures started { IfErr result (λ e. e ≢ Spawn) }
+        ensures general { result.general ≡ self.entry.general }
+        ensures closed { IfOk result.ended (λ r. r.0.general ≡ self.entry.inbox.now.general) }
+        ensures poster { IfOk result.ended (λ r. r.1.table ≡ post.now.table) }
+        ensures his { IfOk result.ended (λ r. r.1.general ≡ self.entry.general) }
+        ensures started { IfErr result.ended (λ e. e ≢ Spawn) }
     {
         let ended = self.do_tasks(rt, alloc, post, poster, me);
         if ended.is_err() {
             self.tally.failed(rt);
         }
-        ended
+        Answer {
+            general: self.general,
+            ended,
+        }
     }
 
-    /// Does the tasks that his inbox gives him, until the inbox is closed: nothing else ends them without an error.
+    /// Does the tasks that his inbox gives him, until the inbox is closed: nothing else ends them without an error, and
+    /// none of them has failed, since his poster is still there.
     ///
     /// # Errors
     ///
@@ -65,16 +99,18 @@ impl<'a, G: Gate, J: Room> Resident<'a, G, J> {
         post: &Post,
         mut poster: Poster,
         mut me: Witness<J>,
-    ) -> Result<Closed, MusterError>
+    ) -> Result<(Closed, Poster), MusterError>
         requires post { poster.table ≡ post.now.table }
         requires general { poster.general ≡ self.now.general }
-        ensures closed { IfOk result (λ closed. closed.general ≡ self.now.inbox.now.general) }
+        ensures closed { IfOk result (λ r. r.0.general ≡ self.now.inbox.now.general) }
+        ensures poster { IfOk result (λ r. r.1.table ≡ post.now.table) }
+        ensures his { IfOk result (λ r. r.1.general ≡ self.now.general) }
         ensures started { IfErr result (λ e. e ≢ Spawn) }
     {
         for _ in rt.forever() {
             let task = match self.inbox.next(rt) {
                 Ok(task) => task,
-                Err(closed) => return Ok(closed),
+                Err(closed) => return Ok((closed, poster)),
             };
             let (again, later) = self.do_task(rt, alloc, post, poster, me, task)?;
             poster = again;
@@ -142,7 +178,7 @@ impl<'a, G: Gate, J: Room> Resident<'a, G, J> {
             gate: self.gate,
             board: self.board,
             me,
-            made: Vec::new(alloc),
+            made: Made::new(alloc),
         };
         let letter = task.letter(alloc, &mut server)?;
         let Gated { me, .. } = server;

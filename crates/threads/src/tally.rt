@@ -1,5 +1,5 @@
 //! How far the generals have come in a round.
-ghost use Rattle.std.specs.Prelude.{◌≡◌, ◌↔◌, ◌⊎◌, ◌+◌, ◌≤◌, min, true, IsTrue};
+ghost use Rattle.std.specs.Prelude.{◌≡◌, ◌↔◌, ◌⊎◌, ◌+◌, ◌≤◌, min, true, false, IsTrue};
 
 use std::sync::{Condvar, Mutex, Wait};
 
@@ -19,6 +19,22 @@ impl Count {
             posted: self.posted.saturating_add(1),
             failed: self.failed,
         }
+    }
+
+    /// A general has failed.
+    fn fail(&mut self)
+        ensures { self.new ≡ record self.old { failed = true } }
+    {
+        self.failed = true;
+    }
+
+    /// Begins the next round: whether nobody has failed.
+    fn begin_again(&mut self) -> bool
+        ensures count { self.new ≡ record self.old { posted = 0 } }
+        ensures nobody { IsTrue result ↔ (self.old.failed ≡ false) }
+    {
+        self.posted = 0;
+        !self.failed
     }
 
     /// Whether nobody has to be waited for: so many have posted, or one has failed.
@@ -64,7 +80,7 @@ impl Tally {
 
     /// A general has failed: no more letters will come of him.
     pub(crate) fn failed<R: Wait>(&self, rt: &R) {
-        self.count.lock(rt).failed = true;
+        self.count.lock(rt).fail();
         self.changed.notify_one();
     }
 
@@ -76,7 +92,6 @@ impl Tally {
             self.count.lock(rt),
             |count| !count.is_over(self.generals),
         );
-        count.posted = 0;
-        !count.failed
+        count.begin_again()
     }
 }

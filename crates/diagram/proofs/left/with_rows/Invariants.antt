@@ -1,6 +1,6 @@
 use Rattle.std.proofs.Common.{◌≡◌, take}
 use Rattle.std.specs.Prelude.{filter}
-use Rattle.diagram.specs.Left.{has_row}
+use Rattle.diagram.specs.Lists.{has_row}
 use Rattle.diagram.proofs.left.with_rows.Given as goal
 
 -- those of the strokes so far

@@ -1,5 +1,12 @@
+use Rattle.std.proofs.Common.{◌≡◌, length}
 use Rattle.shrink.specs.Shrinking.{IsBroken, IsPartOf}
+use Rattle.shrink.proofs.Walks.{AllSoFar}
 use Rattle.shrink.proofs.lessening.fewest_lies.Given as goal
 
 abbrev pub invariant-loop-place : goal.invariant-loop-place
-invariant-loop-place l = IsBroken l.left × IsPartOf l.fn.plot l.left
+invariant-loop-place l = record {
+  broken : IsBroken l.left;
+  part : IsPartOf l.fn.plot l.left;
+  same : length l.left.traitors ≡ length l.fn.plot.traitors;
+  far : AllSoFar l.fn.plot l.place l.left;
+}

@@ -1,5 +1,10 @@
+use Rattle.std.proofs.Common.{◌-◌, length}
 use Rattle.shrink.specs.Shrinking.{IsBroken, IsPartOf}
+use Rattle.shrink.proofs.Walks.{TraitorsSoFar}
 use Rattle.shrink.proofs.lessening.fewest_traitors.Given as goal
 
-abbrev pub invariant-loop : goal.invariant-loop
-invariant-loop l = IsBroken l.left × IsPartOf l.fn.plot l.left
+abbrev pub invariant-loop-place : goal.invariant-loop-place
+invariant-loop-place l = record { broken : IsBroken l.left; part : IsPartOf l.fn.plot l.left; far : TraitorsSoFar l.fn.plot l.place l.left }
+
+abbrev pub decreases-loop-place : goal.decreases-loop-place
+decreases-loop-place l = length l.left.traitors - l.place

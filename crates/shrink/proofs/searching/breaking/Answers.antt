@@ -1,5 +1,4 @@
-use Rattle.std.proofs.Common.{ℕ, ◌≤◌, ◌<◌, ◌≡◌, None, Some, subst, arith, ⊎_elim}
-use Rattle.std.proofs.lemmas.Bool.{cases_lt}
+use Rattle.std.proofs.Common.{ℕ, None, Some, subst, arith}
 use Rattle.survey.specs.Plot.{Plot}
 use Rattle.survey.specs.Plotting.{plot_of}
 use Rattle.shrink.specs.Breaches.{AreAllSound, IsLeastBreach, narrowed, IsRefusedIn}

@@ -3,27 +3,13 @@ use Rattle.std.specs.List.{AllZip}
 use Rattle.rayon.specs.Numbers.{nat_range}
 use Rattle.rayon.proofs.ListFacts.{IfOk-then}
 use Rattle.survey.specs.Plotting.{plot_of}
-use Rattle.shrink.specs.Breaches.{IsRefusedBy, IsShrunk}
-use Rattle.shrink.proofs.Found.{Both, all_found, all_refused, goods}
+use Rattle.shrink.specs.Breaches.{IsAnswerTo}
 use Rattle.shrink.proofs.searching.gathered.Goals as goal
 
-pub returns-clause-shrunk : goal.returns-clause-shrunk
-returns-clause-shrunk g c =
+pub returns : goal.returns
+returns g c =
     let ends = c.into_par_iter.ensures in
-    let R = IsShrunk (plot_of c.args.family.now) in
-    let Q = IsRefusedBy (plot_of c.args.family.now) in
     IfOk-then c.collect.result _ _ c.collect.ensures (λ v h.
     let chain = rw (c.with_min_len.ensures.base, c.map.ensures.base, c.map.ensures.f) at h.1 in
     let places = chain.1 ∙ (λ i. nat_range (ends.0 i) (ends.1 i)) in
-    let all = subst (λ (seeds : List ℕ). AllZip (Both R Q) seeds h.0) places chain.2 in
-    all_found R (nat_range c.args.first c.args.end) h.0 v (goods R Q (nat_range c.args.first c.args.end) h.0 all) h.2)
-
-pub returns-clause-refused : goal.returns-clause-refused
-returns-clause-refused g c =
-    let ends = c.into_par_iter.ensures in
-    let R = IsShrunk (plot_of c.args.family.now) in
-    let Q = IsRefusedBy (plot_of c.args.family.now) in
-    IfOk-then c.collect.result _ _ c.collect.ensures (λ v h.
-    let chain = rw (c.with_min_len.ensures.base, c.map.ensures.base, c.map.ensures.f) at h.1 in
-    let places = chain.1 ∙ (λ i. nat_range (ends.0 i) (ends.1 i)) in
-    all_refused R (plot_of c.args.family.now) c.args.first c.args.end h.0 v (subst (λ (seeds : List ℕ). AllZip (Both R Q) seeds h.0) places chain.2) h.2)
+    rw h.2 (subst (λ (seeds : List ℕ). AllZip (IsAnswerTo (plot_of c.args.family.now)) seeds h.0) places chain.2))

@@ -1,8 +1,9 @@
 use Rattle.shrink.specs.Shrinking.{IsBroken, IsPartOf, size}
+use Rattle.shrink.proofs.Walks.{ShrunkSoFar}
 use Rattle.shrink.proofs.shrinking.shrunk.Given as goal
 
 abbrev pub invariant-loop-left : goal.invariant-loop-left
-invariant-loop-left l = IsBroken l.left × IsPartOf l.fn.plot l.left
+invariant-loop-left l = record { broken : IsBroken l.left; part : IsPartOf l.fn.plot l.left; far : ShrunkSoFar l.fn.plot l.left }
 
 abbrev pub decreases-loop-left : goal.decreases-loop-left
 decreases-loop-left l = size l.left

@@ -1,5 +1,5 @@
 use Rattle.std.proofs.lemmas.Result.{IfOk-weaker, IfErr-weaker}
-use Rattle.shrink.specs.Shrinking.{IsPartOf, IsRefusedOf}
+use Rattle.shrink.specs.Shrinking.{IsPartOf, IsRefusedOf, IsWalked, LieWalks}
 use Rattle.shrink.proofs.Parts.{part_on, refused_on}
 use Rattle.std.proofs.Common.{◌≢◌}
 use Rattle.scenario.specs.declared.fault.ScenarioError.TheVariants.{Memory}
@@ -14,3 +14,8 @@ pub returns-clause-refused : goal.returns-clause-refused
 returns-clause-refused c =
     IfErr-weaker c.fewest_lies.result (λ e. e ≢ Memory → IsRefusedOf c.in_ok-fewer.fewer e) (λ e. e ≢ Memory → IsRefusedOf c.args.plot e)
     (λ e h other. refused_on c.args.plot c.in_ok-fewer.fewer e c.in_ok-fewer.ensures.part (h other)) c.fewest_lies.ensures.refused
+
+pub returns-clause-walk : goal.returns-clause-walk
+returns-clause-walk c =
+    IfOk-weaker c.fewest_lies.result (λ left. LieWalks left 0 c.in_ok-fewer.fewer) (IsWalked c.args.plot)
+    (λ left walk. record { fewer = c.in_ok-fewer.fewer; traitors = c.in_ok-fewer.ensures.walk; lies = walk }) c.fewest_lies.ensures.walk

@@ -8,16 +8,16 @@ use Rattle.threads.proofs.gate.GatedServer.serve.Goals as goal
 pub invariant_of-self-in_err-copy : goal.invariant_of-self-in_err-copy
 invariant_of-self-in_err-copy g c =
     let served = c.in_ok-reply.ensures.serves in
-    among_met c.self.inside.made.items c.self.inside.me.seen served.before c.apply.new.me.seen _ c.self.invariant served.later served.entered
+    among_met c.self.inside.made.accesses.items c.self.inside.me.seen served.before c.apply.new.me.seen _ c.self.invariant served.later served.entered
 
-pub invariant_of-self-in_err-push : goal.invariant_of-self-in_err-push
-invariant_of-self-in_err-push g c =
+pub invariant_of-self-in_err-enter : goal.invariant_of-self-in_err-enter
+invariant_of-self-in_err-enter g c =
     let served = c.in_ok-reply.ensures.serves in
-    subst (λ (made : List Access). AreAmong made c.apply.new.me.seen) (sym c.in_err-push.ensures.items)
-    (among_met c.self.inside.made.items c.self.inside.me.seen served.before c.apply.new.me.seen _ c.self.invariant served.later served.entered)
+    subst (λ (made : List Access). AreAmong made c.apply.new.me.seen) (sym c.in_err-enter.ensures.unentered)
+    (among_met c.self.inside.made.accesses.items c.self.inside.me.seen served.before c.apply.new.me.seen _ c.self.invariant served.later served.entered)
 
 pub invariant_of-self-2 : goal.invariant_of-self-2
 invariant_of-self-2 g c =
     let served = c.in_ok-reply.ensures.serves in
-    among_served c.self.inside.made.items c.self.inside.me.seen served.before c.push.new.self.items c.apply.new.me.seen _ c.self.invariant served.later
-    (c.in_ok-push.ensures.items ∙ ap (λ (a : Access). c.self.inside.made.items ++ a ∷ []) c.in_ok-copy.ensures) served.entered
+    among_served c.self.inside.made.accesses.items c.self.inside.me.seen served.before c.enter.new.self.accesses.items c.apply.new.me.seen _ c.self.invariant served.later
+    (c.in_ok-enter.ensures.entered ∙ ap (λ (a : Access). c.self.inside.made.accesses.items ++ a ∷ []) c.in_ok-copy.ensures) served.entered

@@ -1,11 +1,15 @@
 use Rattle.std.proofs.Common.{◌≡◌, ◌<◌, ◌≤◌, ◌+◌, ℕ, [], length, vec_len, slice_index_or}
+use Rattle.std.specs.Prelude.{vec_capacity}
 use Rattle.post.specs.Seen.{PosterSeen, poster_seen}
 use Rattle.threads.specs.Inboxes.{AreOwn}
 use Rattle.threads.proofs.collecting.fn.through_residents.scope.Given as goal
 
 abbrev pub invariant-loop-poster : goal.invariant-loop-poster
 invariant-loop-poster g l = record {
+  all : length l.handles.items + length l.posters.items ≡ length l.initial.posters.items;
   few : length l.handles.items + length l.posters.items ≤ 13;
+  room : length l.initial.posters.items ≤ vec_capacity l.answers;
+  fresh : l.answers.items ≡ [];
   witnesses : length l.posters.items ≤ length l.witnesses.items;
   inboxes : length l.posters.items ≤ length l.camp.now.inboxes.items;
   own : AreOwn l.camp.now.inboxes.items;

@@ -1,0 +1,26 @@
+-- What prints a part that a page has no room for, by the same schedule or of the same chronicle.
+use Rattle.std.specs.Prelude.{ℕ, List, ◌++◌, codes}
+
+unfoldable pub scenario_printer : List ℕ
+scenario_printer = codes "it stands in the scenario's file, and in those that it names."
+
+unfoldable pub schedule_printer : List ℕ
+schedule_printer = codes "it is the file of --schedule."
+
+unfoldable pub programs_printer : List ℕ
+programs_printer =
+    codes "byzlab check --explain, with --asm or --elf, tells what is known of a program in a file of its own."
+
+unfoldable pub picture_printer : List ℕ
+picture_printer = codes "byzlab draw writes it, with --schedule or --chronicle as here."
+
+unfoldable pub lieutenants_printer : List ℕ
+lieutenants_printer =
+    codes "play, with --schedule as here, of a chronicle audit, tells with --explain why they decide so."
+
+unfoldable pub accesses_printer : List ℕ
+accesses_printer =
+    codes "they stand in the chronicle, the file of --chronicle, or what byzlab play prints, with --schedule as here."
+
+unfoldable pub chronicle_printer : List ℕ
+chronicle_printer = codes "it is the file of --chronicle, or what byzlab play prints, with --schedule as here."

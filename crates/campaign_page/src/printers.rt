@@ -1,0 +1,59 @@
+//! What prints a part that a page has no room for, by the same schedule or of the same chronicle.
+ghost use Rattle.std.specs.Prelude.{◌≡◌};
+ghost use Rattle.campaign_page.specs.Printers.{accesses_printer, chronicle_printer, lieutenants_printer, picture_printer, programs_printer, scenario_printer, schedule_printer};
+
+/// Of the scenario.
+#[tactic(auto, unfolding(crate::specs::Printers::scenario_printer))]
+pub(crate) fn scenario_printer() -> &'static str
+    ensures { result.now ≡ scenario_printer }
+{
+    "it stands in the scenario's file, and in those that it names."
+}
+
+/// Of the schedule.
+#[tactic(auto, unfolding(crate::specs::Printers::schedule_printer))]
+pub(crate) fn schedule_printer() -> &'static str
+    ensures { result.now ≡ schedule_printer }
+{
+    "it is the file of --schedule."
+}
+
+/// Of the programs.
+#[tactic(auto, unfolding(crate::specs::Printers::programs_printer))]
+pub(crate) fn programs_printer() -> &'static str
+    ensures { result.now ≡ programs_printer }
+{
+    "byzlab check --explain, with --asm or --elf, tells what is known of a program in a file of its own."
+}
+
+/// Of the picture.
+#[tactic(auto, unfolding(crate::specs::Printers::picture_printer))]
+pub(crate) fn picture_printer() -> &'static str
+    ensures { result.now ≡ picture_printer }
+{
+    "byzlab draw writes it, with --schedule or --chronicle as here."
+}
+
+/// Of the lieutenants.
+#[tactic(auto, unfolding(crate::specs::Printers::lieutenants_printer))]
+pub(crate) fn lieutenants_printer() -> &'static str
+    ensures { result.now ≡ lieutenants_printer }
+{
+    "play, with --schedule as here, of a chronicle audit, tells with --explain why they decide so."
+}
+
+/// Of the accesses.
+#[tactic(auto, unfolding(crate::specs::Printers::accesses_printer))]
+pub(crate) fn accesses_printer() -> &'static str
+    ensures { result.now ≡ accesses_printer }
+{
+    "they stand in the chronicle, the file of --chronicle, or what byzlab play prints, with --schedule as here."
+}
+
+/// Of the chronicle.
+#[tactic(auto, unfolding(crate::specs::Printers::chronicle_printer))]
+pub(crate) fn chronicle_printer() -> &'static str
+    ensures { result.now ≡ chronicle_printer }
+{
+    "it is the file of --chronicle, or what byzlab play prints, with --schedule as here."
+}

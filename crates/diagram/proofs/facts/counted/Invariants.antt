@@ -1,8 +1,0 @@
-use Rattle.std.proofs.Common.{◌≡◌}
-use Rattle.std.specs.Prelude.{count_by, take}
-use Rattle.diagram.specs.declared.telling.Telling.{Telling}
-use Rattle.diagram.specs.Facts.{count_of, is_same}
-use Rattle.diagram.proofs.facts.counted.Given as goal
-
-abbrev pub invariant-loop-telling : goal.invariant-loop-telling
-invariant-loop-telling l = (q : Telling) → count_of l.counts q ≡ count_by (is_same q) (take l.telling-index l.tellings)

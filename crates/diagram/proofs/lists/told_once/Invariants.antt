@@ -1,0 +1,12 @@
+use Rattle.std.proofs.Common.{◌≡◌, [], take}
+use Rattle.std.specs.HashSet.{contains}
+use Rattle.std.specs.List.{list_any}
+use Rattle.diagram.specs.declared.telling.Telling.{Telling}
+use Rattle.diagram.specs.Lists.{firsts, is_same}
+use Rattle.diagram.proofs.lists.told_once.Given as goal
+
+-- what was seen, and each thing of it once
+abbrev pub invariant-loop-telling : goal.invariant-loop-telling
+invariant-loop-telling l =
+    ((q : Telling) → contains is_same l.seen q ≡ list_any (is_same q) (take l.telling-index l.tellings))
+    × (l.things.items ≡ firsts is_same [] (take l.telling-index l.tellings))

@@ -1,0 +1,112 @@
+-- The lists of what a lieutenant was told, one for each round: a row for each thing that a general told him.
+use Rattle.std.specs.Prelude.{ℕ, ◌+◌, ◌==◌, nat_le, nat_lt, Bool, not, ◌&&◌, if◌then◌else◌, List, [], ◌∷◌, ◌++◌, length, count_by, filter, flat_map, nat_eq, unwrap_or}
+use Rattle.std.specs.Bool.{beq}
+use Rattle.std.specs.HashMap.{get, HashMap}
+use Rattle.std.specs.List.{list_any, range_with_len}
+use Rattle.std.specs.Option.{option_eq}
+use Rattle.std.specs.declared.hash.BuildHasherDefault.{BuildHasherDefault}
+use Rattle.std.specs.declared.hash.FoldHasher.{FoldHasher}
+use Rattle.diagram.specs.declared.stroke.Stroke.{Stroke}
+use Rattle.diagram.specs.declared.telling.Telling.{Telling}
+
+-- both make one row: the same general told the same in the same round
+abbrev pub is_same : Telling → Telling → Bool
+is_same one other =
+    one.round == other.round
+    && (one.teller == other.teller
+    && (option_eq nat_eq one.told other.told && beq one.differs other.differs))
+
+abbrev pub is_by_same : Telling → Telling → Bool
+is_by_same one other = one.teller == other.teller
+
+-- of these, before which others stand, those that are not the same as one before them, and those that are
+unfoldable pub firsts : (Telling → Telling → Bool) → List Telling → List Telling → List Telling
+firsts same before [] = []
+firsts same before (x ∷ xs) = (if list_any (same x) before then [] else x ∷ []) ++ firsts same (before ++ x ∷ []) xs
+
+unfoldable pub repeats : (Telling → Telling → Bool) → List Telling → List Telling → List Telling
+repeats same before [] = []
+repeats same before (x ∷ xs) = (if list_any (same x) before then x ∷ [] else []) ++ repeats same (before ++ x ∷ []) xs
+
+-- how many rows of a list are drawn at most
+abbrev pub most_rows : ℕ
+most_rows = 24
+
+abbrev pub is_lie : Telling → Bool
+is_lie telling = telling.differs
+
+abbrev pub is_honest : Telling → Bool
+is_honest telling = not telling.differs
+
+-- the first lie of each teller, then the other lies, then what is honest
+abbrev pub lies_first : List Telling → List Telling
+lies_first list =
+    firsts is_by_same [] (filter is_lie list) ++ repeats is_by_same [] (filter is_lie list) ++ filter is_honest list
+
+-- the order of a list's rows: that of the labels, or where not all are drawn lies first
+abbrev pub arranged : List Telling → List Telling
+arranged list = if nat_le (length list) most_rows then list else lies_first list
+
+-- of how many labels something was told, by these counts
+abbrev pub count_of : HashMap Telling ℕ (BuildHasherDefault FoldHasher) → Telling → ℕ
+count_of counts telling = unwrap_or (get is_same counts telling) 0
+
+-- the stroke to p of what he was told of so many labels, with this row
+abbrev pub stroke_of : ℕ → Telling → ℕ → ℕ → Stroke
+stroke_of p telling labels row = record {
+  round = telling.round;
+  teller = telling.teller;
+  receiver = p;
+  told = telling.told;
+  differs = telling.differs;
+  labels = labels;
+  row = row;
+}
+
+-- the strokes to p of what he was told, of so many labels each, with rows below each other from this one on
+unfoldable pub strokes_from : ℕ → (Telling → ℕ) → ℕ → List Telling → List Stroke
+strokes_from p labels row [] = []
+strokes_from p labels row (x ∷ xs) = stroke_of p x (labels x) row ∷ strokes_from p labels (row + 1) xs
+
+abbrev pub is_in : ℕ → Telling → Bool
+is_in round telling = telling.round == round
+
+-- of how many labels of all of which he was told something he was told this
+abbrev pub labels_of : List Telling → Telling → ℕ
+labels_of tellings x = count_by (is_same x) tellings
+
+-- his list of a round
+abbrev pub list_of : ℕ → List Telling → ℕ → List Stroke
+list_of p tellings round =
+    strokes_from p (labels_of tellings) 0 (arranged (filter (is_in round) (firsts is_same [] tellings)))
+
+-- that behind so many rounds, and those of so many rounds
+abbrev pub list_behind : ℕ → List Telling → ℕ → List Stroke
+list_behind p tellings before = list_of p tellings (before + 1)
+
+abbrev pub lists_of : ℕ → List Telling → ℕ → List Stroke
+lists_of p tellings rounds = flat_map (list_behind p tellings) (range_with_len 0 rounds)
+
+-- those to a general, if he is a lieutenant, of what each was told, and those to all generals
+abbrev pub lists_to : ℕ → ℕ → (ℕ → List Telling) → ℕ → List Stroke
+lists_to c rounds tellings p = if p == c then [] else lists_of p (tellings p) rounds
+
+abbrev pub all_lists : ℕ → ℕ → ℕ → (ℕ → List Telling) → List Stroke
+all_lists n c rounds tellings = flat_map (lists_to c rounds tellings) (range_with_len 0 n)
+
+-- which of these strokes make the list to p of a round
+abbrev pub is_to : ℕ → ℕ → Stroke → Bool
+is_to round p stroke = stroke.round == round && stroke.receiver == p
+
+abbrev pub is_lie_to : ℕ → ℕ → Stroke → Bool
+is_lie_to round p stroke = stroke.differs && is_to round p stroke
+
+abbrev pub list_to : ℕ → ℕ → List Stroke → List Stroke
+list_to round p strokes = filter (is_to round p) strokes
+
+-- which of them are drawn
+abbrev pub has_row : Stroke → Bool
+has_row stroke = nat_lt stroke.row most_rows
+
+abbrev pub with_rows : List Stroke → List Stroke
+with_rows strokes = filter has_row strokes

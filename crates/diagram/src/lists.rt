@@ -1,0 +1,120 @@
+//! The lists of what a lieutenant was told, one for each round.
+ghost use Rattle.std.specs.Prelude.{ℕ, ◌≡◌, ◌+◌, ◌<◌, ◌^◌, ◌++◌, [], false, IfOk, OnOk, count_by, filter};
+ghost use Rattle.diagram.specs.Lists.{arranged, count_of, firsts, is_in, is_same, lists_of, stroke_of, strokes_from};
+ghost use Rattle.diagram.specs.declared.telling.Telling.{Telling};
+
+use crate::order::{arranged, told_in};
+use crate::stroke::Stroke;
+use crate::telling::Telling;
+use std::alloc::{AllocError, Global};
+use std::collections::{HashMap, HashSet};
+
+/// Adds what a lieutenant was told of the labels of his tree in so many rounds: by rounds, a row for each thing.
+///
+/// # Errors
+///
+/// No memory for it; so of every function here.
+pub(crate) fn push_lists(
+    alloc: Global,
+    strokes: &mut Vec<Stroke>,
+    receiver: u8,
+    tellings: &[Telling],
+    rounds: u8,
+) -> Result<(), AllocError>
+    ensures { OnOk result (strokes.new.items ≡ strokes.old.items ++ lists_of receiver tellings.now rounds) }
+{
+    let counts = counted(alloc, tellings)?;
+    let things = told_once(alloc, tellings)?;
+    for before in 0..rounds {
+        let round = usize::from(before) + 1;
+        push_list(alloc, strokes, receiver, &counts, things.as_slice(), round)?;
+    }
+    Ok(())
+}
+
+/// Adds the list of a round, of what was told of so many labels each.
+fn push_list(
+    alloc: Global,
+    strokes: &mut Vec<Stroke>,
+    receiver: u8,
+    counts: &HashMap<Telling, usize>,
+    things: &[Telling],
+    round: usize,
+) -> Result<(), AllocError>
+    ensures { OnOk result (strokes.new.items ≡ strokes.old.items
+        ++ strokes_from receiver (count_of counts.now) 0 (arranged (filter (is_in round) things.now))) }
+{
+    let list = arranged(alloc, told_in(alloc, things, round)?)?;
+    push_rows(strokes, receiver, counts, list.as_slice())
+}
+
+/// Adds a row for each of these.
+#[tactic(auto, unfolding(crate::specs::Lists::strokes_from))]
+fn push_rows(
+    strokes: &mut Vec<Stroke>,
+    receiver: u8,
+    counts: &HashMap<Telling, usize>,
+    list: &[Telling],
+) -> Result<(), AllocError>
+    ensures { OnOk result (strokes.new.items ≡ strokes.old.items
+        ++ strokes_from receiver (count_of counts.now) 0 list.now) }
+{
+    for (row, telling) in list.iter().enumerate() {
+        let labels = counts.get(telling).copied().unwrap_or(0);
+        strokes.push(stroke_of(receiver, telling, labels, row))?;
+    }
+    Ok(())
+}
+
+/// The stroke of what was told of so many labels, with this row.
+fn stroke_of(receiver: u8, telling: &Telling, labels: usize, row: usize) -> Stroke
+    ensures { result ≡ stroke_of receiver telling.now labels row }
+{
+    Stroke {
+        round: telling.round,
+        teller: telling.teller,
+        receiver,
+        told: telling.told,
+        differs: telling.differs,
+        labels,
+        row,
+    }
+}
+
+/// What was told, each thing once.
+#[tactic(auto, unfolding(crate::specs::Lists::firsts))]
+fn told_once(alloc: Global, tellings: &[Telling]) -> Result<Vec<Telling>, AllocError>
+    ensures { IfOk result (λ things. things.items ≡ firsts is_same [] tellings.now) }
+{
+    let mut seen = HashSet::new(alloc);
+    let mut things = Vec::new(alloc);
+    for telling in tellings {
+        if seen.insert(*telling)? {
+            things.push(*telling)?;
+        }
+    }
+    Ok(things)
+}
+
+/// Of how many labels each thing was told.
+fn counted(alloc: Global, tellings: &[Telling]) -> Result<HashMap<Telling, usize>, AllocError>
+    ensures { IfOk result (λ counts. (q : Telling) → count_of counts q ≡ count_by (is_same q) tellings.now) }
+{
+    let mut counts = HashMap::new(alloc);
+    for telling in tellings {
+        count_one(&mut counts, telling)?;
+    }
+    Ok(counts)
+}
+
+/// Counts one label more of which this was told.
+fn count_one(counts: &mut HashMap<Telling, usize>, telling: &Telling) -> Result<(), AllocError>
+    requires { count_of counts.old telling.now + 1 < 2 ^ 64 }
+    ensures counted { OnOk result (count_of counts.new telling.now ≡ count_of counts.old telling.now + 1) }
+    ensures others { OnOk result ((q : Telling) → is_same telling.now q ≡ false
+        → count_of counts.new q ≡ count_of counts.old q) }
+{
+    let labels = counts.get(telling).copied().unwrap_or(0);
+    counts.insert(*telling, labels + 1)?;
+    Ok(())
+}
