@@ -8,8 +8,8 @@ use Rattle.insn.specs.declared.insn.Insn.{Insn}
 use Rattle.board.specs.Board.{Access}
 use Rattle.letter.specs.Letters.{Letter}
 use Rattle.trace.specs.Sinks.{Wrote}
-use Rattle.trace.specs.Text.{Word, Line, further, text, access_line, row_lines, letter_line, letter_lines, rounds_told}
-use Rattle.trace.specs.Lines.{author_line, round_line, round_told, row_line}
+use Rattle.trace.specs.Text.{Word, Line, further, text, access_line, row_lines, author_line, letter_line, letter_lines, rounds_told}
+use Rattle.trace.specs.Lines.{round_line, round_told, row_line}
 use Rattle.trace.proofs.WrittenLemmas.{further-append, then_wrote, wrote-same}
 use Rattle.trace.proofs.LineLemmas.{text-append}
 

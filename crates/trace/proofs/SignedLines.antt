@@ -7,9 +7,8 @@ use Rattle.roster.specs.Scenario.{Scenario}
 use Rattle.signed.specs.Chains.{Chain}
 use Rattle.signed.specs.Sending.{dispatch_of}
 use Rattle.signed.specs.Sent.{Sent, sent_by}
-use Rattle.trace.specs.Lines.{author_line}
 use Rattle.trace.specs.SignedText.{chain_line, head_lines, letter_lines}
-use Rattle.trace.specs.Text.{Word, campaign_words, further, letter_line, place, spaced, text}
+use Rattle.trace.specs.Text.{Word, author_line, campaign_words, further, letter_line, place, spaced, text}
 use Rattle.trace.proofs.LineLemmas.{said, text-append}
 use Rattle.trace.proofs.RoundLemmas.{author_is}
 use Rattle.trace.proofs.WrittenLemmas.{further-append, further-one}

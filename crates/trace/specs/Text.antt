@@ -56,9 +56,18 @@ abbrev pub row_lines : ℕ → List (List (Option ℕ)) → List Line
 row_lines rank [] = []
 row_lines rank (row ∷ rows) = (codes "row" ∷ decimal rank ∷ map place row) ∷ row_lines (suc rank) rows
 
+-- whose a letter is: a loyal general's, or a traitor's with his steps
+abbrev pub kind : Option ℕ → List Word
+kind None = codes "loyal" ∷ []
+kind (Some steps) = codes "steps" ∷ decimal steps ∷ []
+
+abbrev pub author_line : ℕ → Option ℕ → Line
+author_line g steps = codes "letter" ∷ decimal g ∷ kind steps
+
+-- that of a general who has this program, or none
 abbrev pub letter_line : ℕ → Option (List Insn) → ℕ → Line
-letter_line g None steps = codes "letter" ∷ decimal g ∷ codes "loyal" ∷ []
-letter_line g (Some program) steps = codes "letter" ∷ decimal g ∷ codes "steps" ∷ decimal steps ∷ []
+letter_line g None steps = author_line g None
+letter_line g (Some program) steps = author_line g (Some steps)
 
 abbrev pub letter_lines : Letter → List Line
 letter_lines l = letter_line l.general l.program l.steps ∷ row_lines 0 l.outbox.rows
