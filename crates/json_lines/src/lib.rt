@@ -8,7 +8,6 @@ mod named;
 mod objects;
 mod refusals;
 mod shape;
-mod stops;
 mod told;
 
 pub use lines::answer;

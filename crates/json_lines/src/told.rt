@@ -7,11 +7,10 @@ ghost use Rattle.text.specs.Parts.{left};
 ghost use Rattle.text.specs.Stop.{space};
 ghost use Rattle.json_lines.specs.Told.{joined, number_of, numbers_of, place_of, places, rule_of, small, told, yes_no_of};
 
-use crate::stops::{DOT, SPACE};
 use combine::Rule;
 use serde_json::Value;
 use std::alloc::{AllocError, Global};
-use text::{decimal, piece};
+use text::{DOT, SPACE, decimal, piece};
 
 /// A number of 64 bits, in decimal without leading zeros.
 fn small(word: &[u8]) -> Option<u64>
