@@ -6,7 +6,8 @@ ghost use Rattle.explain.specs.Helps.{moving_mask, exchanged, copy_of, copy_at, 
 use crate::origins::last_set;
 use crate::sentence::{Access, Misfit, Misuse, Sentence};
 use absval::AbsVal;
-use causes::{Edit, Mark, numbered};
+use causes::{Edit, Mark};
+use helper::reads::numbered;
 use insn::{Insn, Operand, Program, Reg};
 use word::{Operation, Width};
 

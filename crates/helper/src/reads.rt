@@ -2,18 +2,18 @@
 ghost use Rattle.std.specs.Prelude.{◌≡◌, ◌≤◌, ◌∷◌, []};
 ghost use Rattle.semantics.specs.Call.{helper_of};
 ghost use Rattle.helper.specs.declared.argument.Argument.{Argument};
-ghost use Rattle.explain.specs.Reads.{of_operand, of_first, of_argument, of_helper, read_by};
+ghost use Rattle.helper.specs.Reads.{of_operand, of_first, of_argument, of_helper, read_by};
 
-use causes::numbered;
-use helper::Argument;
+use crate::argument::Argument;
+use crate::table::{arguments, helper_of};
 use insn::{Insn, Operand, Reg};
 use word::Operation;
 
 /// Up to three registers.
-pub(crate) type Registers = [Option<Reg>; 3];
+pub type Registers = [Option<Reg>; 3];
 
 /// The register that an operand is.
-pub(crate) fn of_operand(operand: Operand) -> Option<Reg>
+pub fn of_operand(operand: Operand) -> Option<Reg>
     ensures { result ≡ of_operand operand }
 {
     match operand {
@@ -23,12 +23,23 @@ pub(crate) fn of_operand(operand: Operand) -> Option<Reg>
 }
 
 /// What an operation reads of its destination: a move nothing.
-pub(crate) fn of_first(operation: Operation, dst: Reg) -> Option<Reg>
+pub fn of_first(operation: Operation, dst: Reg) -> Option<Reg>
     ensures { result ≡ of_first operation dst }
 {
     match operation {
         Operation::Move => None,
         _ => Some(dst),
+    }
+}
+
+/// The register of a number.
+pub fn numbered(number: u8) -> Reg
+    requires { number ≤ 10 }
+    ensures { result ≡ number }
+{
+    match Reg::new(number) {
+        Some(r) => r,
+        None => unreachable!(),
     }
 }
 
@@ -47,10 +58,10 @@ fn of_argument(number: u8, argument: Option<Argument>) -> Option<Reg>
 fn of_call(number: i32) -> Registers
     ensures { result ≡ of_helper (helper_of number) }
 {
-    let Some(helper) = helper::helper_of(number) else {
+    let Some(helper) = helper_of(number) else {
         return [None, None, None];
     };
-    let [first, second, third] = helper::arguments(helper);
+    let [first, second, third] = arguments(helper);
     [
         of_argument(1, first),
         of_argument(2, second),
@@ -59,7 +70,7 @@ fn of_call(number: i32) -> Registers
 }
 
 /// The registers that an instruction reads, in the order in which they are looked at.
-pub(crate) fn read_by(insn: &Insn) -> Registers
+pub fn read_by(insn: &Insn) -> Registers
     ensures { result ≡ read_by insn.now }
 {
     match insn {
