@@ -75,7 +75,8 @@ abbrev pub rounds_told : (ℕ → Letter → List Line) → List Access → ℕ 
 rounds_told told accesses round [] = []
 rounds_told told accesses round (letters ∷ rounds) =
     (codes "round" ∷ decimal round ∷ [])
-    ∷ (map access_line (filter (λ a. a.round == round) accesses) ++ (flat_map (told round) letters ++ rounds_told told accesses (suc round) rounds))
+    ∷ (map access_line (filter (λ a. a.round == round) accesses)
+    ++ (flat_map (told round) letters ++ rounds_told told accesses (suc round) rounds))
 
 abbrev pub round_lines : ℕ → List Access → List (List Letter) → List Line
 round_lines round accesses rounds = rounds_told (λ _. letter_lines) accesses round rounds
