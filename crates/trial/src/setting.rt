@@ -24,7 +24,8 @@ impl Model for Setting {
 
     ghost view = { λ s. record { shape = s.shape; bound = s.bound; taken = s.taken.items; board = s.board } };
 
-    ghost invariant = { λ s. IsTold (record { shape = s.shape; bound = s.bound; taken = s.taken.items; board = s.board }) };
+    ghost invariant = { λ s.
+        IsTold (record { shape = s.shape; bound = s.bound; taken = s.taken.items; board = s.board }) };
 }
 
 impl Setting {
