@@ -1,5 +1,5 @@
 -- Where a text may be cut: behind characters, or within its last one (Unicode, table 3-7).
-use Rattle.std.proofs.Common.{ℕ, suc, ◌≡◌, ◌+◌, ◌-◌, ◌*◌, ◌/◌, ◌%◌, ◌≤◌, ◌<◌, ◌⊎◌, ◌++◌, ◌∷◌, [], ◌∙◌, List, length, take, drop, Bool, true, false, cond, ◌==◌, ◌&&◌, arith, inl, inr, subst, sym, ap, refl, ⊎_elim}
+use Rattle.std.proofs.Common.{ℕ, ◌≡◌, ◌+◌, ◌/◌, ◌≤◌, ◌<◌, ◌⊎◌, ◌++◌, ◌∷◌, [], ◌∙◌, List, length, take, drop, Bool, true, false, cond, ◌==◌, arith, inl, inr, subst, sym, ap, ⊎_elim}
 use Rattle.std.specs.Prelude.{◌↔◌, IsTrue, Option, Some, None, is_some, not, slice_index, nat_lt}
 use Rattle.std.specs.Int.{is_in_range}
 use Rattle.std.specs.Char.{IsScalar, encode_utf8}
@@ -100,9 +100,10 @@ four_is : (x y z w : ℕ) → 240 ≤ x → x ≤ 244 → Second x y → Follows
 four_is x y z w l h s f g =
     let low : 128 ≤ y = s.low in
     let high : y < 192 = s.high in
-    of_four (x ∷ y ∷ z ∷ w ∷ []) 0 (omega arith) l (low, high) f g
-    (⊎_elim (λ i. let k : 144 ≤ y = s.four_least i in omega arith) (λ ne. omega arith) (cases_eq x 240),
-     ⊎_elim (λ i. let k : y < 144 = s.four_most i in omega arith) (λ ne. omega arith) (cases_eq x 244))
+    of_four (x ∷ y ∷ z ∷ w ∷ []) 0 (omega arith) l (low, high) f g (
+      ⊎_elim (λ i. let k : 144 ≤ y = s.four_least i in omega arith) (λ ne. omega arith) (cases_eq x 240),
+      ⊎_elim (λ i. let k : y < 144 = s.four_most i in omega arith) (λ ne. omega arith) (cases_eq x 244),
+    )
 
 -- ---- what is not at fault can be gone on with
 
@@ -170,9 +171,11 @@ thirded t long e =
     let f = bounds 128 191 (slice_index t 2) is in
     let low : 128 ≤ slice_index t 2 = f.0 in
     let high : slice_index t 2 ≤ 191 = f.1 in
-    let last : inner ≡ None = sym (cond-true b inner (Some 2) is) ∙ rest in
-    ((low, omega arith), ⊎_elim (λ (short : length t < 4). short)
-    (λ (more : 4 ≤ length t). absurd (some_none (sym (cond-false _ None (Some 3) (le-ltb (length t) 4 more)) ∙ last))) (cases_lt (length t) 4)))
+    let last : inner ≡ None = sym (cond-true b inner (Some 2) is) ∙ rest in (
+      (low, omega arith),
+      ⊎_elim (λ (short : length t < 4). short)
+          (λ (more : 4 ≤ length t). absurd (some_none (sym (cond-false _ None (Some 3) (le-ltb (length t) 4 more)) ∙ last))) (cases_lt (length t) 4),
+    ))
     (λ is. absurd (some_none (sym (cond-false b inner (Some 2) is) ∙ rest)))
     (cases_Bool b)
 
@@ -242,7 +245,7 @@ module _ (t rest tail : List ℕ) (some : 0 < length t) (none : StartsWithNone t
           let next : b ≡ y = cc in
           let last : d ≡ z = cc in
           absurd (none 3 (omega arith)
-              (subst (λ k. IsUtf8 (k ∷ y ∷ z ∷ [])) first (subst (λ k. IsUtf8 (a ∷ k ∷ z ∷ [])) next (subst (λ k. IsUtf8 (a ∷ b ∷ k ∷ [])) last is))))
+          (subst (λ k. IsUtf8 (k ∷ y ∷ z ∷ [])) first (subst (λ k. IsUtf8 (a ∷ k ∷ z ∷ [])) next (subst (λ k. IsUtf8 (a ∷ b ∷ k ∷ [])) last is))))
 
   of_four_bytes : (a b d g : ℕ) → 194 ≤ a → a ≤ 244 → Second a b → Follows d → IsUtf8 (a ∷ b ∷ d ∷ g ∷ []) → a ∷ b ∷ d ∷ g ∷ tail ≡ t ++ rest
       → error_len_of_some t ≡ None
@@ -267,8 +270,8 @@ module _ (t rest tail : List ℕ) (some : 0 < length t) (none : StartsWithNone t
           let third : d ≡ z = cc in
           let last : g ≡ w = cc in
           absurd (none 4 (omega arith)
-              (subst (λ k. IsUtf8 (k ∷ y ∷ z ∷ w ∷ [])) first (subst (λ k. IsUtf8 (a ∷ k ∷ z ∷ w ∷ [])) next
-              (subst (λ k. IsUtf8 (a ∷ b ∷ k ∷ w ∷ [])) third (subst (λ k. IsUtf8 (a ∷ b ∷ d ∷ k ∷ [])) last is)))))
+          (subst (λ k. IsUtf8 (k ∷ y ∷ z ∷ w ∷ [])) first (subst (λ k. IsUtf8 (a ∷ k ∷ z ∷ w ∷ [])) next
+          (subst (λ k. IsUtf8 (a ∷ b ∷ k ∷ w ∷ [])) third (subst (λ k. IsUtf8 (a ∷ b ∷ d ∷ k ∷ [])) last is)))))
 
   -- the character with which it goes on
   of_char : (c : ℕ) → IsScalar c → encode_utf8 c ++ tail ≡ t ++ rest → error_len_of_some t ≡ None
@@ -276,8 +279,10 @@ module _ (t rest tail : List ℕ) (some : 0 < length t) (none : StartsWithNone t
     where
       is : IsUtf8 (encode_utf8 c)
       is = IsUtf8-encode c sc
+
       spelt : (l : List ℕ) → encode_utf8 c ≡ l → l ++ tail ≡ t ++ rest
       spelt l i = ap (λ k. k ++ tail) (sym i) ∙ e
+
       by : (c < 128) ⊎ (128 ≤ c) → (c < 2048) ⊎ (2048 ≤ c) → (c < 65536) ⊎ (65536 ≤ c) → (c < 55296) ⊎ ((57343 < c) × (c < 1114112)) → error_len_of_some t ≡ None
       by (inl h) _ _ _ = of_one_byte c (subst IsUtf8 (one c h) is) (spelt _ (one c h))
       by (inr l) (inl h) _ _ = of_two_bytes (192 + c / 64) (next c) (omega arith) (omega arith) (subst IsUtf8 (two c l h) is) (spelt _ (two c l h))
