@@ -36,7 +36,8 @@ lab_version = codes "1.0.0, proved with Rattle, logic dac8208d650f15bf"
 
 -- the program, once it says what it is
 abbrev pub described : App → App
-described app = record app { top = record app.top { no_binary_name = true; subcommand_required = true; has_version = true } }
+described app =
+    record app { top = record app.top { no_binary_name = true; subcommand_required = true; has_version = true } }
 
 abbrev pub app_before : App
 app_before = described (new_app (codes "byzlab"))
