@@ -9,7 +9,7 @@ ghost use Rattle.json_lines.specs.Shapes.{row_of};
 use crate::held::Held;
 use crate::labels::put_place;
 use crate::shape::{Shape, shapes};
-use crate::told::{places, spelled, told};
+use crate::values::{places, spelled, told};
 use serde_json::{Map, Value, put};
 use std::alloc::{AllocError, Global};
 use text::{SPACE, piece};

@@ -7,7 +7,7 @@ ghost use Rattle.json_lines.specs.Refusals.{behind_stop, class_of, fault_object,
 
 use crate::lines::push_object;
 use crate::objects::{called, unshaped};
-use crate::told::spelled;
+use crate::values::spelled;
 use serde_json::{Map, Value, put};
 use std::alloc::{AllocError, Global};
 use text::{FEED, SPACE, Stop, cut, line};

@@ -12,5 +12,5 @@ pub mod Knowledge
 pub mod Transfer
 pub mod Judgement
 pub mod Laws
-pub mod Telling
+pub mod ErrorText
 pub mod KnownAtUnits
