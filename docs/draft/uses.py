@@ -11,6 +11,7 @@ def antt_names(path):
     for m in re.finditer(r'^(?:abbrev |unfoldable |opaque |inline )*(?:pub )?(?:abbrev |unfoldable |opaque )*(?:pub )?(?:record |data |class |instance )?([^\s:(){}=]+)',t,re.M): out.add(m[1])
     for m in re.finditer(r'^((?:[a-z]+ )*)([^\s:(){}=]+)',t,re.M): out.add(m[2]); out|=set(m[1].split())
     for m in re.finditer(r'^\s+(?:pub )?([^\s:(){}=]+)(?: \([^)]*\)| \{[^}]*\})* :',t,re.M): out.add(m[1])
+    for m in re.finditer(r'^\s+(?:(?:abbrev|pub|unfoldable|record|data) )+([^\s:(){}=]+)',t,re.M): out.add(m[1])
     for m in re.finditer(r'^((?:[a-z]+ )+)(.+?) (?::|=|where)',t,re.M): out|=set(re.findall(r'[^\s(){}]+',m[2]))
     for m in re.finditer(r'pub use (\S+?)\.\{([^}]*)\}',t):
         for n in m[2].split(','): out.add(n.strip().split(' as ')[-1].strip())
