@@ -29,7 +29,7 @@ pub enum Fault {
 
 impl fmt::Display for Fault {
     ghost use Rattle.std.specs.Prelude.{Some};
-    ghost use Rattle.asm.specs.Telling.{code_of};
+    ghost use Rattle.asm.specs.ErrorText.{code_of};
 
     ghost output = { λ fault. Some (code_of fault) };
 
@@ -58,7 +58,7 @@ pub enum AsmError {
 
 impl fmt::Display for AsmError {
     ghost use Rattle.std.specs.Prelude.{Some};
-    ghost use Rattle.asm.specs.Telling.{told};
+    ghost use Rattle.asm.specs.ErrorText.{told};
 
     ghost output = { λ error. Some (told error) };
 

@@ -1,10 +1,10 @@
 //! Times campaigns: from a scenario to its chronicle, from text to text, and audits; of signed messages the dearest
 //! close, too.
 
+use crate::chronicles::{Messages, audited, freely, scenario_of, told_freely};
 use crate::task::{Task, report_task};
 use crate::texts::{colluding, idle, signing};
 use crate::timing::nanoseconds;
-use crate::told::{Messages, audited, freely, scenario_of, told_freely};
 use anyhow::{Result, bail};
 use roster::Scenario;
 use signed::{SignedWorld, play_signed};

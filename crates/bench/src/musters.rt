@@ -1,9 +1,9 @@
 //! Times campaigns whose generals act in threads, beside as many threads that do nothing.
 
+use crate::chronicles::{Messages, scenario_of};
 use crate::task::{Task, report_task};
 use crate::texts::{colluding, idle};
 use crate::timing::nanoseconds;
-use crate::told::{Messages, scenario_of};
 use anyhow::{Result, bail};
 use roster::Scenario;
 use std::rt::Clock;

@@ -2,25 +2,26 @@
 //! leaves the task to the library `lab`.
 #![tactic(auto)]
 
+mod failures;
 mod folder;
 mod input;
 mod keeping;
 mod progress;
 mod target;
-mod telling;
 mod watched;
 
 ghost use Rattle.std.specs.Prelude.{◌≡◌, ◌≢◌, ◌≤◌, Any, Ok, IfOk, IfErr, IfSome, IsOk, None, Some, false, max, option_map, true};
 ghost use Rattle.std.specs.Io.KnownBytes.{Appends};
-ghost use Rattle.command_line.specs.Told.{file_of, schedule_target_of, second_of, seed_of};
+ghost use Rattle.command_line.specs.Tasks.{file_of, schedule_target_of, second_of, seed_of};
 ghost use Rattle.neighbours.specs.Seen.{reads_scenario};
 ghost use Rattle.neighbours.specs.Story.{with_story};
 ghost use Rattle.byzlab.specs.Files.{IsInputIf, IsSecondIf, IsSeededIf, IsTextOf};
-ghost use Rattle.byzlab.specs.Telling.{AsksNothing, IsStatus, IsUnasked, failure_of};
+ghost use Rattle.byzlab.specs.Failures.{AsksNothing, IsStatus, IsUnasked, failure_of};
 
 use chance::seeded;
 use command_line::{Request, Task, TaskError, each};
 use desk::{serve, turned_down};
+use failures::{Explained, Unwritten, unread, why_unwritten};
 use folder::FolderOf;
 use input::{Input, Opened};
 use keeping::{Unkept, keep, write_whole};
@@ -37,7 +38,6 @@ use std::sync::Wait;
 use std::thread::Threads;
 use streams::Output;
 use target::target_of;
-use telling::{Explained, Unwritten, unread, why_unwritten};
 use watched::Watched;
 
 fn main(rt: HostRuntime) -> ExitCode {

@@ -29,4 +29,5 @@ NoMajorityIsRetreat = (xs : List ℕ) → ((v : ℕ) → 2 * count_by (λ x. x =
 
 -- the median is the middle of the sorted list
 abbrev pub MedianIsMiddle : Type 0
-MedianIsMiddle = (xs ys : List ℕ) → IsPermutation xs ys → IsNonDecreasing ys → 0 < length xs → median xs ≡ slice_index ys (length xs / 2)
+MedianIsMiddle = (xs ys : List ℕ) → IsPermutation xs ys → IsNonDecreasing ys → 0 < length xs →
+    median xs ≡ slice_index ys (length xs / 2)

@@ -1,10 +1,10 @@
 ghost use Rattle.std.specs.Prelude.{◌≡◌, ◌==◌, ◌<◌, ◌*◌, ℕ, count_by, length, map, ◌∷◌};
 ghost use Rattle.combine.specs.Rule.{majority, is_most};
-ghost use Rattle.combine.specs.Told.{order_or_retreat};
+ghost use Rattle.combine.specs.Orders.{order_or_retreat};
 ghost use Rattle.combine.specs.Laws.{majority_is_rule};
 
+use crate::orders::orders_of;
 use crate::rule::Combine;
-use crate::told::orders_of;
 
 /// The order in more than half of the places, else RETREAT, which is 0 (TOPLAS 1982, section 3).
 #[derive(Clone, Copy, Debug, PartialEq, Eq)]

@@ -7,7 +7,7 @@ use Rattle.explore.specs.Outcomes.{oral_outcome}
 use Rattle.explore.specs.Text.{exploration_text}
 use Rattle.roster.specs.Scenario.{Scenario, IsScenario}
 use Rattle.world.specs.World.{oral_kind}
-use Rattle.scenario.specs.Told.{Tells}
+use Rattle.scenario.specs.Reading.{Tells}
 use Rattle.lab.specs.Exploring.{IsExplored, KeepsOrders, limit}
 
 pub is_explored : (s : Scenario) (most : ℕ) (text : List ℕ) → FindingsAgree → IsScenario s

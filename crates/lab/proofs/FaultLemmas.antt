@@ -11,7 +11,7 @@ use Rattle.lab.specs.declared.failure.Failure.TheVariants.{Read, Text, Refused, 
 use Rattle.lab.specs.declared.first_answer.FirstAnswer.{FirstAnswer}
 use Rattle.lab.specs.declared.hint.Hint.{Hint}
 use Rattle.lab.specs.Hints.{hint_behind}
-use Rattle.lab.specs.Telling.{refusal_text}
+use Rattle.lab.specs.ErrorText.{refusal_text}
 use Rattle.lab.specs.Whys.{is_explained}
 use Rattle.lab.specs.Faults.{fault_text, status_of, Undoes, Prevents, Stops}
 use Rattle.streams.specs.Names.{shown}

@@ -4,7 +4,7 @@ use Rattle.std.specs.Borrow.{Bor}
 use Rattle.std.specs.declared.alloc.Global.{Global}
 use Rattle.std.specs.Prelude.{Bool, true, false, Option, None, Some, Ok, String, option_map, string_bytes, unwrap_or}
 use Rattle.insn.specs.declared.insn.Insn.{Insn}
-use Rattle.command_line.specs.Told.{file_of, second_of}
+use Rattle.command_line.specs.Tasks.{file_of, second_of}
 use Rattle.command_line.specs.declared.tasks.Account.{Account}
 use Rattle.command_line.specs.declared.tasks.Accesses.TheVariants.{OfChronicle, Listed}
 use Rattle.command_line.specs.declared.tasks.Course.TheVariants.{Scheduled, Recorded}

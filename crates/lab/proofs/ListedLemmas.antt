@@ -4,7 +4,7 @@ use Rattle.roster.specs.Scenario.{Scenario as OralScenario}
 use Rattle.retracing.specs.Arranged.{IfFault, IsUnarranged}
 use Rattle.retracing.specs.declared.fault.AccessesError.{AccessesError}
 use Rattle.retracing.specs.declared.fault.AccessesError.TheVariants as accesses
-use Rattle.scenario.specs.Told.{Tells}
+use Rattle.scenario.specs.Reading.{Tells}
 use Rattle.lab.specs.Refusals.{RefusesListed, RefusesScenario, RefusesText, accesses_refusal}
 use Rattle.lab.specs.declared.refusal.Refusal.{Refusal}
 use Rattle.lab.specs.declared.refusal.Refusal.TheVariants.{Codec, Object, Verifier, Assembly, Table, Scenario, Setting, Trace, Threads, Accesses, Stranger, NotText, Memory}

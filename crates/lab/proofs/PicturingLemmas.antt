@@ -8,7 +8,7 @@ use Rattle.drawing.specs.declared.form.Form.{Form}
 use Rattle.drawing.specs.declared.node.View.{View}
 use Rattle.retold.specs.Retold.{table_of, traitors_of}
 use Rattle.roster.specs.Scenario.{Scenario}
-use Rattle.scenario.specs.Told.{Tells}
+use Rattle.scenario.specs.Reading.{Tells}
 use Rattle.world.specs.Chronicle.{Chronicle}
 use Rattle.lab.specs.Campaigns.{played}
 use Rattle.lab.specs.Picturing.{IsTreeIn, is_toml}

@@ -7,7 +7,7 @@ use Rattle.command_line.specs.declared.tasks.Task.TheVariants.{Check, Assemble, 
 use Rattle.insn.specs.declared.insn.Insn.{Insn}
 use Rattle.label.specs.declared.shape.Shape.{Shape}
 use Rattle.semantics.specs.Run.{IsSound}
-use Rattle.trial.specs.Told.{Tells}
+use Rattle.trial.specs.Answers.{Tells}
 use Rattle.verify.specs.Judgement.{judged}
 use Rattle.lab.specs.Answers.{GoesOn, IsTriedBy, trial_of}
 use Rattle.lab.specs.Hints.{HasProgram, explained_in, if_asked}

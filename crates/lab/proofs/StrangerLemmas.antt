@@ -5,7 +5,7 @@ use Rattle.std.proofs.lemmas.Bool.{cases_Bool, cond-false, cond-true}
 use Rattle.book.specs.Grammar.{table_told}
 use Rattle.book.specs.Table.{MessageTable}
 use Rattle.roster.specs.Scenario.{Scenario as Campaign}
-use Rattle.scenario.specs.Told.{Tells}
+use Rattle.scenario.specs.Reading.{Tells}
 use Rattle.tables.specs.Numbers.{HasGenerals as AreNumbersOf}
 use Rattle.lab.specs.Refusals.{RefusesFilled, RefusesForm, RefusesNaming, RefusesScenario, RefusesTable, RefusesTreeIn}
 use Rattle.lab.specs.Strangers.{HasNumbers, IsStranger, IsStrangerToTree, KnowsAll, KnowsLiar, KnowsTree, liars, stranger_among, stranger_to_tree}

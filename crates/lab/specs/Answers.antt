@@ -15,11 +15,11 @@ use Rattle.command_line.specs.declared.tasks.Task.{Task}
 use Rattle.command_line.specs.declared.tasks.Task.TheVariants.{Check, Assemble, AssemblePartly, Disassemble, DisassemblePartly, Book, ExplainDecisions, Form, Play, Muster, Audit, Explore, Tree, Draw, Page, Retrace}
 use Rattle.command_line.specs.declared.tasks.Accesses.TheVariants.{OfChronicle, Listed}
 use Rattle.command_line.specs.declared.tasks.Course.TheVariants.{Scheduled, Recorded}
-use Rattle.scenario.specs.Told.{Tells, TellsAny}
+use Rattle.scenario.specs.Reading.{Tells, TellsAny}
 use Rattle.tables.specs.Answers.{DecidesTable, ExplainsTable, IsFilled, IsFormOf}
 use Rattle.verify.specs.Judgement.{judged}
 use Rattle.trial.specs.Setting.{Setting, bench, context_in}
-use Rattle.trial.specs.Told.{IsTried, Tells as TellsSetting}
+use Rattle.trial.specs.Answers.{IsTried, Tells as TellsSetting}
 use Rattle.trial.specs.Trial.{Ending, trial_in}
 use Rattle.tracing.specs.Slips.{slips_on}
 use Rattle.tracing.specs.Trace.{trace_on}

@@ -15,8 +15,8 @@ use Rattle.world.specs.Promises.{AgreeUnderBound, IsVerdictOn, IsWellUnderBound}
 use Rattle.world.specs.Replay.{replay_of}
 use Rattle.world.specs.Schedules.{lines_by}
 use Rattle.world.specs.World.{opening, run}
-use Rattle.scenario.specs.Told.{TellsAny}
-use Rattle.scenario.specs.Told as oral
+use Rattle.scenario.specs.Reading.{TellsAny}
+use Rattle.scenario.specs.Reading as oral
 use Rattle.scenario.specs.declared.messages.Campaign.{Campaign}
 use Rattle.scenario.specs.declared.messages.Campaign.TheVariants.{Oral, Signed}
 use Rattle.signed.specs.Kind.{signed_kind}

@@ -9,7 +9,7 @@ use Rattle.diagram.specs.Laws.{BlamesTraitors, IsDrawnHonest}
 use Rattle.diagram.specs.Svg.{svg_text}
 use Rattle.retold.specs.Retold.{table_of}
 use Rattle.roster.specs.Scenario.{is_traitor}
-use Rattle.scenario.specs.Told.{TellsAny}
+use Rattle.scenario.specs.Reading.{TellsAny}
 use Rattle.scenario.specs.declared.messages.Campaign.{Campaign}
 use Rattle.scenario.specs.declared.messages.Campaign.TheVariants.{Oral, Signed}
 use Rattle.signed_diagram.specs.Strokes.{strokes_of}

@@ -5,7 +5,7 @@ use Rattle.explore.specs.Keeping.{IsKept}
 use Rattle.explore.specs.Outcomes.{oral_outcome}
 use Rattle.explore.specs.Text.{exploration_text}
 use Rattle.roster.specs.Scenario.{Scenario}
-use Rattle.scenario.specs.Told.{Tells}
+use Rattle.scenario.specs.Reading.{Tells}
 use Rattle.world.specs.Promises.{AgreeUnderBound}
 use Rattle.world.specs.World.{oral_kind}
 

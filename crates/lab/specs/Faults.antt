@@ -15,7 +15,7 @@ use Rattle.lab.specs.declared.hint.Hint.TheVariants.{Explained}
 use Rattle.lab.specs.declared.failure.Failure.TheVariants.{Read, Text, Refused, Write, Memory}
 use Rattle.streams.specs.Names.{shown}
 use Rattle.lab.specs.Hints.{hint_behind, seems_behind}
-use Rattle.lab.specs.Telling.{refusal_text}
+use Rattle.lab.specs.ErrorText.{refusal_text}
 use Rattle.lab.specs.Whys.{TellsWhyOf, is_explained}
 use Rattle.lab.specs.Whys as role
 use Rattle.lab.specs.Serving.{Files, HasAnswer, IsRefused, IsTaken, IsToldLater, first_name, second_name}

@@ -13,7 +13,7 @@ use Rattle.debug_lines.specs.Places.{AreEntryPlaces}
 use Rattle.elf.specs.Sentences.{sentence_of}
 use Rattle.explain.specs.Explained.{explained_at}
 use Rattle.explain.specs.Units.{in_lists}
-use Rattle.command_line.specs.Told.{file_of}
+use Rattle.command_line.specs.Tasks.{file_of}
 use Rattle.command_line.specs.declared.tasks.Notation.{Notation}
 use Rattle.command_line.specs.declared.tasks.Notation.TheVariants.{Bytecode, Assembly, Object}
 use Rattle.command_line.specs.declared.tasks.Task.{Task}

@@ -16,5 +16,5 @@ pub mod Retracing
 pub mod Seeming
 pub mod Strangers
 pub mod Serving
-pub mod Telling
+pub mod ErrorText
 pub mod Reasons

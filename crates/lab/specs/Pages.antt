@@ -7,7 +7,7 @@ use Rattle.command_line.specs.declared.tasks.Course.{Course}
 use Rattle.command_line.specs.declared.tasks.Course.TheVariants.{Scheduled, Recorded}
 use Rattle.diagram.specs.Laws.{BlamesTraitors}
 use Rattle.retold.specs.Retold.{table_of}
-use Rattle.scenario.specs.Told.{TellsAny}
+use Rattle.scenario.specs.Reading.{TellsAny}
 use Rattle.scenario.specs.declared.messages.Campaign.{Campaign}
 use Rattle.scenario.specs.declared.messages.Campaign.TheVariants.{Oral, Signed}
 use Rattle.signed_page.specs.Account.{signed_page_text}

@@ -10,7 +10,7 @@ use Rattle.drawing.specs.declared.node.Style.TheVariants.{Ascii, Boxes}
 use Rattle.drawing.specs.declared.node.View.{View}
 use Rattle.retold.specs.Retold.{table_of, traitors_of}
 use Rattle.roster.specs.Scenario.{Scenario}
-use Rattle.scenario.specs.Told.{Tells}
+use Rattle.scenario.specs.Reading.{Tells}
 use Rattle.toml.specs.Parse.{parse_document}
 use Rattle.lab.specs.Campaigns.{played}
 

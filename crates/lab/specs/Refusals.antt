@@ -19,12 +19,12 @@ use Rattle.retracing.specs.Arranged.{IsUnarranged}
 use Rattle.retracing.specs.declared.fault.AccessesError.{AccessesError}
 use Rattle.retracing.specs.declared.fault.AccessesError.TheVariants as accesses
 use Rattle.roster.specs.Scenario.{Scenario as OralScenario}
-use Rattle.scenario.specs.Told.{Reads, ReadsAny, Tells}
+use Rattle.scenario.specs.Reading.{Reads, ReadsAny, Tells}
 use Rattle.scenario.specs.declared.messages.Campaign.{Campaign}
 use Rattle.scenario.specs.declared.messages.Campaign.TheVariants.{Oral, Signed}
 use Rattle.scenario.specs.declared.fault.ScenarioError.{ScenarioError}
 use Rattle.scenario.specs.declared.fault.ScenarioError.TheVariants as scenario
-use Rattle.trial.specs.Told as trial
+use Rattle.trial.specs.Answers as trial
 use Rattle.trial.specs.declared.fault.SettingError.{SettingError}
 use Rattle.trial.specs.declared.fault.SettingError.TheVariants as setting
 use Rattle.threads.specs.declared.error.MusterError.{MusterError}

@@ -3,7 +3,7 @@ use Rattle.std.specs.Prelude.{ℕ, List, [], Option, unwrap_or}
 use Rattle.retracing.specs.Arranged.{IsArranged}
 use Rattle.retracing.specs.Retraced.{IsRetraced}
 use Rattle.roster.specs.Scenario.{Scenario}
-use Rattle.scenario.specs.Told.{Tells}
+use Rattle.scenario.specs.Reading.{Tells}
 use Rattle.trace.specs.Laws.{IsSoundText}
 
 -- the bytes are the text of a chronicle of the campaign, and these are the lines of a schedule by which it has that

@@ -1,7 +1,7 @@
 -- How a task on its files ends. What a file has and what a stream holds are given where they are known.
 use Rattle.std.specs.Prelude.{ℕ, ◌≡◌, ◌≢◌, ◌⊎◌, Bool, true, false, List, [], ◌∷◌, ◌++◌, Option, None, Some, IfSome, IsSomeAnd, codes, option_map, unwrap_or}
 use Rattle.std.specs.Io.KnownBytes.{Appends}
-use Rattle.command_line.specs.Told.{file_of, second_of}
+use Rattle.command_line.specs.Tasks.{file_of, second_of}
 use Rattle.command_line.specs.declared.tasks.Account.{Account}
 use Rattle.command_line.specs.declared.tasks.Lieutenants.{Lieutenants}
 use Rattle.command_line.specs.declared.tasks.Notation.{Notation}
@@ -25,7 +25,7 @@ use Rattle.streams.specs.Names.{shown}
 use Rattle.streams.specs.Reading.{AreBytes}
 use Rattle.lab.specs.Hints.{hint_behind, IsHint}
 use Rattle.lab.specs.declared.hint.Hint.{Hint}
-use Rattle.lab.specs.Telling.{refusal_text}
+use Rattle.lab.specs.ErrorText.{refusal_text}
 use Rattle.lab.specs.Whys.{Role, TellsWhyOf, is_explained, role_behind}
 use Rattle.lab.specs.Whys as role
 use Rattle.lab.specs.Refusals.{Refuses, RefusesChronicle, RefusesMuster, RefusesSchedule, RefusesSetting, RefusesText}

@@ -4,7 +4,7 @@ ghost use Rattle.lab.specs.Campaigns.{IsAudited, IsSignedAudited};
 ghost use Rattle.lab.specs.Lines.{sound_lines};
 ghost use Rattle.lab.specs.Refusals.{RefusesChronicle, RefusesText};
 
-use crate::playing::{with_decisions, with_signed_decisions};
+use crate::chronicle::{with_decisions, with_signed_decisions};
 use crate::refusal::Refusal;
 use crate::texts::as_text;
 use command_line::Lieutenants;

@@ -2,7 +2,7 @@ ghost use Rattle.std.specs.Prelude.{IfErr, IfOk, map, string_bytes};
 ghost use Rattle.lab.specs.Exploring.{IsExplored, KeepsOrders, limit};
 ghost use Rattle.lab.specs.Refusals.{RefusesScenario, RefusesText};
 
-use crate::playing::campaign;
+use crate::inputs::campaign;
 use crate::refusal::Refusal;
 use explore::findings_agree;
 use roster::Scenario;

@@ -2,7 +2,7 @@ ghost use Rattle.std.specs.Prelude.{IfOk, IfErr};
 ghost use Rattle.lab.specs.Campaigns.{IsMustered};
 ghost use Rattle.lab.specs.Refusals.{RefusesMuster};
 
-use crate::playing::{chronicle_text, with_decisions};
+use crate::chronicle::{chronicle_text, with_decisions};
 use crate::refusal::Refusal;
 use command_line::Lieutenants;
 use roster::Scenario;

@@ -6,7 +6,7 @@ ghost use Rattle.lab.specs.Picturing.{IsTreeIn, form_of, is_toml};
 ghost use Rattle.lab.specs.Refusals.{RefusesScenario, RefusesTree, RefusesTreeIn};
 ghost use Rattle.lab.specs.Strangers.{KnowsTree};
 ghost use Rattle.retold.specs.Retold.{IsWhole, table_of, traitors_of};
-ghost use Rattle.scenario.specs.Told.{Tells};
+ghost use Rattle.scenario.specs.Reading.{Tells};
 
 use crate::deciding::table_in;
 use crate::refusal::Refusal;

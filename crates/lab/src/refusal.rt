@@ -44,7 +44,7 @@ pub enum Refusal {
 
 impl fmt::Display for Refusal {
     ghost use Rattle.std.specs.Prelude.{Some};
-    ghost use Rattle.lab.specs.Telling.{refusal_text};
+    ghost use Rattle.lab.specs.ErrorText.{refusal_text};
 
     ghost output = { λ refusal. Some (refusal_text refusal) };
 

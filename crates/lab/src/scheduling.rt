@@ -3,7 +3,7 @@ ghost use Rattle.lab.specs.Refusals.{RefusesChronicle, RefusesListed, RefusesTex
 ghost use Rattle.lab.specs.Retracing.{Arranges, IsScheduleFor};
 ghost use Rattle.scenario.specs.declared.messages.Campaign.TheVariants.{Oral};
 
-use crate::playing::campaign;
+use crate::inputs::campaign;
 use crate::refusal::Refusal;
 use crate::texts::as_text;
 use roster::Scenario;

@@ -1,6 +1,5 @@
 -- The text of a chronicle, line by line (own).
-use Rattle.std.specs.Prelude.{ℕ, suc, ◌==◌, Bool, true, false, List, [], ◌∷◌, ◌++◌, map, flat_map, filter, decimal, codes, Option, None, Some, if◌then◌else◌}
-use Rattle.insn.specs.declared.insn.Insn.{Insn}
+use Rattle.std.specs.Prelude.{ℕ, suc, ◌==◌, Bool, true, false, List, [], ◌∷◌, ◌++◌, map, flat_map, filter, decimal, codes, Option, None, Some, option_map, if◌then◌else◌}
 use Rattle.combine.specs.declared.chosen.Rule.{Rule}
 use Rattle.combine.specs.Names.{is_default, rule_name}
 use Rattle.semantics.specs.declared.request.Request.{Request}
@@ -56,19 +55,28 @@ abbrev pub row_lines : ℕ → List (List (Option ℕ)) → List Line
 row_lines rank [] = []
 row_lines rank (row ∷ rows) = (codes "row" ∷ decimal rank ∷ map place row) ∷ row_lines (suc rank) rows
 
-abbrev pub letter_line : ℕ → Option (List Insn) → ℕ → Line
-letter_line g None steps = codes "letter" ∷ decimal g ∷ codes "loyal" ∷ []
-letter_line g (Some program) steps = codes "letter" ∷ decimal g ∷ codes "steps" ∷ decimal steps ∷ []
+-- whose a letter is: a loyal general's, or a traitor's with his steps
+abbrev pub kind : Option ℕ → List Word
+kind None = codes "loyal" ∷ []
+kind (Some steps) = codes "steps" ∷ decimal steps ∷ []
+
+abbrev pub author_line : ℕ → Option ℕ → Line
+author_line g steps = codes "letter" ∷ decimal g ∷ kind steps
+
+-- the steps of a general who acts by a program
+abbrev pub steps_of : Letter → Option ℕ
+steps_of l = option_map (λ _. l.steps) l.program
 
 abbrev pub letter_lines : Letter → List Line
-letter_lines l = letter_line l.general l.program l.steps ∷ row_lines 0 l.outbox.rows
+letter_lines l = author_line l.general (steps_of l) ∷ row_lines 0 l.outbox.rows
 
 -- round by round its line, its accesses, and its letters, which are told by these lines
 abbrev pub rounds_told : (ℕ → Letter → List Line) → List Access → ℕ → List (List Letter) → List Line
 rounds_told told accesses round [] = []
 rounds_told told accesses round (letters ∷ rounds) =
     (codes "round" ∷ decimal round ∷ [])
-    ∷ (map access_line (filter (λ a. a.round == round) accesses) ++ (flat_map (told round) letters ++ rounds_told told accesses (suc round) rounds))
+    ∷ (map access_line (filter (λ a. a.round == round) accesses)
+    ++ (flat_map (told round) letters ++ rounds_told told accesses (suc round) rounds))
 
 abbrev pub round_lines : ℕ → List Access → List (List Letter) → List Line
 round_lines round accesses rounds = rounds_told (λ _. letter_lines) accesses round rounds

@@ -2,8 +2,8 @@
 ghost use Rattle.std.specs.Prelude.{◌≡◌, ◌==◌, ◌<◌, ◌≤◌, ◌+◌, ◌++◌, ◌∷◌, [], ℕ, decimal, codes, length, map, filter, Option, slice_index_or};
 ghost use Rattle.semantics.specs.Replies.{words_in};
 ghost use Rattle.trace.specs.Sinks.{Wrote};
-ghost use Rattle.trace.specs.Text.{further, text, access_line, place, yes_no, yes_no_none, verdict_line, decision_line};
-ghost use Rattle.trace.specs.Lines.{question, kind, mark, round_line, row_line, author_line};
+ghost use Rattle.trace.specs.Text.{author_line, further, text, access_line, kind, place, yes_no, yes_no_none, verdict_line, decision_line};
+ghost use Rattle.trace.specs.Lines.{question, mark, round_line, row_line};
 
 use crate::composing::LineBuffer;
 use crate::sink::Sink;

@@ -13,6 +13,6 @@ pub mod Describes
 pub mod Transfer
 pub mod Judgement
 pub mod Laws
-pub mod Telling
+pub mod ErrorText
 pub mod KnownAtUnits
 pub mod Ready

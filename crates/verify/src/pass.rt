@@ -1,5 +1,5 @@
 //! The forward pass.
-ghost use Rattle.std.specs.Prelude.{ℕ, ◌≡◌, ◌≢◌, ◌<◌, ◌≤◌, ◌+◌, ◌^◌, pos, ◌<ℤ◌, ◌+ℤ◌, length, IfOk, Ok, Result, if◌then◌else◌, Some, None};
+ghost use Rattle.std.specs.Prelude.{ℕ, ◌≡◌, ◌≢◌, ◌<◌, ◌≤◌, ◌+◌, ◌^◌, pos, ◌<ℤ◌, ◌+ℤ◌, length, IfErr, IfOk, Ok, Result, if◌then◌else◌, Some, None};
 ghost use Rattle.std.specs.Result.{result_err};
 ghost use Rattle.verify.specs.Instructions.{IsStraight, reason_of};
 ghost use Rattle.verify.specs.Transfer.{edge_to};
@@ -8,6 +8,7 @@ ghost use Rattle.verify.specs.Passes.{Does, Comes, Answers};
 ghost use Rattle.insn.specs.Program.{slots_of, instruction_at};
 ghost use Rattle.verify.specs.Forward.{IsForward};
 ghost use Rattle.verify.specs.Branches.{branch_of};
+ghost use Rattle.verify.specs.declared.error.VerifyError.TheVariants.{Memory};
 ghost use Rattle.verify.specs.Kept.{EdgesInside, EdgesForward, AtHand, unboxed};
 ghost use Rattle.verify.specs.Ready.{IsMade, AreMade, ready_at};
 
@@ -31,7 +32,8 @@ fn pass_straight(
     requires straight { IsStraight insn.now }
     requires bound { unit < 4096 }
     requires edges { EdgesInside insn.now unit (length pending.old.items) }
-    ensures { Comes (followed unit insn.now state.value pending.old.items) (unit + 1) result pending.new.items }
+    ensures comes { Comes (followed unit insn.now state.value pending.old.items) (unit + 1) result pending.new.items }
+    ensures memory { IfErr result (λ e. e ≢ Memory) }
 {
     if let Err(reason) = steps::straight(&mut state, insn) {
         return Err(VerifyError::At(reason, unit));
@@ -94,7 +96,8 @@ fn pass_branch(
 
 /// The program ends.
 fn pass_exit(unit: usize, state: Box<AbsState>) -> Result<(), VerifyError>
-    ensures { (reached : KnownSoFar) → Does (followed unit Insn.Exit state.value reached) result reached }
+    ensures does { (reached : KnownSoFar) → Does (followed unit Insn.Exit state.value reached) result reached }
+    ensures memory { IfErr result (λ e. e ≢ Memory) }
 {
     if let Err(reason) = steps::exit(&state) {
         return Err(VerifyError::At(reason, unit));

@@ -12,7 +12,7 @@ use Rattle.explain.specs.Explained.{explained_at}
 use Rattle.explain.specs.Units.{in_lists}
 use Rattle.scenario.specs.Sources.{source_by}
 use Rattle.scenario.specs.Tables.{Source, Assembly, Hex}
-use Rattle.scenario.specs.Told.{IsFaultOf, IsProgramOf}
+use Rattle.scenario.specs.Reading.{IsFaultOf, IsProgramOf}
 use Rattle.scenario.specs.declared.fault.ProgramFault.{ProgramFault}
 use Rattle.scenario.specs.declared.fault.ProgramFault.TheVariants as programs
 use Rattle.scenario.specs.declared.fault.ScenarioError.{ScenarioError}

@@ -8,7 +8,7 @@ use Rattle.toml.specs.Parse.{parse_document}
 use Rattle.asm.specs.declared.fault.Fault.{Fault as AsmFault}
 use Rattle.combine.specs.Names.{rule_names}
 use Rattle.codec.specs.declared.fault.Fault.{Fault as CodecFault}
-use Rattle.verify.specs.Telling.{code_of}
+use Rattle.verify.specs.ErrorText.{code_of}
 use Rattle.verify.specs.declared.reason.Reason.{Reason}
 use Rattle.scenario.specs.Names.{text_of}
 use Rattle.scenario.specs.Sources.{source_by}

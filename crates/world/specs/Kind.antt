@@ -92,7 +92,8 @@ loyal_letter K s before g =
 -- a general's letter as he stands, or none
 abbrev pub letters_at : Kind → World → ℕ → Option Part → List Letter
 letters_at K w g (Some (Acting a)) =
-    traitor_letter_with K w.scenario w.closed g (program_of w.scenario g) (accesses_of g (drop w.opened w.ledger)) a.state.steps a ∷ []
+    traitor_letter_with K w.scenario w.closed g (program_of w.scenario g) (accesses_of g (drop w.opened w.ledger))
+    a.state.steps a ∷ []
 letters_at K w g (Some Silent) = []
 letters_at K w g (Some Posted) = loyal_letter K w.scenario w.closed g ∷ []
 letters_at K w g None = []
@@ -108,7 +109,8 @@ served w g (Asks request answered) =
     let answer = reply w.words request in
     record w {
       words = next w.words request;
-      ledger = w.ledger ++ record { general = g; round = suc (length w.closed); request = request; reply = answer } ∷ [];
+      ledger =
+          w.ledger ++ record { general = g; round = suc (length w.closed); request = request; reply = answer } ∷ [];
       parts = slice_set w.parts g (Acting (answered answer));
     }
 served w g Ended = w
@@ -125,7 +127,8 @@ posting w g _ = w
 
 -- the letters of the round are made and kept, and the next round begins
 abbrev pub closing : Kind → World → World
-closing K w = begun K w.scenario (w.closed ++ round_letters K w ∷ []) w.words w.ledger (w.full && list_all owes_no_letter w.parts)
+closing K w =
+    begun K w.scenario (w.closed ++ round_letters K w ∷ []) w.words w.ledger (w.full && list_all owes_no_letter w.parts)
 
 -- what an event does; a refused one, a tick of an ended activation and a second post change nothing
 abbrev pub happen : Kind → World → Event → World

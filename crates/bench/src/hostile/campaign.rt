@@ -1,5 +1,5 @@
 //! The campaigns on which the calls are made.
-use crate::told::{Messages, scenario_of};
+use crate::chronicles::{Messages, scenario_of};
 use anyhow::{Result, bail};
 use asm::assemble;
 use codec::encode;

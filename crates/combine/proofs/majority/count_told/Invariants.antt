@@ -1,6 +1,6 @@
 use Rattle.std.proofs.Common.{◌≡◌, take}
 use Rattle.std.specs.Prelude.{count_by, ◌==◌}
-use Rattle.combine.specs.Told.{order_or_retreat}
+use Rattle.combine.specs.Orders.{order_or_retreat}
 use Rattle.combine.proofs.majority.count_told.Given as goal
 
 abbrev pub invariant-loop-x : goal.invariant-loop-x

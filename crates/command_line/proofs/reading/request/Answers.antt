@@ -3,7 +3,7 @@ use Rattle.clap.specs.Words.{kind_of, subcommand_rows_of}
 use Rattle.clap.specs.declared.error.kind.ErrorKind.TheVariants.{OutOfMemory}
 use Rattle.command_line.specs.Asked.{words_of}
 use Rattle.command_line.specs.Met.{has_places, told_by}
-use Rattle.command_line.specs.Told.{Told}
+use Rattle.command_line.specs.Tasks.{Told}
 use Rattle.command_line.proofs.CallLemmas.{error_is_refused, kind_among, misuse_is_told, none_found, some_met, task_found, request_is_asked}
 use Rattle.command_line.proofs.reading.request.Goals as goal
 

@@ -1,6 +1,6 @@
 use Rattle.std.proofs.Common.{sym, ◌∙◌}
 use Rattle.std.specs.Prelude.{map}
-use Rattle.combine.specs.Told.{order_or_retreat, with_own}
+use Rattle.combine.specs.Orders.{order_or_retreat, with_own}
 use Rattle.combine.proofs.Voting.{voted}
 use Rattle.combine.proofs.Joining.{most_anywhere}
 use Rattle.combine.proofs.majority.MajorityCombine.combine_told.Goals as goal
