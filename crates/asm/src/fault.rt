@@ -1,6 +1,6 @@
 //! Why a text is no program.
 
-ghost use Rattle.std.specs.Prelude.{◌≡◌};
+ghost use Rattle.std.specs.Prelude.{◌≡◌, ◌↔◌, IsErr};
 ghost use Rattle.asm.specs.declared.fault.AsmError.TheVariants.{Memory as OutOfMemory};
 ghost use Rattle.asm.specs.declared.fault.LineError.TheVariants.{Memory, Fault as At};
 
@@ -56,6 +56,18 @@ pub enum AsmError {
     Memory,
 }
 
+impl AsmError {
+    /// Want of memory, where it is that; a fault is none.
+    pub(crate) fn want_of_memory(self) -> Result<(), AllocError>
+        ensures { (IsErr result) ↔ (self ≡ OutOfMemory) }
+    {
+        match self {
+            AsmError::Memory => Err(AllocError),
+            AsmError::At(_, _) => Ok(()),
+        }
+    }
+}
+
 impl fmt::Display for AsmError {
     ghost use Rattle.std.specs.Prelude.{Some};
     ghost use Rattle.asm.specs.Telling.{told};
@@ -77,6 +89,18 @@ impl Error for AsmError {}
 pub enum LineError {
     Memory,
     Fault(Fault),
+}
+
+impl LineError {
+    /// Want of memory, where it is that; a fault is none.
+    pub(crate) fn want_of_memory(self) -> Result<(), AllocError>
+        ensures { (IsErr result) ↔ (self ≡ Memory) }
+    {
+        match self {
+            LineError::Memory => Err(AllocError),
+            LineError::Fault(_) => Ok(()),
+        }
+    }
 }
 
 impl From<AllocError> for LineError {

@@ -5,7 +5,6 @@ ghost use Rattle.asm.specs.Places.{AreWritten, kept_places, line_text, own_place
 ghost use Rattle.asm.specs.Program.{lines_of, nothing, read_on};
 ghost use Rattle.asm.specs.Views.{kept_view};
 
-use crate::fault::AsmError;
 use crate::kept::{Kept, units};
 use crate::reading::{Reading, gather};
 use std::alloc::{AllocError, Global};
@@ -61,7 +60,9 @@ pub fn places(alloc: Global, text: &str) -> Result<Vec<String>, AllocError>
 {
     match gather(alloc, text.as_bytes()) {
         Ok(reading) => all_places(alloc, &reading),
-        Err(AsmError::Memory) => Err(AllocError),
-        Err(AsmError::At(_, _)) => Ok(Vec::new(alloc)),
+        Err(error) => {
+            error.want_of_memory()?;
+            Ok(Vec::new(alloc))
+        }
     }
 }
