@@ -1,6 +1,7 @@
 //! Sections with a part for each general.
 ghost use Rattle.std.specs.Prelude.{◌≡◌, ◌<◌, ◌++◌, option_map, string_bytes, IfOk, OnOk};
-ghost use Rattle.campaign_page.specs.Account.{each_lieutenant, each_program, lieutenants_heading, no_programs, programs_heading, programs_told, lieutenant_part, lieutenant_words, lieutenants_part, explained_told, program_part, program_told, programs_part, traitor_words, why_part, elsewhere_words, general_name, view_of};
+ghost use Rattle.page.specs.Page.{heading};
+ghost use Rattle.campaign_page.specs.Account.{each_lieutenant, each_program, lieutenants_fitted, lieutenants_heading, no_programs, programs_heading, programs_told, lieutenant_part, lieutenant_words, lieutenants_part, explained_told, program_part, program_told, programs_part, traitor_words, why_part, elsewhere_words, general_name, view_of};
 ghost use Rattle.label.specs.Labels.{on};
 ghost use Rattle.retold.specs.Retold.{traitors_of};
 ghost use Rattle.roster.specs.Scenario.{program_of};
@@ -150,12 +151,33 @@ pub(crate) fn put_lieutenants<H: Heard>(
     ensures { OnOk result (string_bytes out.new ≡ string_bytes out.old
         ++ lieutenants_part (H.seen table.now) (traitors_of chronicle.now.scenario) (view_of chronicle.now.scenario)) }
 {
+    let told = lieutenants(alloc, table, chronicle)?;
+    put_lieutenants_told(alloc, out, told.as_str())
+}
+
+/// What each lieutenant was told, and why he decides so.
+fn lieutenants<H: Heard>(
+    alloc: Global,
+    table: &H,
+    chronicle: &Chronicle,
+) -> Result<String, AllocError>
+    ensures { IfOk result (λ told. string_bytes told
+        ≡ each_lieutenant (H.seen table.now) (traitors_of chronicle.now.scenario) (view_of chronicle.now.scenario)) }
+{
     let traitors = traitors(alloc, chronicle.scenario())?;
     let view = view_of(chronicle.scenario());
     let mut told = String::new(alloc);
     put_each_lieutenant(alloc, &mut told, table, traitors.as_slice(), view)?;
+    Ok(told)
+}
+
+/// Adds that, if there is room.
+fn put_lieutenants_told(alloc: Global, out: &mut String, told: &str) -> Result<(), AllocError>
+    ensures { OnOk result (string_bytes out.new ≡ string_bytes out.old
+        ++ (heading lieutenants_heading ++ lieutenants_fitted told.now)) }
+{
     put_heading(out, lieutenants_heading())?;
-    put_fitted_lieutenants(alloc, out, told.as_str())
+    put_fitted_lieutenants(alloc, out, told)
 }
 
 /// Adds that of each lieutenant.
