@@ -1,6 +1,6 @@
 //! Why a text is no program.
 
-ghost use Rattle.std.specs.Prelude.{◌≡◌, ◌↔◌, IsErr};
+ghost use Rattle.std.specs.Prelude.{◌≡◌, ◌≢◌, OnErr, OnOk};
 ghost use Rattle.asm.specs.declared.fault.AsmError.TheVariants.{Memory as OutOfMemory};
 ghost use Rattle.asm.specs.declared.fault.LineError.TheVariants.{Memory, Fault as At};
 
@@ -59,7 +59,8 @@ pub enum AsmError {
 impl AsmError {
     /// Want of memory, where it is that; a fault is none.
     pub(crate) fn want_of_memory(self) -> Result<(), AllocError>
-        ensures { (IsErr result) ↔ (self ≡ OutOfMemory) }
+        ensures fault { OnOk result (self ≢ OutOfMemory) }
+        ensures memory { OnErr result (self ≡ OutOfMemory) }
     {
         match self {
             AsmError::Memory => Err(AllocError),
@@ -94,7 +95,8 @@ pub enum LineError {
 impl LineError {
     /// Want of memory, where it is that; a fault is none.
     pub(crate) fn want_of_memory(self) -> Result<(), AllocError>
-        ensures { (IsErr result) ↔ (self ≡ Memory) }
+        ensures fault { OnOk result (self ≢ Memory) }
+        ensures memory { OnErr result (self ≡ Memory) }
     {
         match self {
             LineError::Memory => Err(AllocError),

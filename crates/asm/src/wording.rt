@@ -130,6 +130,7 @@ fn put_statement(
 }
 
 /// Adds those of a line.
+#[tactic(auto, using(crate::proofs::WordingLemmas::nothing_added))]
 fn put_line<'a>(
     alloc: Global,
     statements: &mut Vec<String>,

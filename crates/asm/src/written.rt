@@ -54,6 +54,7 @@ fn all_places(alloc: Global, reading: &Reading<'_>) -> Result<Vec<String>, Alloc
 /// # Errors
 ///
 /// Want of memory.
+#[tactic(auto, using(crate::proofs::PlaceLemmas::places_refused))]
 pub fn places(alloc: Global, text: &str) -> Result<Vec<String>, AllocError>
     ensures { IfOk result (λ places. AreWritten (read_on nothing 1 (lines_of text.now))
         (map string_bytes places.items)) }

@@ -6,7 +6,7 @@ ghost use Rattle.byzlab.specs.Kept.{IsFilledBy};
 use std::io;
 use streams::Output;
 
-/// That bytes were written whole to some stream: `filled` alone tells it.
+/// That bytes were written whole to some stream: `fill` alone tells it.
 #[derive(Drop)]
 pub struct Filled<'a> {
     bytes: &'a [u8],
@@ -17,7 +17,7 @@ pub struct Filled<'a> {
 /// # Errors
 ///
 /// A write that failed.
-pub fn filled<'a, O: Output>(file: &mut O, bytes: &'a [u8]) -> io::Result<Filled<'a>>
+pub fn fill<'a, O: Output>(file: &mut O, bytes: &'a [u8]) -> io::Result<Filled<'a>>
     ensures whole { OnOk result (Appends (O.contents file.old) (O.contents file.new) bytes.now) }
     ensures told { IfOk result (IsFilledBy bytes.now) }
 {

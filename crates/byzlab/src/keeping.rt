@@ -2,7 +2,7 @@
 ghost use Rattle.std.specs.Prelude.{◌≡◌, IfErr, IfOk, length, string_bytes};
 ghost use Rattle.byzlab.specs.Kept.{IsFilledBy, IsKeptIn, IsUnwritten, Tells, name_beside, schedule_name};
 
-use crate::filling::{Filled, filled};
+use crate::filling::{Filled, fill};
 use std::alloc::{AllocError, Global};
 use std::fs::{File, create_dir, metadata, remove_file, rename, symlink_metadata};
 use std::io::{self, ErrorKind};
@@ -50,7 +50,7 @@ fn write_through<'a>(rt: &HostRuntime, name: &str, bytes: &'a [u8]) -> Result<Fi
     ensures unwritten { IfErr result (Tells (λ told. told ≡ name.now)) }
 {
     let ended = match File::create(rt, name) {
-        Ok(mut file) => filled(&mut file, bytes),
+        Ok(mut file) => fill(&mut file, bytes),
         Err(error) => Err(error),
     };
     match ended {
@@ -88,7 +88,7 @@ fn named<'a>(
 ) -> io::Result<Filled<'a>>
     ensures { IfOk result (IsFilledBy bytes.now) }
 {
-    let written = filled(&mut file, bytes)?;
+    let written = fill(&mut file, bytes)?;
     rename(rt, beside, name)?;
     Ok(written)
 }

@@ -1,6 +1,6 @@
 -- A program with an instruction put before another or in its place, or a sum in the pointer's register, and how far the
 -- verifier comes in it (own).
-use Rattle.std.specs.Prelude.{ℕ, ℤ, pos, ◌+◌, ◌+ℤ◌, ◌==◌, ◌&&◌, nat_lt, nat_le, int_lt, if◌then◌else◌, List, [], ◌∷◌, ◌++◌, Option, Some, None, Result, Ok, IsErr, length}
+use Rattle.std.specs.Prelude.{ℕ, ℤ, pos, ◌≡◌, ◌≢◌, ◌+◌, ◌+ℤ◌, ◌==◌, ◌&&◌, nat_lt, nat_le, int_lt, if◌then◌else◌, List, [], ◌∷◌, ◌++◌, Option, Some, None, Result, Ok, Err, length}
 use Rattle.std.specs.declared.alloc.AllocError.{AllocError}
 use Rattle.word.specs.declared.Width.TheVariants.{W64}
 use Rattle.word.specs.declared.Operation.{Operation}
@@ -74,8 +74,8 @@ comes unit (Some Memory) = Refused
 
 -- the same by the fault that the verifier tells, or want of memory, where memory was refused alone
 abbrev pub ComesBy : ℕ → VerifyError → Result Trial AllocError → Type 0
-ComesBy unit Memory answer = IsErr answer
-ComesBy unit fault answer = answer ≡ Ok (comes unit (Some fault))
+ComesBy unit fault (Ok trial) = (fault ≢ Memory) × (trial ≡ comes unit (Some fault))
+ComesBy unit fault (Err _) = fault ≡ Memory
 
 -- of a program with the edit, that has not more units than a program may have
 abbrev pub tried_with : List Insn → ℕ → Trial

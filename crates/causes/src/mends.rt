@@ -258,6 +258,7 @@ fn come_by(fault: VerifyError, unit: usize) -> Result<Trial, AllocError>
 }
 
 /// How far the verifier comes in a program.
+#[tactic(auto, using(crate::proofs::ComingLemmas::came))]
 fn come(alloc: Global, program: Program, unit: usize) -> Result<Trial, AllocError>
     ensures { IfOk result (λ trial. trial ≡ comes unit (judged program)) }
 {

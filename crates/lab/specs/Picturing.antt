@@ -30,9 +30,10 @@ is_toml text = is_some (parse_document text)
 
 -- whether a text that was parsed so is TOML, or want of memory
 abbrev pub TellsWhetherToml : {T : Type 0} → Result T Error → Result Bool AllocError → Type 0
-TellsWhetherToml (Ok table) answer = answer ≡ Ok true
+TellsWhetherToml (Ok table) (Ok is) = is ≡ true
 TellsWhetherToml (Err error) (Ok is) = (is ≡ false) × ¬ IsMemory error
 TellsWhetherToml (Err error) (Err _) = IsMemory error
+TellsWhetherToml _ _ = ⊥
 
 -- what the general was told by a message table, or by the letters of the oral campaign that a text tells, without a
 -- schedule; drawn with these named as traitors, and of a campaign with its own besides, and as one whose order is known

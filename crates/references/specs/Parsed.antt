@@ -1,5 +1,5 @@
 -- What a text that was parsed so tells, and what is told of a table that was printed so (own).
-use Rattle.std.specs.Prelude.{◌≡◌, IsErr, Option, Some, None, Result, Ok, Err}
+use Rattle.std.specs.Prelude.{◌≡◌, Option, Some, None, Result, Ok, Err}
 use Rattle.std.specs.declared.alloc.AllocError.{AllocError}
 use Rattle.toml.specs.Errors.{IsMemory}
 use Rattle.toml.specs.declared.de.error.Error.{Error}
@@ -15,6 +15,7 @@ IsDocumentOf _ _ = ⊥
 
 -- its text, none where a date has no text, or want of memory
 abbrev pub IsTextBy : {T : Type 0} → Result T PrintError → Result (Option T) AllocError → Type 0
-IsTextBy (Ok text) answer = answer ≡ Ok (Some text)
-IsTextBy (Err unprinted.DateInvalid) answer = answer ≡ Ok None
-IsTextBy (Err unprinted.OutOfMemory) answer = IsErr answer
+IsTextBy (Ok text) (Ok (Some own)) = own ≡ text
+IsTextBy (Err error) (Ok None) = error ≡ unprinted.DateInvalid
+IsTextBy (Err error) (Err _) = error ≡ unprinted.OutOfMemory
+IsTextBy _ _ = ⊥

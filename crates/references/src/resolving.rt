@@ -190,6 +190,7 @@ fn text_of<T: Drop>(printed: Result<T, Error>) -> Result<Option<T>, AllocError>
 }
 
 /// The text of a table; none where a date of it has no text.
+#[tactic(auto, using(crate::proofs::PrintLemmas::told_so))]
 fn printed(alloc: Global, table: &Table) -> Result<Option<String>, AllocError>
     ensures { IfOk result (λ new. IsPrinted (table_view table.now) (option_map string_bytes new)) }
 {
