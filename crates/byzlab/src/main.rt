@@ -3,6 +3,7 @@
 #![tactic(auto)]
 
 mod failures;
+mod filling;
 mod folder;
 mod input;
 mod keeping;
@@ -261,7 +262,7 @@ fn schedule_written(
     }
     let text = seeded(rt.alloc(), seed)?;
     match write_whole(rt, name, text.as_bytes()) {
-        Ok(()) => Ok(ending),
+        Ok(_written) => Ok(ending),
         Err(unkept) => {
             tell_unkept(rt, request, unkept)?;
             Ok(Ending::with(1))

@@ -1,10 +1,12 @@
 -- What a task and its refusal say.
-use Rattle.std.specs.Prelude.{⊤, ℕ, ◌≡◌, ◌&&◌, ◌||◌, Bool, true, false, List, [], ◌∷◌, Option, None, Some, codes, is_some, option_map}
+use Rattle.std.specs.Prelude.{⊤, ℕ, ◌≡◌, ◌≢◌, ◌&&◌, ◌||◌, Bool, true, false, List, [], ◌∷◌, Option, None, Some, codes, is_some, option_map}
 use Rattle.std.specs.List.{list_any}
 use Rattle.std.specs.Str.{bytes_eq}
 use Rattle.std.specs.String.{string_bytes}
 use Rattle.text.specs.Options.{◌>>=◌}
+use Rattle.clap.specs.Words.{kind_of}
 use Rattle.clap.specs.declared.error.Error.{Error}
+use Rattle.clap.specs.declared.error.kind.ErrorKind.TheVariants.{OutOfMemory}
 use Rattle.command_line.specs.Generals.{count_in, depth_in, general_in, generals_in, order_in, seed_in}
 use Rattle.command_line.specs.Usage.{Text}
 use Rattle.command_line.specs.declared.tasks.Accesses.{Accesses}
@@ -330,6 +332,12 @@ abbrev pub IsErrorOf : Told → TaskError → Type 0
 IsErrorOf told (error.Words refusal) = ⊥
 IsErrorOf told (error.Misuse misuse) = IsMisused told misuse
 IsErrorOf told error.Memory = ⊤
+
+-- `clap`'s error is told as its own, and as want of memory exactly where it is that
+abbrev pub IsToldBy : Error → TaskError → Type 0
+IsToldBy refusal (error.Words own) = (own ≡ refusal) × (kind_of refusal ≢ OutOfMemory)
+IsToldBy refusal error.Memory = kind_of refusal ≡ OutOfMemory
+IsToldBy refusal (error.Misuse misuse) = ⊥
 
 -- the fact holds of `clap`'s error, where it refused the words
 abbrev pub IfWords : TaskError → (Error → Type 0) → Type 0

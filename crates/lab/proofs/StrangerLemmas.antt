@@ -1,13 +1,15 @@
 -- Generals who are named, by what is read of a text.
-use Rattle.std.proofs.Common.{ℕ, zero, suc, ◌≡◌, ◌∙◌, Bool, true, false, List, [], ◌∷◌, take, ap, inl, inr, refl, sym, subst}
+use Rattle.std.proofs.Common.{ℕ, zero, suc, ◌≡◌, ◌≢◌, ◌∙◌, Bool, true, false, List, [], ◌∷◌, take, ap, inl, inr, refl, sym, subst}
 use Rattle.std.specs.Prelude.{None, Ok, Option, Some, find, slice_get}
 use Rattle.std.proofs.lemmas.Bool.{cases_Bool, cond-false, cond-true}
 use Rattle.book.specs.Grammar.{table_told}
 use Rattle.book.specs.Table.{MessageTable}
+use Rattle.book.specs.declared.fault.TableError.{TableError}
+use Rattle.book.specs.declared.fault.TableError.TheVariants as table
 use Rattle.roster.specs.Scenario.{Scenario as Campaign}
 use Rattle.scenario.specs.Reading.{Tells}
 use Rattle.tables.specs.Numbers.{HasGenerals as AreNumbersOf}
-use Rattle.lab.specs.Refusals.{RefusesFilled, RefusesForm, RefusesNaming, RefusesScenario, RefusesTable, RefusesTreeIn}
+use Rattle.lab.specs.Refusals.{RefusesFilled, RefusesForm, RefusesNaming, RefusesScenario, RefusesTable, RefusesTreeIn, table_refusal}
 use Rattle.lab.specs.Strangers.{HasNumbers, IsStranger, IsStrangerToTree, KnowsAll, KnowsLiar, KnowsTree, liars, stranger_among, stranger_to_tree}
 use Rattle.lab.specs.declared.refusal.Refusal.{Refusal}
 use Rattle.lab.specs.declared.refusal.Refusal.TheVariants.{Codec, Object, Verifier, Assembly, Table, Scenario, Setting, Trace, Threads, Accesses, Stranger, NotText, Memory}
@@ -145,6 +147,25 @@ strange_liar n m c liar generals (Stranger g all) are strange =
 strange_liar n m c liar generals NotText are strange = absurd strange
 strange_liar n m c liar generals Memory are strange = absurd strange
 
+pub named_stranger : (generals : ℕ) (named : List ℕ) (refusal : Refusal) → IsStranger generals named refusal → refusal ≢ Memory
+named_stranger generals named (Codec error) strange = absurd strange
+named_stranger generals named (Object fault) strange = absurd strange
+named_stranger generals named (Verifier fault) strange = absurd strange
+named_stranger generals named (Assembly error) strange = absurd strange
+named_stranger generals named (Table error) strange = absurd strange
+named_stranger generals named (Scenario error) strange = absurd strange
+named_stranger generals named (Setting error) strange = absurd strange
+named_stranger generals named (Trace error) strange = absurd strange
+named_stranger generals named (Threads error) strange = absurd strange
+named_stranger generals named (Accesses fault) strange = absurd strange
+named_stranger generals named (Stranger g all) strange = λ e. cc
+named_stranger generals named NotText strange = absurd strange
+named_stranger generals named Memory strange = absurd strange
+
+pub faulty_numbers : (error : TableError) → error ≢ table.Memory → table_refusal error ≢ Memory
+faulty_numbers (table.At fault line) apart = λ e. cc
+faulty_numbers table.Memory apart = absurd (apart refl)
+
 -- ---- the first that is a stranger
 
 some_none : {A : Type 0} {a : A} → Some a ≡ None → ⊥
@@ -177,4 +198,4 @@ pub ruleset table_known = (tree_of_table, no_table_to_draw, strange_to_tree)
 
 pub ruleset scenario_known = (tree_of_scenario, no_campaign_to_draw, strange_to_campaign)
 
-pub ruleset liar_known = (unfilled, of_numbers, strange_liar)
+pub ruleset liar_known = (unfilled, of_numbers, strange_liar, named_stranger, faulty_numbers)

@@ -1,5 +1,6 @@
 -- What is drawn of a message table.
-use Rattle.std.specs.Prelude.{ℕ, Bool, true, false, List, [], ◌++◌, None, is_some}
+use Rattle.std.specs.Prelude.{ℕ, ◌≡◌, Bool, true, false, List, [], ◌++◌, None, Result, Ok, Err, is_some}
+use Rattle.std.specs.declared.alloc.AllocError.{AllocError}
 use Rattle.command_line.specs.declared.tasks.Drawing.{Drawing}
 use Rattle.command_line.specs.declared.tasks.Drawing.TheVariants as drawings
 use Rattle.drawing.specs.Drawn.{DrawsTable}
@@ -10,8 +11,10 @@ use Rattle.drawing.specs.declared.node.Style.TheVariants.{Ascii, Boxes}
 use Rattle.drawing.specs.declared.node.View.{View}
 use Rattle.retold.specs.Retold.{table_of, traitors_of}
 use Rattle.roster.specs.Scenario.{Scenario}
-use Rattle.scenario.specs.Reading.{Tells}
+use Rattle.scenario.specs.Told.{Tells}
+use Rattle.toml.specs.Errors.{IsMemory}
 use Rattle.toml.specs.Parse.{parse_document}
+use Rattle.toml.specs.declared.de.error.Error.{Error}
 use Rattle.lab.specs.Campaigns.{played}
 
 -- the form of a drawing
@@ -24,6 +27,13 @@ form_of drawings.Svg = Svg
 -- the text is TOML, as that of a campaign and of no message table
 abbrev pub is_toml : List ℕ → Bool
 is_toml text = is_some (parse_document text)
+
+-- whether a text that was parsed so is TOML, or want of memory
+abbrev pub TellsWhetherToml : {T : Type 0} → Result T Error → Result Bool AllocError → Type 0
+TellsWhetherToml (Ok table) (Ok is) = is ≡ true
+TellsWhetherToml (Err error) (Ok is) = (is ≡ false) × ¬ IsMemory error
+TellsWhetherToml (Err error) (Err _) = IsMemory error
+TellsWhetherToml _ _ = ⊥
 
 -- what the general was told by a message table, or by the letters of the oral campaign that a text tells, without a
 -- schedule; drawn with these named as traitors, and of a campaign with its own besides, and as one whose order is known

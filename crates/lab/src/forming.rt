@@ -1,7 +1,8 @@
-ghost use Rattle.std.specs.Prelude.{IfOk, IfErr, OnOk, string_bytes};
+ghost use Rattle.std.specs.Prelude.{◌≢◌, IfOk, IfErr, OnOk, string_bytes};
 ghost use Rattle.tables.specs.Answers.{IsFilled, IsFormOf};
 ghost use Rattle.lab.specs.Refusals.{RefusesFilled, RefusesForm};
 ghost use Rattle.lab.specs.Strangers.{KnowsLiar};
+ghost use Rattle.lab.specs.declared.refusal.Refusal.TheVariants.{Memory};
 
 use crate::refusal::Refusal;
 use crate::strangers::know_all;
@@ -53,6 +54,7 @@ pub fn filled(
 fn know_liar(generals: &str, bound: &str, commander: &str, liar: Option<u8>) -> Result<(), Refusal>
     ensures known { OnOk result (KnowsLiar generals.now bound.now commander.now liar) }
     ensures refused { IfErr result (RefusesFilled generals.now bound.now commander.now liar) }
+    ensures memory { IfErr result (λ refusal. refusal ≢ Memory) }
 {
     let all = tables::generals_in(generals, bound, commander)?;
     match liar {

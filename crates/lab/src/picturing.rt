@@ -2,7 +2,7 @@ ghost use Rattle.std.specs.Prelude.{◌≡◌, ◌++◌, [], true, false, IfErr,
 ghost use Rattle.drawing.specs.Drawn.{DrawsTable};
 ghost use Rattle.drawing.specs.Shown.{ordered};
 ghost use Rattle.lab.specs.Campaigns.{played};
-ghost use Rattle.lab.specs.Picturing.{IsTreeIn, form_of, is_toml};
+ghost use Rattle.lab.specs.Picturing.{IsTreeIn, TellsWhetherToml, form_of, is_toml};
 ghost use Rattle.lab.specs.Refusals.{RefusesScenario, RefusesTree, RefusesTreeIn};
 ghost use Rattle.lab.specs.Strangers.{KnowsTree};
 ghost use Rattle.retold.specs.Retold.{IsWhole, table_of, traitors_of};
@@ -16,6 +16,8 @@ use drawing::{Form, Style, View, drawn, ordered, tree_drawn};
 use retold::{hearing, told_table, traitors};
 use roster::Scenario;
 use std::alloc::{AllocError, Global};
+use toml::Table;
+use toml::de::Error;
 use world::{Chronicle, Schedule, play};
 
 /// What this general was told by the message table or, where the text is TOML, in the oral campaign that it tells,
@@ -92,19 +94,22 @@ fn scenario_in(alloc: Global, text: &str) -> Result<Scenario, Refusal>
     Ok(scenario::read(alloc, text)?)
 }
 
+/// Whether a text that was parsed so is TOML.
+fn parses(parsed: Result<Table, Error>) -> Result<bool, AllocError>
+    ensures { TellsWhetherToml parsed result }
+{
+    match parsed {
+        Ok(_) => Ok(true),
+        Err(error) if error.is_memory() => Err(AllocError),
+        Err(_) => Ok(false),
+    }
+}
+
 /// Whether the text is TOML.
 fn is_toml(alloc: Global, text: &str) -> Result<bool, AllocError>
     ensures { IfOk result (λ is. is ≡ is_toml text.now) }
 {
-    match toml::table_from_str(alloc, text) {
-        Ok(_) => Ok(true),
-        Err(error) => {
-            if error.is_memory() {
-                return Err(AllocError);
-            }
-            Ok(false)
-        }
-    }
+    parses(toml::table_from_str(alloc, text))
 }
 
 /// What he was told in the campaign, whose own traitors are named besides.
