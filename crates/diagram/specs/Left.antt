@@ -26,12 +26,12 @@ is_left_lie round p stroke = is_past stroke && is_lie_to round p stroke
 
 -- how many they are, below the list; and the same for those who point at it, or hear it
 unfoldable pub left_words : ℕ → ℕ → List ℕ
-left_words left lies = codes "and " ++ (decimal left ++ (codes " more rows, " ++ (decimal lies ++ codes " dishonest")))
+left_words left lies = codes "and " ++ (decimal left ++ (codes " more, " ++ (decimal lies ++ codes " dishonest")))
 
 unfoldable pub left_in_full : ℕ → ℕ → ℕ → ℕ → List ℕ
 left_in_full p round left lies = codes "general "
-    ++ (decimal p ++ (codes " has " ++ (decimal left ++ (codes " more rows in round "
-    ++ (decimal round ++ (codes ", which are not drawn: in "
+    ++ (decimal p ++ (codes " has " ++ (decimal left ++ (codes " more in round "
+    ++ (decimal round ++ (codes ", not drawn: in "
     ++ (decimal lies ++ codes " of them an honest relay would tell something else")))))))
 
 -- what is told to those who do not see it, where any is not drawn
