@@ -24,7 +24,7 @@ is_left round p stroke = is_past stroke && is_to round p stroke
 abbrev pub is_left_lie : ℕ → ℕ → Stroke → Bool
 is_left_lie round p stroke = is_past stroke && is_lie_to round p stroke
 
--- how many they are, below the list; and the same for those who point at it, or hear it
+-- how many they are, below the list; and the same for those who point at it
 unfoldable pub left_words : ℕ → ℕ → List ℕ
 left_words left lies = codes "and " ++ (decimal left ++ (codes " more, " ++ (decimal lies ++ codes " dishonest")))
 

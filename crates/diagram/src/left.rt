@@ -196,7 +196,7 @@ fn put_more_told(
     put_left_text(out, left, lies)
 }
 
-/// Adds it for those who point at it, or hear it.
+/// Adds it for those who point at it.
 fn put_left_title(
     out: &mut String,
     general: u8,
