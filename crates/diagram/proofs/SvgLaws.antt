@@ -580,8 +580,8 @@ cut_text : IsText cut_words
 unfolding cut_words
 cut_text =
     let first : List ℕ = codes " rows, of orders and of silence. A longer one begins with the first row of each teller in which an " in
-    let second : List ℕ = codes "honest relay would tell something else, then come the others of this kind, then the rest; below it stands how " in
-    let third : List ℕ = codes "many are not drawn." in
+    let second : List ℕ = codes "honest relay would tell something else, then come the others of this kind, then the rest; below it stands " in
+    let third : List ℕ = codes "how many are not drawn." in
     many (codes " A list has at most ") (decimal most_rows ++ (first ++ (second ++ third))) (bare_text (codes " A list has at most ") refl)
     (many (decimal most_rows) (first ++ (second ++ third)) (decimal_text most_rows)
     (many first (second ++ third) (bare_text first refl) (many second third (bare_text second refl) (bare_text third refl))))

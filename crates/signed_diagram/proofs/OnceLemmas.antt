@@ -32,14 +32,14 @@ among_rest xs x ch e = ap (λ b. b || is_among xs ch) e
 among_kept : (f : Chain → Bool) (xs : List Chain) (ch : Chain) → is_among (filter f xs) ch ≡ (f ch && is_among xs ch)
 among_kept f [] ch = sym (and_right (f ch) false refl)
 among_kept f (x ∷ xs) ch = elim (cases_Bool (is_same ch x)) [
-  | inl same ↦ ap (λ b. is_among (cond b (x ∷ filter f xs) (filter f xs)) ch) (ap f (same_chain ch x same)) ∙ by_test (f ch) refl same
+  | inl same ↦ ap (λ b. is_among (cond b (x ∷ filter f xs) (filter f xs)) ch) (ap f (same_chain ch x same)) ∙ by_test (f ch) refl same (among_kept f xs ch)
   | inr other ↦
       by_other (f x) other ∙ (among_kept f xs ch ∙ ap (λ b. f ch && b) (sym (among_rest xs x ch other)))
 ]
   where
-    by_test : (b : Bool) → f ch ≡ b → is_same ch x ≡ true → is_among (cond b (x ∷ filter f xs) (filter f xs)) ch ≡ (b && is_among (x ∷ xs) ch)
-    by_test true e same = or_left (is_same ch x) (is_among (filter f xs) ch) same ∙ sym (or_left (is_same ch x) (is_among xs ch) same)
-    by_test false e same = among_kept f xs ch ∙ ap (λ b. b && is_among xs ch) e
+    by_test : (b : Bool) → f ch ≡ b → is_same ch x ≡ true → is_among (filter f xs) ch ≡ (f ch && is_among xs ch) → is_among (cond b (x ∷ filter f xs) (filter f xs)) ch ≡ (b && is_among (x ∷ xs) ch)
+    by_test true e same rest = or_left (is_same ch x) (is_among (filter f xs) ch) same ∙ sym (or_left (is_same ch x) (is_among xs ch) same)
+    by_test false e same rest = rest ∙ ap (λ b. b && is_among xs ch) e
 
     by_other : (b : Bool) → is_same ch x ≡ false → is_among (cond b (x ∷ filter f xs) (filter f xs)) ch ≡ is_among (filter f xs) ch
     by_other true other = among_rest (filter f xs) x ch other
