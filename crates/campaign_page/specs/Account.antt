@@ -151,8 +151,8 @@ lieutenant_words g is_traitor order =
 -- of five rounds, in which he may have more than a thousand lists, who tells them
 unfoldable pub elsewhere_words : ℕ → List ℕ
 elsewhere_words g =
-    codes "Of five rounds a page has no room for the lists by which he decides so: play, with --schedule as here, of a "
-    ++ codes "chronicle audit, tells them with --explain --of " ++ (decimal g ++ codes ".")
+    codes "Of five rounds a page has no room for the lists by which he decides so: byzlab play, with --schedule as here, "
+    ++ codes "or byzlab audit of the chronicle tells them with --explain --of " ++ (decimal g ++ codes ".")
 
 abbrev pub why_part : MessageTable → List ℕ → ℕ → List ℕ
 why_part t traitors g = if nat_lt t.bound 4 then lines (explained_one t traitors g) else paragraph (elsewhere_words g)

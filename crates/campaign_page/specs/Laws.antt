@@ -26,7 +26,8 @@ CampaignPagesAreElements =
     → (text : List ℕ) × IsElement text
     × (page_text scenario schedule t c ≡ codes "<!DOCTYPE html>\n" ++ text ++ codes "\n")
 
--- no page is longer than this, whatever stands in the scenario, and whatever the schedule, the table and the letters
+-- no page of a campaign within its limits is longer than this, whatever stands in the scenario's text, and whatever the
+-- schedule, the table and the letters
 abbrev pub CampaignPagesAreShort : Type 0
 CampaignPagesAreShort =
     (scenario : List ℕ) (schedule : Option (List (List Repeat))) (t : MessageTable) (c : Chronicle)

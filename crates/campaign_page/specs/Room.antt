@@ -33,7 +33,7 @@ room_for_chronicle = 400000
 abbrev pub room_for_units : ℕ
 room_for_units = 256
 
--- the greatest width of a picture that has a narrow sheet on paper
+-- the greatest width of what a picture has between its margins, 16 in all, that has a narrow sheet on paper
 abbrev pub narrow_sheet : ℕ
 narrow_sheet = 1300
 

@@ -32,7 +32,7 @@ pub(crate) const ROOM_FOR_CHRONICLE: usize = 400_000;
 /// How many units of one program are explained.
 pub(crate) const ROOM_FOR_UNITS: usize = 256;
 
-/// The greatest width of a picture that has a narrow sheet on paper.
+/// The greatest width of what a picture has between its margins, 16 in all, that has a narrow sheet on paper.
 pub(crate) const NARROW_SHEET: u128 = 1300;
 
 /// Adds a part, or, if it is longer than its room, that it is, and who prints it.

@@ -264,8 +264,8 @@ fn elsewhere_words(alloc: Global, general: u8) -> Result<String, AllocError>
     ensures { IfOk result (λ words. string_bytes words ≡ elsewhere_words general) }
 {
     format!(in alloc;
-        "Of five rounds a page has no room for the lists by which he decides so: play, with --schedule as here, of a \
-         chronicle audit, tells them with --explain --of {general}."
+        "Of five rounds a page has no room for the lists by which he decides so: byzlab play, with --schedule as \
+         here, or byzlab audit of the chronicle tells them with --explain --of {general}."
     )
 }
 

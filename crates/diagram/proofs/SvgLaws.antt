@@ -413,25 +413,25 @@ band_content n strokes accesses wide before =
 left_text : (left lies : ℕ) → IsText (left_words left lies)
 unfolding left_words
 left_text left lies =
-    many (codes "and ") (decimal left ++ (codes " more rows, " ++ (decimal lies ++ codes " dishonest"))) (bare_text (codes "and ") refl)
-    (many (decimal left) (codes " more rows, " ++ (decimal lies ++ codes " dishonest")) (decimal_text left)
-    (many (codes " more rows, ") (decimal lies ++ codes " dishonest") (bare_text (codes " more rows, ") refl)
+    many (codes "and ") (decimal left ++ (codes " more, " ++ (decimal lies ++ codes " dishonest"))) (bare_text (codes "and ") refl)
+    (many (decimal left) (codes " more, " ++ (decimal lies ++ codes " dishonest")) (decimal_text left)
+    (many (codes " more, ") (decimal lies ++ codes " dishonest") (bare_text (codes " more, ") refl)
     (many (decimal lies) (codes " dishonest") (decimal_text lies) (bare_text (codes " dishonest") refl))))
 
 left_full_text : (p round left lies : ℕ) → IsText (left_in_full p round left lies)
 unfolding left_in_full
 left_full_text p round left lies =
     let last : List ℕ = codes " of them an honest relay would tell something else" in
-    let four : List ℕ = codes ", which are not drawn: in " ++ (decimal lies ++ last) in
-    let three : List ℕ = codes " more rows in round " ++ (decimal round ++ four) in
+    let four : List ℕ = codes ", not drawn: in " ++ (decimal lies ++ last) in
+    let three : List ℕ = codes " more in round " ++ (decimal round ++ four) in
     let two : List ℕ = codes " has " ++ (decimal left ++ three) in
     many (codes "general ") (decimal p ++ two) (bare_text (codes "general ") refl)
     (many (decimal p) two (decimal_text p)
     (many (codes " has ") (decimal left ++ three) (bare_text (codes " has ") refl)
     (many (decimal left) three (decimal_text left)
-    (many (codes " more rows in round ") (decimal round ++ four) (bare_text (codes " more rows in round ") refl)
+    (many (codes " more in round ") (decimal round ++ four) (bare_text (codes " more in round ") refl)
     (many (decimal round) four (decimal_text round)
-    (many (codes ", which are not drawn: in ") (decimal lies ++ last) (bare_text (codes ", which are not drawn: in ") refl)
+    (many (codes ", not drawn: in ") (decimal lies ++ last) (bare_text (codes ", not drawn: in ") refl)
     (many (decimal lies) last (decimal_text lies) (bare_text last refl))))))))
 
 more_content : (top round p left lies : ℕ) → IsContent (more_at top round p left lies)
@@ -580,8 +580,8 @@ cut_text : IsText cut_words
 unfolding cut_words
 cut_text =
     let first : List ℕ = codes " rows, of orders and of silence. A longer one begins with the first row of each teller in which an " in
-    let second : List ℕ = codes "honest relay would tell something else, then come the others of this kind, then the rest; below it stands how " in
-    let third : List ℕ = codes "many are not drawn." in
+    let second : List ℕ = codes "honest relay would tell something else, then come the others of this kind, then the rest; below it stands " in
+    let third : List ℕ = codes "how many are not drawn." in
     many (codes " A list has at most ") (decimal most_rows ++ (first ++ (second ++ third))) (bare_text (codes " A list has at most ") refl)
     (many (decimal most_rows) (first ++ (second ++ third)) (decimal_text most_rows)
     (many first (second ++ third) (bare_text first refl) (many second third (bare_text second refl) (bare_text third refl))))

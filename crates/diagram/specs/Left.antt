@@ -24,22 +24,22 @@ is_left round p stroke = is_past stroke && is_to round p stroke
 abbrev pub is_left_lie : ℕ → ℕ → Stroke → Bool
 is_left_lie round p stroke = is_past stroke && is_lie_to round p stroke
 
--- how many they are, below the list; and the same for those who point at it, or hear it
+-- how many they are, below the list; and the same for those who point at it
 unfoldable pub left_words : ℕ → ℕ → List ℕ
-left_words left lies = codes "and " ++ (decimal left ++ (codes " more rows, " ++ (decimal lies ++ codes " dishonest")))
+left_words left lies = codes "and " ++ (decimal left ++ (codes " more, " ++ (decimal lies ++ codes " dishonest")))
 
 unfoldable pub left_in_full : ℕ → ℕ → ℕ → ℕ → List ℕ
 left_in_full p round left lies = codes "general "
-    ++ (decimal p ++ (codes " has " ++ (decimal left ++ (codes " more rows in round "
-    ++ (decimal round ++ (codes ", which are not drawn: in "
+    ++ (decimal p ++ (codes " has " ++ (decimal left ++ (codes " more in round "
+    ++ (decimal round ++ (codes ", not drawn: in "
     ++ (decimal lies ++ codes " of them an honest relay would tell something else")))))))
 
 -- what is told to those who do not see it, where any is not drawn
 unfoldable pub cut_words : List ℕ
 cut_words = codes " A list has at most " ++ (decimal most_rows
     ++ (codes " rows, of orders and of silence. A longer one begins with the first row of each teller in which an "
-    ++ (codes "honest relay would tell something else, then come the others of this kind, then the rest; below it "
-    ++ codes "stands how many are not drawn.")))
+    ++ (codes "honest relay would tell something else, then come the others of this kind, then the rest; below it stands "
+    ++ codes "how many are not drawn.")))
 
 abbrev pub more_told : ℕ → ℕ → ℕ → ℕ → List ℕ
 more_told p round left lies =

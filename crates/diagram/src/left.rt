@@ -196,7 +196,7 @@ fn put_more_told(
     put_left_text(out, left, lies)
 }
 
-/// Adds it for those who point at it, or hear it.
+/// Adds it for those who point at it.
 fn put_left_title(
     out: &mut String,
     general: u8,
@@ -225,8 +225,8 @@ fn put_left_in_full(
 {
     write!(
         out,
-        "general {general} has {left} more rows in round {round}, which are not drawn: in {lies} of them an honest \
-         relay would tell something else"
+        "general {general} has {left} more in round {round}, not drawn: in {lies} of them an honest relay would tell \
+         something else"
     )
 }
 
@@ -245,7 +245,7 @@ fn put_left_text(out: &mut String, left: usize, lies: usize) -> Result<(), Alloc
 fn put_left_words(out: &mut String, left: usize, lies: usize) -> Result<(), AllocError>
     ensures { OnOk result (string_bytes out.new ≡ string_bytes out.old ++ left_words left lies) }
 {
-    write!(out, "and {left} more rows, {lies} dishonest")
+    write!(out, "and {left} more, {lies} dishonest")
 }
 
 /// Adds for those who do not see the picture, where strokes are not drawn, that they are not.

@@ -1,8 +1,9 @@
 -- What a campaign's page is.
-use Rattle.std.specs.Prelude.{ℕ, ◌≡◌, List, [], Option, None, Some, Ok, unwrap_or}
+use Rattle.std.specs.Prelude.{ℕ, ◌≡◌, ◌≤◌, List, [], length, Option, None, Some, Ok, unwrap_or}
 use Rattle.book.specs.Grammar.{table_told}
 use Rattle.book.specs.Table.{MessageTable}
 use Rattle.campaign_page.specs.Account.{page_text}
+use Rattle.campaign_page.specs.Room.{longest_page}
 use Rattle.command_line.specs.declared.tasks.Course.{Course}
 use Rattle.command_line.specs.declared.tasks.Course.TheVariants.{Scheduled, Recorded}
 use Rattle.diagram.specs.Laws.{BlamesTraitors}
@@ -21,15 +22,17 @@ use Rattle.lab.specs.Diagrams.{BlamesSignedTraitors}
 use Rattle.lab.specs.Promises.{KeepsPromises, KeepsSignedPromises}
 
 -- the page is that of the chronicle, of the message table that its own letters tell, of the scenario's text, and of the
--- schedule, if it was played by one, and in its picture every stroke of a loyal general is drawn as an honest relay's
+-- schedule, if it was played by one; it is no longer than a page may be, and in its picture every stroke of a loyal
+-- general is drawn as an honest relay's
 abbrev pub IsPage : List ℕ → Option (List (List Repeat)) → Chronicle → List ℕ → Type 0
 IsPage text schedule c page =
     (table : MessageTable) × (table_told (table_of c) ≡ Ok table) × BlamesTraitors c.scenario table
-    × (page ≡ page_text text schedule table c)
+    × (page ≡ page_text text schedule table c) × (length page ≤ longest_page)
 
--- so is that of a signed campaign, and its loyal generals' strokes are drawn so
+-- so is that of a signed campaign, and as short, and its loyal generals' strokes are drawn so
 abbrev pub IsSignedPage : List ℕ → Option (List (List Repeat)) → Chronicle → List ℕ → Type 0
-IsSignedPage text schedule c page = BlamesSignedTraitors c × (page ≡ signed_page_text text schedule c)
+IsSignedPage text schedule c page =
+    BlamesSignedTraitors c × (page ≡ signed_page_text text schedule c) × (length page ≤ longest_page)
 
 -- the page is that of the campaign's chronicle by a schedule, which keeps what is promised, and of the scenario's text
 abbrev pub IsCampaignPaged : Campaign → List ℕ → List (List Repeat) → List ℕ → Type 0

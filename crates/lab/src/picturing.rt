@@ -1,3 +1,4 @@
+//! Message tables and campaigns as trees.
 ghost use Rattle.std.specs.Prelude.{◌≡◌, ◌++◌, [], true, false, IfErr, IfOk, OnOk, string_bytes};
 ghost use Rattle.drawing.specs.Drawn.{DrawsTable};
 ghost use Rattle.drawing.specs.Shown.{ordered};

@@ -9,7 +9,7 @@ use Rattle.page.specs.Visible.{is_hidden, visible}
 abbrev pub TextsAreText : Type 0
 TextsAreText = (text : List ℕ) → IsText (shown text)
 
--- what is shown of a text has no character that is not seen; a text without such characters is shown as it is
+-- what is shown of a text has none of the characters that Visible lists; a text without them is shown as it is
 pub record TextsAreVisible : Type 0 where
   pub seen : (cs : List ℕ) → list_all (λ c. not (is_hidden c)) (visible cs) ≡ true
   pub same : (cs : List ℕ) → list_all (λ c. not (is_hidden c)) cs ≡ true → visible cs ≡ cs

@@ -1,5 +1,5 @@
 -- Rows are numbered, and tell of each chain what is so.
-use Rattle.std.proofs.Common.{ℕ, zero, suc, ◌+◌, ◌-◌, ◌<◌, ◌≤◌, ◌≡◌, ◌≢◌, Bool, true, false, not, List, [], ◌∷◌, ◌++◌, length, map, refl, sym, ap, subst, ◌∙◌, arith, inl, inr}
+use Rattle.std.proofs.Common.{ℕ, zero, suc, ◌+◌, ◌-◌, ◌<◌, ◌≤◌, ◌≡◌, ◌≢◌, Bool, true, false, not, ◌||◌, cond, List, [], ◌∷◌, ◌++◌, length, map, refl, sym, ap, subst, ◌∙◌, arith, inl, inr}
 use Rattle.std.proofs.lemmas.Bool.{and_from, and_left, and_right, cond_both, eq-eqb, ne_eqb, not-true}
 use Rattle.std.proofs.lemmas.List.Elements.{All-from_recursion}
 use Rattle.std.specs.Bool.{beq}
@@ -13,10 +13,11 @@ use Rattle.diagram.specs.declared.stroke.Stroke.{Stroke}
 use Rattle.diagram.specs.Lists.{is_to}
 use Rattle.diagram.proofs.RowLemmas.{all_kept, all_range, filter_flat, none_kept, none_of, one_of}
 use Rattle.signed_diagram.specs.declared.stroke.Way.{Way}
-use Rattle.signed_diagram.specs.Laws.{IsTold, RowsAreExact, list_in}
+use Rattle.signed_diagram.specs.Laws.{IsTold, RowsAreExact, list_in, tells_of}
 use Rattle.signed_diagram.specs.Owed.{is_among, owed_to, sent_to}
 use Rattle.signed_diagram.specs.Strokes.{Drawn, behind, between, grouped, in_round, list_to, made, numbered, of_order, strokes_of, told_between, way}
 use Rattle.signed_diagram.proofs.LoyalLaws.{among_them}
+use Rattle.signed_diagram.proofs.OnceLemmas.{kept_numbered, one_between, other_between}
 
 -- ---- strokes that wait for their row
 
@@ -165,9 +166,41 @@ tells_all c =
     (λ p l. all_numbered (Tells c) (flat_map (between c (before + 1) p) (range_with_len 0 c.scenario.generals)) 0
     (all_range (λ f. (i : ℕ) → Tells c (f i)) (between c (before + 1) p) c.scenario.generals (λ g k. tells_between c (before + 1) p g))))
 
+-- ---- one stroke for each chain
+
+told_once : (c : Chronicle) (round g p : ℕ) (ch : Chain) → g < c.scenario.generals → p < c.scenario.generals → 0 < round → round ≤ c.scenario.bound + 1
+    → length (filter (tells_of g ch) (list_in c round p)) ≡ cond {A = ℕ} (is_among (sent_to c round g p) ch || is_among (owed_to c round g p) ch) 1 0
+told_once c round g p ch sender inside some few =
+    let n : ℕ = c.scenario.generals in
+    let f : Drawn → Bool = tells_of g ch in
+    ap (λ (xs : List Drawn). length (filter f xs)) (its_list c round p inside some few)
+    ∙ (kept_numbered f (flat_map (between c round p) (range_with_len 0 n)) 0
+    (all_range (λ x. (i : ℕ) → f (x i) ≡ f (x 0)) (between c round p) n
+    (λ q l. all_between (λ x. (i : ℕ) → f (x i) ≡ f (x 0)) round p q (sent_to c round q p) (owed_to c round q p) (λ o i. refl) (λ o i. refl) (λ o i. refl)))
+    ∙ (ap length
+    (filter_flat (λ x. f (x 0)) (between c round p) (range_with_len 0 n)
+    ∙ one_of (λ q. filter (λ x. f (x 0)) (between c round p q)) g n sender (λ q apart. other_between round p q g ch (sent_to c round q p) (owed_to c round q p) apart))
+    ∙ one_between round p g ch (sent_to c round g p) (owed_to c round g p)))
+
+-- ---- how wide
+
+abbrev IsWide : Drawn → Type 0
+IsWide x = x.stroke.labels ≡ length x.chains
+
+wide_all : (c : Chronicle) → AllByRecursion IsWide (strokes_of c)
+unfolding strokes_of
+wide_all c =
+    all_range IsWide (behind c) (c.scenario.bound + 1)
+    (λ before m. all_range IsWide (list_to c (before + 1)) c.scenario.generals
+    (λ p l. all_numbered IsWide (flat_map (between c (before + 1) p) (range_with_len 0 c.scenario.generals)) 0
+    (all_range (λ f. (i : ℕ) → IsWide (f i)) (between c (before + 1) p) c.scenario.generals
+    (λ g k. all_between (λ f. (i : ℕ) → IsWide (f i)) (before + 1) p g (sent_to c (before + 1) g p) (owed_to c (before + 1) g p) (λ o i. refl) (λ o i. refl) (λ o i. refl)))))
+
 pub proved_rows_are_exact : RowsAreExact
 proved_rows_are_exact = record {
   numbered = rows_numbered;
+  once = told_once;
+  wide = λ c. All-from_recursion IsWide (strokes_of c) (wide_all c);
   told = λ c.
       All-from_recursion (λ (x : Drawn). All (IsTold c x.stroke) x.chains) (strokes_of c)
       (weaker (Tells c) (λ (x : Drawn). All (IsTold c x.stroke) x.chains) (strokes_of c) (λ x a. All-from_recursion (IsTold c x.stroke) x.chains a) (tells_all c));

@@ -1,5 +1,5 @@
 -- Laws of what is drawn. Each is the contract of a function of this crate.
-use Rattle.std.specs.Prelude.{ℕ, ◌+◌, ◌<◌, ◌≤◌, ◌≡◌, true, false, not, is_some, List, ◌++◌, codes, filter, length, map}
+use Rattle.std.specs.Prelude.{ℕ, ◌+◌, ◌<◌, ◌≤◌, ◌≡◌, ◌==◌, ◌&&◌, ◌||◌, Bool, true, false, not, if◌then◌else◌, is_some, List, ◌++◌, codes, filter, length, map}
 use Rattle.std.specs.Bool.{beq}
 use Rattle.std.specs.List.{All, range_with_len}
 use Rattle.markup.specs.Grammar.{IsElement}
@@ -44,9 +44,19 @@ pub record IsTold (c : Chronicle) (stroke : Stroke) (ch : Chain) : Type 0 where
       ≡ not (beq (is_among (sent_to c stroke.round stroke.teller stroke.receiver) ch)
       (is_among (owed_to c stroke.round stroke.teller stroke.receiver) ch))
 
--- the rows of each list are numbered, and each stroke tells so of each of its chains
+-- this stroke is of g's, and of this chain
+abbrev pub tells_of : ℕ → Chain → Drawn → Bool
+tells_of g ch x = x.stroke.teller == g && is_among x.chains ch
+
+-- the rows of each list are numbered; of each chain that g sent p in a round, or owed him, there is one stroke, and
+-- none of another; each tells so of its chains, and is as wide as they are many
 pub record RowsAreExact : Type 0 where
   pub numbered : (c : Chronicle) (round p : ℕ) → p < c.scenario.generals → 0 < round →
       round ≤ c.scenario.bound + 1 →
       map (λ (x : Drawn). x.stroke.row) (list_in c round p) ≡ range_with_len 0 (length (list_in c round p))
+  pub once : (c : Chronicle) (round g p : ℕ) (ch : Chain) → g < c.scenario.generals → p < c.scenario.generals →
+      0 < round → round ≤ c.scenario.bound + 1 →
+      length (filter (tells_of g ch) (list_in c round p))
+      ≡ (if is_among (sent_to c round g p) ch || is_among (owed_to c round g p) ch then 1 else 0)
+  pub wide : (c : Chronicle) → All (λ x. x.stroke.labels ≡ length x.chains) (strokes_of c)
   pub told : (c : Chronicle) → All (λ x. All (IsTold c x.stroke) x.chains) (strokes_of c)

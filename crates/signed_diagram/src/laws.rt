@@ -11,8 +11,8 @@ pub fn only_traitors_differ()
     ensures { OnlyTraitorsDiffer }
 {}
 
-/// The rows of a list are numbered from 0 on; each stroke tells of its chains whether they were sent, and differs where
-/// a loyal general would do otherwise.
+/// The rows of a list are numbered from 0 on; each chain that was sent or owed stands in one stroke, which is as wide as
+/// it has chains, tells whether they were sent, and differs where a loyal general would do otherwise.
 pub fn rows_are_exact()
     ensures { RowsAreExact }
 {}
