@@ -8,7 +8,7 @@ use Rattle.clap.proofs.OnLiterals.{clap_on_literals}
 use Rattle.command_line.specs.Asked.{asked, is_meant, spelt}
 use Rattle.command_line.specs.Lab.{lab_app, task_met}
 use Rattle.command_line.specs.Met.{has_places}
-use Rattle.command_line.specs.Told.{Asks, IfMisuse, IfRefused, IfWords, IsErrorOf, IsMisused, IsToldBy, Told}
+use Rattle.command_line.specs.Tasks.{Asks, IfMisuse, IfRefused, IfWords, IsErrorOf, IsMisused, IsToldBy, Told}
 use Rattle.command_line.specs.declared.tasks.Request.{Request}
 use Rattle.command_line.specs.declared.errors.Misuse.{Misuse as MisuseOf}
 use Rattle.command_line.specs.declared.errors.TaskError.{TaskError}

@@ -2,7 +2,7 @@ ghost use Rattle.std.specs.Prelude.{◌≡◌, ◌≢◌, IfOk, IfErr, IsSomeAnd
 ghost use Rattle.clap.specs.Words.{IsAmong, fault_of, kind_of};
 ghost use Rattle.command_line.specs.Asked.{asked, spelt, words_of};
 ghost use Rattle.command_line.specs.Lab.{lab_app};
-ghost use Rattle.command_line.specs.Told.{Asks, IfMisuse, IfRefused, IfWords, IsMisused, IsToldBy};
+ghost use Rattle.command_line.specs.Tasks.{Asks, IfMisuse, IfRefused, IfWords, IsMisused, IsToldBy};
 
 use crate::command::lab_command;
 use crate::errors::TaskError;

@@ -38,8 +38,8 @@ left_in_full p round left lies = codes "general "
 unfoldable pub cut_words : List ℕ
 cut_words = codes " A list has at most " ++ (decimal most_rows
     ++ (codes " rows, of orders and of silence. A longer one begins with the first row of each teller in which an "
-    ++ (codes "honest relay would tell something else, then come the others of this kind, then the rest; below it stands "
-    ++ codes "how many are not drawn.")))
+    ++ (codes "honest relay would tell something else, then come the others of this kind, then the rest; below it "
+    ++ codes "stands how many are not drawn.")))
 
 abbrev pub more_told : ℕ → ℕ → ℕ → ℕ → List ℕ
 more_told p round left lies =

@@ -11,7 +11,7 @@ use Rattle.drawing.specs.declared.node.Style.TheVariants.{Ascii, Boxes}
 use Rattle.drawing.specs.declared.node.View.{View}
 use Rattle.retold.specs.Retold.{table_of, traitors_of}
 use Rattle.roster.specs.Scenario.{Scenario}
-use Rattle.scenario.specs.Told.{Tells}
+use Rattle.scenario.specs.Reading.{Tells}
 use Rattle.toml.specs.Errors.{IsMemory}
 use Rattle.toml.specs.Parse.{parse_document}
 use Rattle.toml.specs.declared.de.error.Error.{Error}

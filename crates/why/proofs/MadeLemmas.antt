@@ -5,7 +5,7 @@ use Rattle.std.specs.declared.alloc.AllocError.{AllocError}
 use Rattle.insn.specs.declared.insn.Insn.{Insn}
 use Rattle.scenario.specs.Seen.{Makes}
 use Rattle.scenario.specs.Tables.{Source}
-use Rattle.scenario.specs.Told.{IsProgramOf}
+use Rattle.scenario.specs.Reading.{IsProgramOf}
 use Rattle.scenario.specs.declared.fault.ScenarioError.{ScenarioError}
 use Rattle.scenario.specs.declared.fault.ScenarioError.TheVariants.{Toml, Unknown, At, Program, Memory}
 use Rattle.why.specs.Judged.{GivesProgram, IsExplainedOf, IsMadeBy}
