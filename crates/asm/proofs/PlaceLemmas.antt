@@ -1,10 +1,11 @@
 -- Where the statements that are kept are written.
-use Rattle.std.proofs.Common.{◌≡◌, ◌∙◌, ◌≤◌, ℕ, List, ap, arith, subst, sym}
-use Rattle.std.specs.Prelude.{Result, Ok}
+use Rattle.std.proofs.Common.{◌≡◌, ◌≢◌, ◌∙◌, ◌≤◌, ℕ, List, [], ap, arith, refl, subst, sym}
+use Rattle.std.specs.Prelude.{Result, Ok, Err}
 use Rattle.std.specs.List.{flat_map}
 use Rattle.std.proofs.lemmas.List.Folds.{flat_map-map}
 use Rattle.insn.specs.Program.{most_units}
 use Rattle.asm.specs.declared.fault.AsmError.{AsmError}
+use Rattle.asm.specs.declared.fault.AsmError.TheVariants as answers
 use Rattle.asm.specs.declared.reading.Reading.{Reading}
 use Rattle.asm.specs.Keeping.{GivesGathered, Keeps}
 use Rattle.asm.specs.Places.{AreWritten, kept_places, own_places}
@@ -22,3 +23,11 @@ pub places_read : (read : Result Read AsmError) (kept : Reading) (places : List 
 places_read read kept places given all =
     let by_read : Result Read AsmError → Type 0 = λ x. AreWritten x places in
     subst by_read (sym given.1) (places_kept kept given.0 places given.2 all)
+
+-- none of a text that has a fault
+pub places_refused : (read : Result Read AsmError) (error : AsmError) (places : List (List ℕ)) → GivesGathered (Err error) read →
+    error ≢ answers.Memory → places ≡ [] → AreWritten read places
+places_refused read (answers.At fault line) places given apart none =
+    let by_read : Result Read AsmError → Type 0 = λ x. AreWritten x places in
+    subst by_read (sym given) none
+places_refused read answers.Memory places given apart none = absurd (apart refl)

@@ -1,11 +1,17 @@
 -- Statements in the words of their lines.
-use Rattle.std.proofs.Common.{◌≡◌, ◌∙◌, ℕ, zero, suc, ◌<◌, List, [], ◌∷◌, ◌++◌, true, IsUtf8, ap, append_assoc, append-nil, arith, lit<, subst, sym}
-use Rattle.std.specs.Prelude.{slice_index, nat_le, nat_lt}
+use Rattle.std.proofs.Common.{◌≡◌, ◌≢◌, ◌∙◌, ℕ, zero, suc, ◌<◌, List, [], ◌∷◌, ◌++◌, true, IsUtf8, ap, append_assoc, append-nil, arith, lit<, refl, subst, sym}
+use Rattle.std.specs.Prelude.{Option, None, Some, slice_index, nat_le, nat_lt}
+use Rattle.std.specs.Option.{ok_or}
 use Rattle.std.specs.List.{flat_map, list_all}
 use Rattle.std.proofs.lemmas.Bool.{and_parts}
 use Rattle.std.proofs.lemmas.Str.{IsUtf8-from_ascii}
 use Rattle.std.proofs.lemmas.Grind.{common_steps}
-use Rattle.asm.specs.Places.{is_visible, line_statements}
+use Rattle.asm.specs.declared.fault.Fault.TheVariants as faults
+use Rattle.asm.specs.declared.fault.LineError.{LineError}
+use Rattle.asm.specs.declared.fault.LineError.TheVariants as failures
+use Rattle.asm.specs.Line.{Outline, outline_of}
+use Rattle.asm.specs.Places.{is_visible, line_statements, outline_statements}
+use Rattle.asm.specs.Views.{Fails}
 
 visible_low : (c : ℕ) → is_visible c ≡ true → c < 128
 visible_low c h =
@@ -19,6 +25,18 @@ visible_at (c ∷ word) h (suc i) = visible_at word (and_parts (is_visible c) (l
 
 pub visible_utf8 : (word : List ℕ) → list_all is_visible word ≡ true → IsUtf8 word
 visible_utf8 word h = IsUtf8-from_ascii word (visible_at word h)
+
+-- a line with a fault adds none
+of_fault : (error : LineError) (outline : Option Outline) → Fails error (ok_or outline faults.Line) → error ≢ failures.Memory →
+    outline_statements outline ≡ []
+of_fault (failures.Fault f) None given apart = refl
+of_fault (failures.Fault f) (Some o) given apart = absurd cc
+of_fault failures.Memory outline given apart = absurd (apart refl)
+
+pub nothing_added : (old : List (List ℕ)) (line : List ℕ) (error : LineError) → Fails error (ok_or (outline_of line) faults.Line) →
+    error ≢ failures.Memory → old ≡ old ++ line_statements line
+nothing_added old line error given apart =
+    sym (append-nil old) ∙ ap (λ (s : List (List ℕ)). old ++ s) (sym (of_fault error (outline_of line) given apart))
 
 -- one more line
 pub statements_next : (old new all : List (List ℕ)) (line : List ℕ) (lines more : List (List ℕ)) → lines ≡ line ∷ more →

@@ -11,6 +11,6 @@ pub mod Views
 pub mod Keeping
 pub mod Printing
 pub mod Laws
-pub mod Telling
+pub mod ErrorText
 pub mod Names
 pub mod Places

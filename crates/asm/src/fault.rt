@@ -1,6 +1,6 @@
 //! Why a text is no program.
 
-ghost use Rattle.std.specs.Prelude.{◌≡◌};
+ghost use Rattle.std.specs.Prelude.{◌≡◌, ◌≢◌, OnErr, OnOk};
 ghost use Rattle.asm.specs.declared.fault.AsmError.TheVariants.{Memory as OutOfMemory};
 ghost use Rattle.asm.specs.declared.fault.LineError.TheVariants.{Memory, Fault as At};
 
@@ -29,7 +29,7 @@ pub enum Fault {
 
 impl fmt::Display for Fault {
     ghost use Rattle.std.specs.Prelude.{Some};
-    ghost use Rattle.asm.specs.Telling.{code_of};
+    ghost use Rattle.asm.specs.ErrorText.{code_of};
 
     ghost output = { λ fault. Some (code_of fault) };
 
@@ -56,9 +56,22 @@ pub enum AsmError {
     Memory,
 }
 
+impl AsmError {
+    /// Want of memory, where it is that; a fault is none.
+    pub(crate) fn want_of_memory(self) -> Result<(), AllocError>
+        ensures fault { OnOk result (self ≢ OutOfMemory) }
+        ensures memory { OnErr result (self ≡ OutOfMemory) }
+    {
+        match self {
+            AsmError::Memory => Err(AllocError),
+            AsmError::At(_, _) => Ok(()),
+        }
+    }
+}
+
 impl fmt::Display for AsmError {
     ghost use Rattle.std.specs.Prelude.{Some};
-    ghost use Rattle.asm.specs.Telling.{told};
+    ghost use Rattle.asm.specs.ErrorText.{told};
 
     ghost output = { λ error. Some (told error) };
 
@@ -77,6 +90,19 @@ impl Error for AsmError {}
 pub enum LineError {
     Memory,
     Fault(Fault),
+}
+
+impl LineError {
+    /// Want of memory, where it is that; a fault is none.
+    pub(crate) fn want_of_memory(self) -> Result<(), AllocError>
+        ensures fault { OnOk result (self ≢ Memory) }
+        ensures memory { OnErr result (self ≡ Memory) }
+    {
+        match self {
+            LineError::Memory => Err(AllocError),
+            LineError::Fault(_) => Ok(()),
+        }
+    }
 }
 
 impl From<AllocError> for LineError {

@@ -9,7 +9,7 @@ use insn::{Insn, Operand, Reg};
 use word::{Condition, Width};
 
 /// An instruction, a jump's distance left open.
-#[derive(Clone, Copy, Debug, PartialEq, Eq)]
+#[derive(Clone, Copy)]
 pub enum Draft {
     Plain(Insn),
     Jump(Aim),
@@ -18,14 +18,14 @@ pub enum Draft {
 }
 
 /// A draft with the name of its goal (empty where it has none).
-#[derive(Clone, Copy, Debug)]
+#[derive(Clone, Copy)]
 pub struct Statement<'a> {
     pub draft: Draft,
     pub name: &'a [u8],
 }
 
 /// A statement with its line.
-#[derive(Clone, Copy, Debug)]
+#[derive(Clone, Copy)]
 pub struct Kept<'a> {
     pub statement: Statement<'a>,
     pub line: u64,

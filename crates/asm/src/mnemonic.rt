@@ -7,7 +7,7 @@ use insn::Size;
 use word::{ByteOrder, Condition, Narrow, Operation, SwapSize, Width};
 
 /// The first word of a statement.
-#[derive(Clone, Copy, Debug, PartialEq, Eq)]
+#[derive(Clone, Copy)]
 pub enum Mnemonic {
     Arithmetic(Width, Operation),
     Negate(Width),

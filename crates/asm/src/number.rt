@@ -6,7 +6,7 @@ ghost use Rattle.asm.specs.Number.{number_of, signed_within, bits_within};
 use text::magnitude;
 
 /// A number as it is written; a magnitude of 2^64 stands for each that is greater.
-#[derive(Clone, Copy, Debug, PartialEq, Eq)]
+#[derive(Clone, Copy)]
 pub struct Number {
     pub negative: bool,
     pub magnitude: u128,

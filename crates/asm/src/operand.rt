@@ -9,14 +9,14 @@ use insn::{Operand, Reg};
 use text::{Stop, cut, magnitude};
 
 /// A register, or a number as it is written.
-#[derive(Clone, Copy, Debug, PartialEq, Eq)]
+#[derive(Clone, Copy)]
 pub enum Raw {
     Register(Reg),
     Number(Number),
 }
 
 /// Where a jump goes: so many units away, or to a name that is kept apart.
-#[derive(Clone, Copy, Debug, PartialEq, Eq)]
+#[derive(Clone, Copy)]
 pub enum Aim {
     Away(Number),
     Named,

@@ -6,7 +6,6 @@ ghost use Rattle.asm.specs.Printing.{more_text, operands_text};
 ghost use Rattle.asm.specs.Statement.{statement_of};
 ghost use Rattle.asm.specs.Views.{source_view};
 
-use crate::fault::LineError;
 use crate::kept::{Statement, units};
 use crate::line::next_line;
 use crate::outline::read_outline;
@@ -131,6 +130,7 @@ fn put_statement(
 }
 
 /// Adds those of a line.
+#[tactic(auto, using(crate::proofs::WordingLemmas::nothing_added))]
 fn put_line<'a>(
     alloc: Global,
     statements: &mut Vec<String>,
@@ -142,8 +142,7 @@ fn put_line<'a>(
 {
     match read_outline(words, line) {
         Ok(_name) => put_statement(alloc, statements, words.as_slice()),
-        Err(LineError::Memory) => Err(AllocError),
-        Err(LineError::Fault(_)) => Ok(()),
+        Err(error) => error.want_of_memory(),
     }
 }
 

@@ -5,7 +5,6 @@ ghost use Rattle.asm.specs.Places.{AreWritten, kept_places, line_text, own_place
 ghost use Rattle.asm.specs.Program.{lines_of, nothing, read_on};
 ghost use Rattle.asm.specs.Views.{kept_view};
 
-use crate::fault::AsmError;
 use crate::kept::{Kept, units};
 use crate::reading::{Reading, gather};
 use std::alloc::{AllocError, Global};
@@ -55,13 +54,16 @@ fn all_places(alloc: Global, reading: &Reading<'_>) -> Result<Vec<String>, Alloc
 /// # Errors
 ///
 /// Want of memory.
+#[tactic(auto, using(crate::proofs::PlaceLemmas::places_refused))]
 pub fn places(alloc: Global, text: &str) -> Result<Vec<String>, AllocError>
     ensures { IfOk result (λ places. AreWritten (read_on nothing 1 (lines_of text.now))
         (map string_bytes places.items)) }
 {
     match gather(alloc, text.as_bytes()) {
         Ok(reading) => all_places(alloc, &reading),
-        Err(AsmError::Memory) => Err(AllocError),
-        Err(AsmError::At(_, _)) => Ok(Vec::new(alloc)),
+        Err(error) => {
+            error.want_of_memory()?;
+            Ok(Vec::new(alloc))
+        }
     }
 }

@@ -1,10 +1,10 @@
 //! Times campaigns: from a scenario to its chronicle, from text to text, and audits; of signed messages the dearest
 //! close, too.
 
+use crate::chronicles::{Messages, audited, freely, scenario_of, told_freely};
 use crate::task::{Task, report_task};
-use crate::texts::{colluding, idle, signing};
+use crate::texts::{COLLUDING, idle, signing};
 use crate::timing::nanoseconds;
-use crate::told::{Messages, audited, freely, scenario_of, told_freely};
 use anyhow::{Result, bail};
 use roster::Scenario;
 use signed::{SignedWorld, play_signed};
@@ -151,14 +151,14 @@ struct Names {
 }
 
 /// Of seven generals, of whom two collude.
-const COLLUDING: Names = Names {
+const TWO_OF_SEVEN: Names = Names {
     play: "play, two colluding traitors of seven",
     tell: "from text to text, two colluding traitors of seven",
     audit: "audit, two colluding traitors of seven",
 };
 
 /// Of thirteen, of whom four have long programs.
-const LONG: Names = Names {
+const FOUR_LONG: Names = Names {
     play: "play, four long traitors of thirteen",
     tell: "from text to text, four long traitors of thirteen",
     audit: "audit, four long traitors of thirteen",
@@ -175,10 +175,9 @@ const SIGNED: Names = Names {
 pub fn report_campaigns<R: Print + Eprint + Clock + Threads + Wait + Sync + AllocGlobal>(
     rt: &R,
 ) -> Result<()> {
-    let text = colluding(rt.alloc())?;
-    report_oral(rt, text.as_str(), &COLLUDING)?;
+    report_oral(rt, COLLUDING, &TWO_OF_SEVEN)?;
     let text = idle(rt.alloc())?;
-    report_oral(rt, text.as_str(), &LONG)?;
+    report_oral(rt, text.as_str(), &FOUR_LONG)?;
     let text = signing(rt.alloc())?;
     report_signed(rt, text.as_str())
 }

@@ -7,6 +7,7 @@
 
 mod bytecode;
 mod campaigns;
+mod chronicles;
 mod figure;
 mod hostile;
 mod median;
@@ -18,7 +19,6 @@ mod shape;
 mod task;
 mod texts;
 mod timing;
-mod told;
 mod trees;
 mod work;
 

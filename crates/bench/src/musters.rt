@@ -1,9 +1,9 @@
 //! Times campaigns whose generals act in threads, beside as many threads that do nothing.
 
+use crate::chronicles::{Messages, scenario_of};
 use crate::task::{Task, report_task};
-use crate::texts::{colluding, idle};
+use crate::texts::{COLLUDING, idle};
 use crate::timing::nanoseconds;
-use crate::told::{Messages, scenario_of};
 use anyhow::{Result, bail};
 use roster::Scenario;
 use std::rt::Clock;
@@ -74,9 +74,8 @@ pub fn report_musters<R: Print + Eprint + Clock + Threads + Wait + Sync + AllocG
 fn report_musters_of_seven<R: Print + Eprint + Clock + Threads + Wait + Sync + AllocGlobal>(
     rt: &R,
 ) -> Result<()> {
-    let text = colluding(rt.alloc())?;
     let what = "muster, 7 generals, two colluders: 21 letters";
-    report_muster(rt, text.as_str(), what)?;
+    report_muster(rt, COLLUDING, what)?;
     let what = "threads alone, 7 generals, two colluders: 21 letters";
     report_task(rt, what, &Task::Threads(7, 3))
 }

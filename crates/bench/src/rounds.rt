@@ -4,9 +4,9 @@ ghost use Rattle.letter.specs.Letters.{Letter as LetterSeen};
 ghost use Rattle.letter.specs.Origin.{AreLettersOf, AreRoundsOf};
 ghost use Rattle.delivery.specs.Told.{WasTold};
 
+use crate::chronicles::{Messages, freely, played, scenario_of};
 use crate::median::median;
 use crate::timing::{TIMES, nanoseconds, report_time};
-use crate::told::{Messages, freely, played, scenario_of};
 use anyhow::{Result, bail};
 use delivery::Told;
 use letter::{Letter, Round, are_letters_of, are_rounds_of};

@@ -1,8 +1,8 @@
 //! Pieces of work on labels, trees and campaigns, and how long each takes.
 
+use crate::chronicles::Messages;
 use crate::median::median;
 use crate::timing::{TIMES, report_time};
-use crate::told::Messages;
 use crate::{campaigns, musters, trees};
 use anyhow::Result;
 use combine::Rule;

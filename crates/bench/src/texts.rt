@@ -1,27 +1,15 @@
 //! The texts of the campaigns that are timed.
 
+use fixtures::{campaign, counting};
 use std::alloc::{AllocError, Global};
 
 /// How many instructions a long program has before its exit.
 const MOVES: usize = 4095;
 
-/// The program of a traitor who counts his access on the board, and tells 1, 2 and 3 whether the count was odd.
-const COUNTING: &str = "mov r1, 0
-mov r2, 1
-call board_add
-mov r6, r0
-and r6, 1
-mov r1, 1
-mov r2, r6
-call sway
-mov r1, 2
-mov r2, r6
-call sway
-mov r1, 3
-mov r2, r6
-call sway
-exit
-";
+/// Seven generals, bound 2, of whom 0, the commander, and 4 share the board.
+pub const COLLUDING: &str = counting!(
+    campaign "exit\n", "generals = 7\nbound = 2\ncommander = 0\norder = 0\n", [0, 4]
+);
 
 /// A program that signs eight orders, where it is the commander's, and then passes on the last eight chains held, each
 /// to all.
@@ -92,12 +80,6 @@ mov r2, 8191
 call pass_on
 exit
 ";
-
-/// Seven generals, bound 2, of whom 0, the commander, and 4 share the board.
-pub fn colluding(alloc: Global) -> Result<String, AllocError> {
-    let keys = "generals = 7\nbound = 2\ncommander = 0\norder = 0\n";
-    with_program(alloc, keys, &["0", "4"], COUNTING)
-}
 
 /// Thirteen generals, bound 4, of whom 9 to 12 take 4,096 steps in each round.
 pub fn idle(alloc: Global) -> Result<String, AllocError> {

@@ -3,7 +3,8 @@ use Rattle.std.proofs.Common.{ℕ, zero, suc, ◌*◌, ◌≤◌, ◌≡◌, Boo
 use Rattle.std.specs.Prelude.{◌==◌, ◌↔◌, nat_lt, nat_le, if◌then◌else◌}
 use Rattle.std.specs.List.{list_all}
 use Rattle.std.proofs.lemmas.Bool.{cases_Bool, and_parts, and_from, or_left, or_cases, or_parts, or_from, eq-eqb, eqb-true, eqb-false, ne_eqb, lt-ltb, ltb-true, le-leb, leb-true, true≢false}
-use Rattle.combine.specs.Chosen.{combined_by, chosen_is_rule}
+use Rattle.combine.specs.Rule.{combined_by}
+use Rattle.combine.specs.Laws.{chosen_is_rule}
 use Rattle.label.specs.Labels.{on}
 use Rattle.label.specs.Lieutenants.{lieutenants}
 use Rattle.label.specs.Oral.{IsBound, Agree}

@@ -3,11 +3,11 @@ use Rattle.std.proofs.Common.{ℕ, zero, suc, ◌+◌, ◌≡◌, ◌≢◌, tru
 use Rattle.std.specs.Prelude.{◌==◌, unwrap_or}
 use Rattle.std.specs.List.{flat_map}
 use Rattle.std.proofs.lemmas.Bool.{cond-true, cond-false, eq-eqb, ne_eqb}
-use Rattle.combine.specs.Chosen.{combined_by}
+use Rattle.combine.specs.Rule.{combined_by, outcome_of}
 use Rattle.label.specs.Labels.{on, others}
 use Rattle.label.specs.Oral.{order_of, taken, om}
 use Rattle.book.specs.Table.{MessageTable, told}
-use Rattle.combine.specs.Outcome.{outcome_of, outcome_words}
+use Rattle.combine.specs.Outcome.{outcome_words}
 use Rattle.book.specs.Explained.{list_words, decided, element, held, part, list_line, list_lines}
 use Rattle.book.specs.Decisions.{decision_of}
 use Rattle.book.specs.Grammar.{is_place}

@@ -3,8 +3,8 @@ use Rattle.std.proofs.Common.{ℕ, zero, suc, ◌+◌, ◌<◌, ◌≤◌, ◌�
 use Rattle.std.specs.Prelude.{◌==◌, slice_index}
 use Rattle.std.proofs.lemmas.Bool.{or_parts, eqb-false, cases_lt}
 use Rattle.std.proofs.lemmas.List.{length-map}
-use Rattle.combine.specs.Rule.{IsMajorityRule}
-use Rattle.combine.specs.Chosen.{combined_by, chosen_is_rule}
+use Rattle.combine.specs.Rule.{IsMajorityRule, combined_by}
+use Rattle.combine.specs.Laws.{chosen_is_rule}
 use Rattle.label.specs.Labels.{others}
 use Rattle.label.specs.Oral.{om, Messages, Agree, IsLoyalLieutenant}
 use Rattle.label.proofs.Counting.{others-on}

@@ -2,9 +2,8 @@
 use Rattle.std.proofs.Common.{ℕ, suc, ◌*◌, ◌<◌, ◌≤◌, ◌≡◌, List, [], ◌∷◌, length, refl, sym, ap, ◌∙◌, arith, inl, inr, Option, Some, None}
 use Rattle.std.specs.Prelude.{◌==◌, ◌↔◌, unwrap_or, find, count_by}
 use Rattle.std.proofs.lemmas.Bool.{cases_lt, lt-ltb, ltb-true}
-use Rattle.combine.specs.Chosen.{combined_by}
+use Rattle.combine.specs.Rule.{combined_by, is_most, majority}
 use Rattle.combine.specs.Laws.{majority_is_rule}
-use Rattle.combine.specs.Rule.{is_most, majority}
 use Rattle.combine.proofs.Found.{cases_find, find_none, find_passes}
 use Rattle.label.specs.Oral.{om}
 use Rattle.book.specs.Decisions.{decision_of}

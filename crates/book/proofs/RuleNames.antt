@@ -1,9 +1,10 @@
 -- The words of rules in a line.
 use Rattle.std.proofs.Common.{ℕ, ◌≡◌, Bool, not, true, arith}
 use Rattle.std.proofs.lemmas.Bool.Decides.{nat_tests}
-use Rattle.combine.proofs.NameLaws.{names_law}
+use Rattle.combine.proofs.RuleLaws.{names_law}
 use Rattle.combine.specs.declared.chosen.Rule.{Rule}
-use Rattle.combine.specs.Names.{is_small, rule_name}
+use Rattle.combine.specs.Names.{is_small}
+use Rattle.combine.specs.Rule.{rule_name}
 use Rattle.text.specs.Stop.{comma, feed, is_stop, space}
 use Rattle.text.specs.declared.stop.Stop.{Stop}
 use Rattle.text.proofs.BytesLemmas.{all-weaker}

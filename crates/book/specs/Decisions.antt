@@ -1,6 +1,6 @@
 -- What the lieutenants of a table decide, and when they agree.
 use Rattle.std.specs.Prelude.{ℕ, ◌≡◌, ◌<◌, Bool, false, List, [], ◌∷◌, map}
-use Rattle.combine.specs.Chosen.{combined_by}
+use Rattle.combine.specs.Rule.{combined_by}
 pub use Rattle.label.specs.Lieutenants.{lieutenants, IsLoyalAt, AgreeInList}
 use Rattle.label.specs.Oral.{Messages, om, IsBound, IsFaithful}
 use Rattle.book.specs.Table.{MessageTable, told}

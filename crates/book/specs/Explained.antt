@@ -3,8 +3,8 @@
 use Rattle.std.specs.Prelude.{ℕ, zero, suc, ◌==◌, ◌&&◌, not, nat_lt, Bool, if◌then◌else◌, cond, List, [], ◌∷◌, ◌++◌, map, codes, Option, None, Some}
 use Rattle.std.specs.Fmt.{decimal}
 use Rattle.std.specs.List.{flat_map}
-use Rattle.combine.specs.Chosen.{combined_by}
-use Rattle.combine.specs.Outcome.{outcome_of, outcome_words}
+use Rattle.combine.specs.Rule.{combined_by, outcome_of}
+use Rattle.combine.specs.Outcome.{outcome_words}
 use Rattle.label.specs.Labels.{on, others}
 use Rattle.label.specs.Lieutenants.{lieutenants}
 use Rattle.label.specs.Oral.{taken, om}

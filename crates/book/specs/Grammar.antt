@@ -71,7 +71,8 @@ message_of line = tell_parts (pieces space line) >>= λ parts. numbers_of (piece
 -- a label of the campaign, no longer than its rounds, and a general who does not stand on it
 abbrev pub is_place : MessageTable → List ℕ → ℕ → Bool
 is_place t w p =
-    is_distinct w && begins_with t.commander w && list_all (λ x. nat_lt x t.generals) w && nat_le (length w) (t.bound + 1) && nat_lt p t.generals && not (on w p)
+    is_distinct w && begins_with t.commander w && list_all (λ x. nat_lt x t.generals) w
+    && nat_le (length w) (t.bound + 1) && nat_lt p t.generals && not (on w p)
 
 -- a further line: its message, or the first of its faults in this order: its shape, no such place, a place told before
 abbrev pub checked : MessageTable → Option Message → Result Message Fault

@@ -10,4 +10,4 @@ pub mod Explained
 pub mod Forms
 pub mod Places
 pub mod Consistency
-pub mod Telling
+pub mod ErrorText

@@ -2,8 +2,7 @@
 -- combination, the campaign and the messages;
 -- and what the lists of an explanation mean (algorithm OM(m)).
 use Rattle.std.specs.Prelude.{ℕ, suc, ◌*◌, ◌<◌, ◌≤◌, ◌≡◌, ◌==◌, ◌↔◌, Bool, false, List, [], ◌∷◌, length, find, count_by, None, Some}
-use Rattle.combine.specs.Chosen.{combined_by}
-use Rattle.combine.specs.Rule.{IsMajorityRule, is_most}
+use Rattle.combine.specs.Rule.{combined_by, IsMajorityRule, is_most}
 use Rattle.label.specs.Oral.{Messages, om, IsFaithful, IsBound, Agree}
 use Rattle.book.specs.Decisions.{decision_of}
 use Rattle.book.specs.Explained.{decided, list_of}

@@ -20,7 +20,7 @@ pub enum Fault {
 
 impl fmt::Display for Fault {
     ghost use Rattle.std.specs.Prelude.{Some};
-    ghost use Rattle.book.specs.Telling.{code_of};
+    ghost use Rattle.book.specs.ErrorText.{code_of};
 
     ghost output = { λ fault. Some (code_of fault) };
 
@@ -47,7 +47,7 @@ pub enum TableError {
 
 impl fmt::Display for TableError {
     ghost use Rattle.std.specs.Prelude.{Some};
-    ghost use Rattle.book.specs.Telling.{told};
+    ghost use Rattle.book.specs.ErrorText.{told};
 
     ghost output = { λ error. Some (told error) };
 

@@ -1,22 +1,71 @@
--- What a refused write tells, told of a whole exploration that is kept.
-use Rattle.std.proofs.Common.{ℕ, ◌≡◌, ◌∙◌, ◌≤◌, ◌++◌, List, append_assoc, inl, inr, subst, sym}
-use Rattle.std.specs.Prelude.{Result, Ok, Err, IfErr, codes, decimal}
+-- The files of an exploration that is kept, one by one, and what a refused write tells of them.
+use Rattle.std.proofs.Common.{ℕ, suc, ◌≡◌, ◌∙◌, ◌+◌, ◌<◌, ◌≤◌, ◌++◌, List, [], ◌∷◌, ap, append-nil, append_assoc, arith, drop, drop-cons, get_or, inl, inr, length, map, subst, sym}
+use Rattle.std.specs.Prelude.{Result, Ok, Err, IfErr, String, string_bytes}
+use Rattle.std.specs.Global.{Global}
+use Rattle.std.proofs.lemmas.List.{drop_all}
 use Rattle.std.specs.Result.{IsErrAnd}
 use Rattle.byzlab.specs.declared.keeping.Unkept.{Unkept}
 use Rattle.byzlab.specs.declared.keeping.Unkept.TheVariants.{Memory, Unwritten}
-use Rattle.byzlab.specs.Kept.{IsKeptIn, Tells}
+use Rattle.byzlab.specs.declared.filling.Filled.{Filled}
+use Rattle.byzlab.specs.Kept.{IsKeptIn, Tells, file_of, kept_files, scenario_name, schedule_files, schedule_name}
 
-pub scenario_is_kept : (folder name : List ℕ) (count : ℕ) (unkept : Unkept) → name ≡ folder ++ codes "/scenario.toml"
+-- these files are written, and behind them come the schedules that are left
+abbrev pub AreKeptTo : List ℕ → List ℕ → List (String Global) → List (String Global) → ℕ → List Filled → Type 0
+AreKeptTo folder scenario schedules rest number files =
+    map file_of files ++ schedule_files folder number (map string_bytes rest)
+    ≡ kept_files folder scenario (map string_bytes schedules)
+
+-- at first the scenario alone is written
+pub scenario_first : (folder scenario name : List ℕ) (schedules : List (String Global)) (old new : List Filled) → old ≡ []
+    → name ≡ scenario_name folder → map file_of new ≡ map file_of old ++ (name, scenario) ∷ []
+    → AreKeptTo folder scenario schedules schedules 1 new
+scenario_first folder scenario name schedules old new none called more =
+    ap (λ (l : List (List ℕ × List ℕ)). l ++ schedule_files folder 1 (map string_bytes schedules))
+    (more ∙ (λ j. map file_of (none j) ++ (called j, scenario) ∷ []))
+
+-- the first of those from a place on
+schedules_at : (schedules : List (String Global)) (i : ℕ) (schedule : String Global) → i < length schedules
+    → schedule ≡ get_or schedules i schedule → drop i schedules ≡ schedule ∷ drop (i + 1) schedules
+schedules_at schedules i schedule lt e =
+    let one : suc i ≡ i + 1 = omega arith in
+    drop-cons schedules i schedule lt ∙ (λ j. sym e j ∷ drop (one j) schedules)
+
+-- one file more
+pub one_more : (folder scenario name text : List ℕ) (schedules : List (String Global)) (i : ℕ) (schedule : String Global)
+    (files new : List Filled) → i < length schedules → schedule ≡ get_or schedules i schedule
+    → AreKeptTo folder scenario schedules (drop i schedules) (i + 1) files → name ≡ schedule_name folder (i + 1)
+    → text ≡ string_bytes schedule → map file_of new ≡ map file_of files ++ (name, text) ∷ []
+    → AreKeptTo folder scenario schedules (drop (i + 1) schedules) (i + 1 + 1) new
+one_more folder scenario name text schedules i schedule files new lt at here called bytes more =
+    let next : suc (i + 1) ≡ i + 1 + 1 = omega arith in
+    let file : List ℕ × List ℕ = (schedule_name folder (i + 1), string_bytes schedule) in
+    let later = schedule_files folder (i + 1 + 1) (map string_bytes (drop (i + 1) schedules)) in
+    let left : map file_of new ≡ map file_of files ++ file ∷ [] = more ∙ (λ j. map file_of files ++ (called j, bytes j) ∷ []) in
+    let right : file ∷ later ≡ schedule_files folder (i + 1) (map string_bytes (drop i schedules)) =
+    (λ j. file ∷ schedule_files folder (sym next j) (map string_bytes (drop (i + 1) schedules)))
+    ∙ ap (λ (l : List (String Global)). schedule_files folder (i + 1) (map string_bytes l)) (sym (schedules_at schedules i schedule lt at)) in
+    ap (λ (l : List (List ℕ × List ℕ)). l ++ later) left
+    ∙ (append_assoc (map file_of files) (file ∷ []) later ∙ (ap (λ (l : List (List ℕ × List ℕ)). map file_of files ++ l) right ∙ here))
+
+-- and no schedule is left
+pub all_kept : (folder scenario : List ℕ) (schedules : List (String Global)) (i : ℕ) (files : List Filled) → length schedules ≤ i
+    → AreKeptTo folder scenario schedules (drop i schedules) (i + 1) files
+    → map file_of files ≡ kept_files folder scenario (map string_bytes schedules)
+all_kept folder scenario schedules i files le here =
+    let none : drop i schedules ≡ [] = drop_all i schedules le in
+    let A : List (String Global) → Type 0 = λ l. AreKeptTo folder scenario schedules l (i + 1) files in
+    sym (append-nil (map file_of files)) ∙ subst A none here
+
+pub scenario_is_kept : (folder name : List ℕ) (count : ℕ) (unkept : Unkept) → name ≡ scenario_name folder
     → Tells (λ told. told ≡ name) unkept → Tells (IsKeptIn folder count) unkept
 scenario_is_kept folder name count (Unwritten told kind) e (is, faulty) = (inr (inl (is ∙ e)), faulty)
 scenario_is_kept folder name count Memory e t = tt
 
 pub schedule_is_kept : (folder name : List ℕ) (count number : ℕ) (unkept : Unkept) → 1 ≤ number → number ≤ count
-    → name ≡ folder ++ (codes "/outcome-" ++ (decimal number ++ codes ".schedule"))
+    → name ≡ schedule_name folder number
     → Tells (λ told. told ≡ name) unkept → Tells (IsKeptIn folder count) unkept
 schedule_is_kept folder name count number (Unwritten told kind) first last e (is, faulty) =
-    let whole : name ≡ folder ++ codes "/outcome-" ++ decimal number ++ codes ".schedule" = simp append_assoc e in
-    (inr (inr (number, first, last, is ∙ whole)), faulty)
+    (inr (inr (number, first, last, is ∙ e)), faulty)
 schedule_is_kept folder name count number Memory first last e t = tt
 
 -- an error that is handed on

@@ -1,9 +1,9 @@
 -- Words that are refused, and not for want of memory, ask for nothing.
 use Rattle.std.proofs.Common.{ℕ}
-use Rattle.command_line.specs.Told.{IfRefused}
+use Rattle.command_line.specs.Tasks.{IfRefused}
 use Rattle.command_line.specs.declared.errors.TaskError.{TaskError}
 use Rattle.command_line.specs.declared.errors.TaskError.TheVariants as task
-use Rattle.byzlab.specs.Telling.{IsUnasked}
+use Rattle.byzlab.specs.Failures.{IsUnasked}
 
 pub asked_nothing : (error : TaskError) (status : ℕ) (P : Type 0) → IsUnasked error status → IfRefused error P → P
 asked_nothing (task.Words refusal) status P u p = p

@@ -1,9 +1,17 @@
--- Which file or folder is told that it was not written (own).
-use Rattle.std.specs.Prelude.{ℕ, ◌≡◌, ◌≢◌, ◌≤◌, ◌⊎◌, ◌++◌, List, codes, decimal, string_bytes, ⊤}
+-- What is written of a file, its name, and which file or folder is told that it was not written (own).
+use Rattle.std.specs.Prelude.{ℕ, suc, ◌≡◌, ◌≢◌, ◌≤◌, ◌⊎◌, ◌++◌, List, [], ◌∷◌, codes, decimal, string_bytes, ⊤}
 use Rattle.std.specs.declared.io.ErrorKind.{ErrorKind}
 use Rattle.std.specs.declared.io.ErrorKind.TheVariants.{OutOfMemory}
+use Rattle.byzlab.specs.declared.filling.Filled.{Filled}
 use Rattle.byzlab.specs.declared.keeping.Unkept.{Unkept}
 use Rattle.byzlab.specs.declared.keeping.Unkept.TheVariants.{Memory, Unwritten}
+
+-- a file's name, and the bytes that were written whole
+abbrev pub file_of : Filled → List ℕ × List ℕ
+file_of filled = (string_bytes filled.name, filled.bytes.now)
+
+abbrev pub IsFilledBy : List ℕ → List ℕ → Filled → Type 0
+IsFilledBy name bytes filled = file_of filled ≡ (name, bytes)
 
 -- this name and this kind of error are told, which is no want of memory; or memory is wanting
 abbrev pub IsUnwritten : List ℕ → ErrorKind → Unkept → Type 0
@@ -15,12 +23,34 @@ abbrev pub Tells : (List ℕ → Type 0) → Unkept → Type 0
 Tells P (Unwritten told kind) = P (string_bytes told) × (kind ≢ OutOfMemory)
 Tells P Memory = ⊤
 
+-- a file is written beside its name, which it takes once it is whole
+abbrev pub name_beside : List ℕ → List ℕ
+name_beside name = name ++ codes ".new"
+
+-- the file in a folder that has the schedule of the outcome of this number
+abbrev pub schedule_name : List ℕ → ℕ → List ℕ
+schedule_name folder number = folder ++ (codes "/outcome-" ++ (decimal number ++ codes ".schedule"))
+
+-- the file in a folder that has the scenario
+abbrev pub scenario_name : List ℕ → List ℕ
+scenario_name folder = folder ++ codes "/scenario.toml"
+
+-- the files with the schedules of outcomes from this number on
+abbrev pub schedule_files : List ℕ → ℕ → List (List ℕ) → List (List ℕ × List ℕ)
+schedule_files folder number [] = []
+schedule_files folder number (schedule ∷ schedules) =
+    (schedule_name folder number, schedule) ∷ schedule_files folder (suc number) schedules
+
+-- all files of an exploration that is kept
+abbrev pub kept_files : List ℕ → List ℕ → List (List ℕ) → List (List ℕ × List ℕ)
+kept_files folder scenario schedules = (scenario_name folder, scenario) ∷ schedule_files folder 1 schedules
+
 -- the schedule of one of so many outcomes, which are numbered from 1
 abbrev pub IsScheduleIn : List ℕ → ℕ → List ℕ → Type 0
-IsScheduleIn folder count name = (number : ℕ) × (1 ≤ number) × (number ≤ count)
-    × (name ≡ folder ++ codes "/outcome-" ++ decimal number ++ codes ".schedule")
+IsScheduleIn folder count name =
+    (number : ℕ) × (1 ≤ number) × (number ≤ count) × (name ≡ schedule_name folder number)
 
 -- the folder itself, the scenario in it, or the schedule of an outcome
 abbrev pub IsKeptIn : List ℕ → ℕ → List ℕ → Type 0
 IsKeptIn folder count name =
-    (name ≡ folder) ⊎ ((name ≡ folder ++ codes "/scenario.toml") ⊎ IsScheduleIn folder count name)
+    (name ≡ folder) ⊎ ((name ≡ scenario_name folder) ⊎ IsScheduleIn folder count name)

@@ -1,10 +1,11 @@
 //! Files that are written besides an answer.
-ghost use Rattle.std.specs.Prelude.{◌≡◌, IfErr, length};
-ghost use Rattle.byzlab.specs.Kept.{IsKeptIn, IsUnwritten, Tells};
+ghost use Rattle.std.specs.Prelude.{◌≡◌, ◌++◌, ◌∷◌, [], IfErr, IfOk, OnOk, length, map, string_bytes};
+ghost use Rattle.byzlab.specs.Kept.{IsFilledBy, IsKeptIn, IsUnwritten, Tells, file_of, kept_files, name_beside, schedule_name};
 
-use std::alloc::AllocError;
+use crate::filling::{Filled, fill};
+use std::alloc::{AllocError, Global};
 use std::fs::{File, create_dir, metadata, remove_file, rename, symlink_metadata};
-use std::io::{self, ErrorKind, Write};
+use std::io::{self, ErrorKind};
 
 /// Why a file was not written.
 #[derive(Drop)]
@@ -33,8 +34,9 @@ impl From<AllocError> for Unkept {
 /// # Errors
 ///
 /// It cannot be written, or the name beside it is taken, or want of memory.
-pub fn write_whole(rt: &HostRuntime, name: &str, bytes: &[u8]) -> Result<(), Unkept>
-    ensures { IfErr result (Tells (λ told. told ≡ name.now)) }
+pub fn write_whole<'a>(rt: &HostRuntime, name: &str, bytes: &'a [u8]) -> Result<Filled<'a>, Unkept>
+    ensures written { IfOk result (IsFilledBy name.now bytes.now) }
+    ensures unwritten { IfErr result (Tells (λ told. told ≡ name.now)) }
 {
     match symlink_metadata(rt, name) {
         Ok(found) if !found.is_file() => write_through(rt, name, bytes),
@@ -43,31 +45,32 @@ pub fn write_whole(rt: &HostRuntime, name: &str, bytes: &[u8]) -> Result<(), Unk
 }
 
 /// Writes to what has this name.
-fn write_through(rt: &HostRuntime, name: &str, bytes: &[u8]) -> Result<(), Unkept>
-    ensures { IfErr result (Tells (λ told. told ≡ name.now)) }
+fn write_through<'a>(rt: &HostRuntime, name: &str, bytes: &'a [u8]) -> Result<Filled<'a>, Unkept>
+    ensures written { IfOk result (IsFilledBy name.now bytes.now) }
+    ensures unwritten { IfErr result (Tells (λ told. told ≡ name.now)) }
 {
     let ended = match File::create(rt, name) {
-        Ok(file) => filled(file, bytes),
+        Ok(mut file) => fill(rt.alloc(), &mut file, name, bytes),
         Err(error) => Err(error),
     };
     match ended {
-        Ok(()) => Ok(()),
+        Ok(written) => Ok(written),
         Err(error) => Err(unwritten(rt, name, error.kind())),
     }
 }
 
 /// Writes a new file beside this name, and gives it the name.
-fn write_beside(rt: &HostRuntime, name: &str, bytes: &[u8]) -> Result<(), Unkept>
-    ensures { IfErr result (Tells (λ told. told ≡ name.now)) }
+fn write_beside<'a>(rt: &HostRuntime, name: &str, bytes: &'a [u8]) -> Result<Filled<'a>, Unkept>
+    ensures written { IfOk result (IsFilledBy name.now bytes.now) }
+    ensures unwritten { IfErr result (Tells (λ told. told ≡ name.now)) }
 {
-    let alloc = rt.alloc();
-    let beside = format!(in alloc; "{name}.new")?;
+    let beside = name_beside(rt.alloc(), name)?;
     let file = match File::create_new(rt, beside.as_str()) {
         Ok(file) => file,
         Err(error) => return Err(unwritten(rt, name, error.kind())),
     };
     match named(rt, file, beside.as_str(), name, bytes) {
-        Ok(()) => Ok(()),
+        Ok(written) => Ok(written),
         Err(error) => {
             let _ = remove_file(rt, beside.as_str());
             Err(unwritten(rt, name, error.kind()))
@@ -76,15 +79,25 @@ fn write_beside(rt: &HostRuntime, name: &str, bytes: &[u8]) -> Result<(), Unkept
 }
 
 /// Writes the file beside, and gives it its name.
-fn named(rt: &HostRuntime, file: File, beside: &str, name: &str, bytes: &[u8]) -> io::Result<()> {
-    filled(file, bytes)?;
-    rename(rt, beside, name)
+fn named<'a>(
+    rt: &HostRuntime,
+    mut file: File,
+    beside: &str,
+    name: &str,
+    bytes: &'a [u8],
+) -> io::Result<Filled<'a>>
+    ensures { IfOk result (IsFilledBy name.now bytes.now) }
+{
+    let written = fill(rt.alloc(), &mut file, name, bytes)?;
+    rename(rt, beside, name)?;
+    Ok(written)
 }
 
-/// Writes all of a file.
-fn filled(mut file: File, bytes: &[u8]) -> io::Result<()> {
-    file.write_all(bytes)?;
-    file.flush()
+/// The name beside this one.
+fn name_beside(alloc: Global, name: &str) -> Result<String, AllocError>
+    ensures { IfOk result (λ beside. string_bytes beside ≡ name_beside name.now) }
+{
+    format!(in alloc; "{name}.new")
 }
 
 /// That the file or the folder of this name cannot be written.
@@ -118,28 +131,55 @@ fn make_folder(rt: &HostRuntime, name: &str) -> Result<(), Unkept>
     }
 }
 
+/// The name of the schedule of an outcome's number.
+fn schedule_name(alloc: Global, folder: &str, number: u64) -> Result<String, AllocError>
+    ensures { IfOk result (λ name. string_bytes name ≡ schedule_name folder.now number) }
+{
+    format!(in alloc; "{folder}/outcome-{number}.schedule")
+}
+
+/// Writes a file, and enters it behind those that are written.
+fn keep_file<'a>(
+    rt: &HostRuntime,
+    files: &mut Vec<Filled<'a>>,
+    name: &str,
+    bytes: &'a [u8],
+) -> Result<(), Unkept>
+    ensures kept { OnOk result
+        (map file_of files.new.items ≡ map file_of files.old.items ++ (name.now, bytes.now) ∷ []) }
+    ensures unkept { IfErr result (Tells (λ told. told ≡ name.now)) }
+{
+    let file = write_whole(rt, name, bytes)?;
+    match files.push(file) {
+        Ok(()) => Ok(()),
+        Err(_) => Err(Unkept::Memory),
+    }
+}
+
 /// Writes a scenario to FOLDER/scenario.toml, and each schedule to FOLDER/outcome-N.schedule, from 1. The folder is
-/// made, where there is none.
+/// made, where there is none. The result tells each file that was written.
 ///
 /// # Errors
 ///
 /// A file or the folder cannot be written, or want of memory.
-pub fn keep(
+pub fn keep<'a>(
     rt: &HostRuntime,
     folder: &str,
-    scenario: &[u8],
-    schedules: &[String],
-) -> Result<(), Unkept>
-    ensures { IfErr result (Tells (IsKeptIn folder.now (length schedules.now))) }
+    scenario: &'a [u8],
+    schedules: &'a [String],
+) -> Result<Vec<Filled<'a>>, Unkept>
+    ensures kept { IfOk result (λ files.
+        map file_of files.items ≡ kept_files folder.now scenario.now (map string_bytes schedules.now)) }
+    ensures unkept { IfErr result (Tells (IsKeptIn folder.now (length schedules.now))) }
 {
     let alloc = rt.alloc();
     make_folder(rt, folder)?;
+    let mut files = Vec::new(alloc);
     let name = format!(in alloc; "{folder}/scenario.toml")?;
-    write_whole(rt, name.as_str(), scenario)?;
+    keep_file(rt, &mut files, name.as_str(), scenario)?;
     for (before, schedule) in schedules.iter().enumerate() {
-        let number = before as u64 + 1;
-        let name = format!(in alloc; "{folder}/outcome-{number}.schedule")?;
-        write_whole(rt, name.as_str(), schedule.as_bytes())?;
+        let name = schedule_name(alloc, folder, before as u64 + 1)?;
+        keep_file(rt, &mut files, name.as_str(), schedule.as_bytes())?;
     }
-    Ok(())
+    Ok(files)
 }

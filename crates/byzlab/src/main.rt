@@ -2,25 +2,28 @@
 //! leaves the task to the library `lab`.
 #![tactic(auto)]
 
+mod failures;
+mod filling;
 mod folder;
 mod input;
 mod keeping;
 mod progress;
 mod target;
-mod telling;
 mod watched;
 
-ghost use Rattle.std.specs.Prelude.{◌≡◌, ◌≢◌, ◌≤◌, Any, Ok, IfOk, IfErr, IfSome, IsOk, None, Some, false, max, option_map, true};
+ghost use Rattle.std.specs.Prelude.{◌≡◌, ◌≢◌, ◌≤◌, ◌↔◌, Any, Ok, IfOk, IfErr, IfSome, IsErr, IsOk, None, Some, false, max, option_map, true};
 ghost use Rattle.std.specs.Io.KnownBytes.{Appends};
-ghost use Rattle.command_line.specs.Told.{file_of, schedule_target_of, second_of, seed_of};
+ghost use Rattle.command_line.specs.Tasks.{file_of, schedule_target_of, second_of, seed_of};
 ghost use Rattle.neighbours.specs.Seen.{reads_scenario};
 ghost use Rattle.neighbours.specs.Story.{with_story};
 ghost use Rattle.byzlab.specs.Files.{IsInputIf, IsSecondIf, IsSeededIf, IsTextOf};
-ghost use Rattle.byzlab.specs.Telling.{AsksNothing, IsStatus, IsUnasked, failure_of};
+ghost use Rattle.byzlab.specs.Failures.{AsksNothing, IsStatus, IsUnasked, failure_of};
 
 use chance::seeded;
 use command_line::{Request, Task, TaskError, each};
 use desk::{serve, turned_down};
+use failures::{Explained, Unwritten, unread, why_unwritten};
+use filling::Filled;
 use folder::FolderOf;
 use input::{Input, Opened};
 use keeping::{Unkept, keep, write_whole};
@@ -37,7 +40,6 @@ use std::sync::Wait;
 use std::thread::Threads;
 use streams::Output;
 use target::target_of;
-use telling::{Explained, Unwritten, unread, why_unwritten};
 use watched::Watched;
 
 fn main(rt: HostRuntime) -> ExitCode {
@@ -199,8 +201,18 @@ fn explored(
             let ending = kept_and_printed(rt, request, kept, text.as_str(), &mut rt.stdout())?;
             Ok(Some(ending))
         }
-        Err(Refusal::Memory) => Err(AllocError),
-        Err(_) => Ok(None),
+        Err(refusal) => unexplored(refusal),
+    }
+}
+
+/// None where a scenario is refused, unless that is want of memory.
+fn unexplored(refusal: Refusal) -> Result<Option<Ending>, AllocError>
+    ensures none { IfOk result (λ ending. ending ≡ None) }
+    ensures memory { IsErr result ↔ (refusal ≡ Refusal.Memory) }
+{
+    match refusal {
+        Refusal::Memory => Err(AllocError),
+        _ => Ok(None),
     }
 }
 
@@ -208,12 +220,12 @@ fn explored(
 fn kept_and_printed<O: Output>(
     rt: &HostRuntime,
     request: &Request,
-    kept: Result<(), Unkept>,
+    kept: Result<Vec<Filled<'_>>, Unkept>,
     text: &str,
     out: &mut O,
 ) -> Result<Ending, AllocError>
     ensures status { IfOk result (λ ending. IsStatus ending.status) }
-    ensures kept { IfOk result (λ ending. ending.status ≡ 0 → IsOk kept) }
+    ensures kept { IfOk result (λ ending. ending.status ≡ 0 → IsOk kept.entry) }
     ensures printed { IfOk result
         (λ ending. ending.status ≡ 0 → Appends (O.contents out.old) (O.contents out.new) text.now) }
     ensures unwritten { IfOk result (λ ending. ending.is_unwritten ≡ true → O.fails out.old) }
@@ -261,7 +273,7 @@ fn schedule_written(
     }
     let text = seeded(rt.alloc(), seed)?;
     match write_whole(rt, name, text.as_bytes()) {
-        Ok(()) => Ok(ending),
+        Ok(_written) => Ok(ending),
         Err(unkept) => {
             tell_unkept(rt, request, unkept)?;
             Ok(Ending::with(1))

@@ -2,13 +2,17 @@
 use Rattle.std.proofs.Common.{ℕ, zero, suc, ◌≡◌, ◌==◌, nat_lt, Bool, List, [], ◌∷◌, ◌++◌, length, Option, None, Some, codes, encode_utf8, refl, subst, sym}
 use Rattle.std.specs.Prelude.{if◌then◌else◌}
 use Rattle.std.specs.Fmt.{decimal}
-use Rattle.std.specs.List.{flat_map, range_with_len}
+use Rattle.std.specs.List.{AllByRecursion, flat_map, list_all, range_with_len}
 use Rattle.std.proofs.lemmas.Bool.{cond_both}
+use Rattle.std.proofs.lemmas.List.Elements.{All-from_recursion}
 use Rattle.markup.specs.Grammar.{IsContent, IsElement, joined, no_text, text}
 use Rattle.markup.proofs.TagLaws.{proved_elements_are_elements}
 use Rattle.markup.proofs.TextLemmas.{bare_text}
 use Rattle.page.specs.Page.{begun_lines, cell, fold, heading, item, lines, list, paragraph, picture, table, text_item}
+use Rattle.page.specs.Laws.{IsFilled}
+use Rattle.page.specs.Sections.{Section, sections_in}
 use Rattle.page.proofs.PageLaws.{proved_pages_are_elements, proved_parts_are_content}
+use Rattle.page.proofs.SectionLaws.{proved_sections_are_fitted}
 use Rattle.board.specs.Board.{Access}
 use Rattle.book.specs.Decisions.{decision_of}
 use Rattle.book.specs.Explained.{explained_one}
@@ -32,10 +36,11 @@ use Rattle.trace.specs.Text.{chronicle_text}
 use Rattle.world.specs.Chronicle.{Chronicle}
 use Rattle.world.specs.declared.schedule.Repeat.{Repeat}
 use Rattle.world.specs.declared.verdict.Verdict.{Verdict}
-use Rattle.campaign_page.specs.Account.{access_heads, access_row, accesses_heading, accesses_part, bound_told, chronicle_heading, chronicle_shown, chronicle_part, course_told, each_lieutenant, each_program, elsewhere_words, explained_told, general_name, hinted, is_wide, lieutenant_part, lieutenant_told, lieutenant_words, lieutenants_fitted, lieutenants_heading, lieutenants_part, parts, picture_heading, picture_hint, picture_name, picture_part, picture_told, program_if, program_part, no_programs, programs_heading, programs_part, programs_told, recorded_words, scenario_heading, scenario_part, schedule_heading, schedule_part, title, unscheduled_words, verdict_heading, verdict_part, verdict_told, view_of, why_part}
+use Rattle.campaign_page.specs.Account.{access_heads, access_row, accesses_heading, accesses_section, accesses_told, behind_words, bound_told, chronicle_heading, chronicle_section, course_told, diagram_section, each_lieutenant, each_program, elsewhere_words, explained_told, general_name, hinted, is_wide, lieutenant_part, lieutenant_told, lieutenant_words, lieutenants_heading, lieutenants_roomed, no_programs, parts, picture_heading, picture_hint, picture_name, picture_section, program_if, program_part, programs_section, programs_told, recorded_words, scenario_instead, scenario_section, schedule_heading, schedule_section, sections, story_told, title, unscheduled_words, verdict_heading, verdict_part, verdict_told, view_of, why_part}
 use Rattle.campaign_page.specs.Calls.{named_calls}
 use Rattle.campaign_page.specs.Printers.{accesses_printer, chronicle_printer, lieutenants_printer, picture_printer, programs_printer, scenario_printer, schedule_printer}
-use Rattle.campaign_page.specs.Room.{fitted, fitted_lines, over_words, room_for_accesses, room_for_chronicle, room_for_lieutenants, room_for_picture, room_for_programs, room_for_scenario, room_for_schedule, room_for_units, units_words}
+use Rattle.campaign_page.specs.Room.{fitted, lines_told, over, over_words, room_for_accesses, room_for_chronicle, room_for_lieutenants, room_for_picture, room_for_programs, room_for_scenario, room_for_schedule, room_for_sections, room_for_story, room_for_units, roomed, share, units_words}
+use Rattle.campaign_page.specs.Story.{behind_story, story}
 use Rattle.campaign_page.specs.Trees.{item_by, items_below, label_item, node_by, root_told, tree_told}
 use Rattle.campaign_page.specs.Laws.{CampaignPagesAreElements}
 
@@ -48,25 +53,46 @@ pub below : (words parts : List ℕ) → IsContent parts → IsContent (heading 
 below words parts c = joined (heading words) parts (proved_parts_are_content.heading words) c
 
 -- a part, and what stands in its place where there is no room for it
-pub fitted_content : (room : ℕ) (part who : List ℕ) → IsContent part → IsContent (fitted room part who)
-fitted_content room part who is =
-    cond_both (nat_lt room (length part)) (paragraph (over_words room who)) part IsContent (λ _. proved_parts_are_content.paragraph (over_words room who)) (λ _. is)
+over_content : (room : ℕ) (who : List ℕ) → IsContent (over room who)
+over_content room who = proved_parts_are_content.paragraph (over_words room who)
 
-lines_content : (room : ℕ) (words who : List ℕ) → IsContent (fitted_lines room words who)
-lines_content room words who =
-    cond_both (nat_lt room (length words)) (paragraph (over_words room who)) (fitted room (lines words) who) IsContent
-    (λ _. proved_parts_are_content.paragraph (over_words room who)) (λ _. fitted_content room (lines words) who (proved_parts_are_content.lines words))
+fitted_content : (room : ℕ) (who part : List ℕ) → IsContent part → IsContent (fitted room who part)
+fitted_content room who part is = cond_both (nat_lt room (length part)) (over room who) part IsContent (λ _. over_content room who) (λ _. is)
 
-pub scenario_content : (words : List ℕ) → IsContent (scenario_part words)
-scenario_content words = below scenario_heading (fitted_lines room_for_scenario words scenario_printer) (lines_content room_for_scenario words scenario_printer)
+lines_content : (room : ℕ) (who words : List ℕ) → IsContent (lines_told room who words)
+lines_content room who words =
+    cond_both (nat_lt room_for_sections (length words)) (over room who) (lines words) IsContent (λ _. over_content room who) (λ _. proved_parts_are_content.lines words)
+
+-- a section of content, in whose place stands that it is left out
+filled : (title : List ℕ) (room : ℕ) (who told : List ℕ) → IsContent told → IsFilled (roomed title room who told)
+filled title room who told is = (is, over_content room who)
+
+story_content : (tale : List ℕ) → IsContent (story_told tale)
+story_content [] = text [] no_text
+story_content (c ∷ cs) = proved_parts_are_content.lines (c ∷ cs)
+
+instead_content : (words : List ℕ) → IsContent (scenario_instead words)
+instead_content words =
+    joined (fitted room_for_story scenario_printer (story_told (story words))) (over room_for_scenario scenario_printer)
+    (fitted_content room_for_story scenario_printer (story_told (story words)) (story_content (story words))) (over_content room_for_scenario scenario_printer)
+
+pub scenario_filled : (words : List ℕ) → IsFilled (scenario_section words)
+scenario_filled words = (
+  cond_both (nat_lt room_for_sections (length words)) (scenario_instead words) (story_told (story words) ++ lines (behind_story words)) IsContent (λ _. instead_content words)
+      (λ _. joined (story_told (story words)) (lines (behind_story words)) (story_content (story words)) (proved_parts_are_content.lines (behind_story words))),
+  instead_content words,
+)
 
 course_content : (schedule : Option (List (List Repeat))) → IsContent (course_told schedule)
 course_content None = proved_parts_are_content.paragraph recorded_words
-course_content (Some []) = proved_parts_are_content.paragraph unscheduled_words
-course_content (Some (line ∷ rest)) = lines_content room_for_schedule (schedule_text (line ∷ rest)) schedule_printer
+course_content (Some schedule) =
+    let told : List ℕ = lines_told room_for_schedule schedule_printer (schedule_text schedule) in
+    cond_both (list_all (λ line. length line == 0) schedule) (paragraph unscheduled_words) (told ++ paragraph behind_words) IsContent
+    (λ _. proved_parts_are_content.paragraph unscheduled_words)
+    (λ _. joined told (paragraph behind_words) (lines_content room_for_schedule schedule_printer (schedule_text schedule)) (proved_parts_are_content.paragraph behind_words))
 
-pub schedule_content : (schedule : Option (List (List Repeat))) → IsContent (schedule_part schedule)
-schedule_content schedule = below schedule_heading (course_told schedule) (course_content schedule)
+pub schedule_filled : (schedule : Option (List (List Repeat))) → IsFilled (schedule_section schedule)
+schedule_filled schedule = filled schedule_heading room_for_schedule schedule_printer (course_told schedule) (course_content schedule)
 
 explained_content : (program : List Insn) → IsContent (explained_told program)
 explained_content program =
@@ -75,32 +101,36 @@ explained_content program =
     cond_both (nat_lt room_for_units units) (paragraph (units_words units programs_printer)) (begun_lines told) IsContent
     (λ _. proved_parts_are_content.paragraph (units_words units programs_printer)) (λ _. proved_parts_are_content.begun_lines told)
 
-program_content : (g : ℕ) (program : Option (List Insn)) → IsContent (program_if g program)
-program_content g None = text [] no_text
-program_content g (Some program) = proved_parts_are_content.fold (general_name g) (explained_told program) (explained_content program)
+program_content : (room g : ℕ) (program : Option (List Insn)) → IsContent (program_if room g program)
+program_content room g None = text [] no_text
+program_content room g (Some program) =
+    proved_parts_are_content.fold (general_name g) (fitted room programs_printer (explained_told program))
+    (fitted_content room programs_printer (explained_told program) (explained_content program))
+
+each_content : (room : ℕ) (s : Scenario) → IsContent (each_program room s)
+each_content room s = all (program_part room s) (range_with_len 0 s.generals) (λ g. program_content room g (program_of s g))
 
 told_content : (programs : List ℕ) → IsContent programs → IsContent (programs_told programs)
 told_content [] c = proved_parts_are_content.paragraph no_programs
 told_content (x ∷ xs) c = c
 
-pub programs_content : (s : Scenario) → IsContent (programs_part s)
-programs_content s =
-    let told : List ℕ = programs_told (each_program s) in
-    below programs_heading (fitted room_for_programs told programs_printer)
-    (fitted_content room_for_programs told programs_printer
-    (told_content (each_program s) (all (program_part s) (range_with_len 0 s.generals) (λ g. program_content g (program_of s g)))))
+pub programs_filled : (s : Scenario) → IsFilled (programs_section s)
+programs_filled s =
+    let told : List ℕ = programs_told (each_program room_for_sections s) in (
+      told_content (each_program room_for_sections s) (each_content room_for_sections s),
+      cond_both (nat_lt room_for_programs (length told)) (each_program (share s.generals) s) [] IsContent (λ _. each_content (share s.generals) s) (λ _. text [] no_text),
+    )
 
 -- a picture that is an element, and a line feed
-pub svg_content : (wide : Bool) (svg element : List ℕ) → IsElement element → svg ≡ element ++ codes "\n" → IsContent (picture_told wide svg)
-svg_content wide svg element is e =
+pub picture_filled : (wide : Bool) (svg element : List ℕ) → IsElement element → svg ≡ element ++ codes "\n" → IsFilled (picture_section wide svg)
+picture_filled wide svg element is e =
     let drawn : IsContent svg =
     subst IsContent (sym e) (joined element (codes "\n") (proved_elements_are_elements.content element is) (text (codes "\n") (bare_text (codes "\n") refl))) in
-    below picture_heading (fitted room_for_picture (hinted wide svg) picture_printer)
-    (fitted_content room_for_picture (hinted wide svg) picture_printer
-    (joined (paragraph picture_hint) (picture wide picture_name svg) (proved_parts_are_content.paragraph picture_hint) (proved_parts_are_content.picture wide picture_name svg drawn)))
+    filled picture_heading room_for_picture picture_printer (hinted wide svg)
+    (joined (paragraph picture_hint) (picture wide picture_name svg) (proved_parts_are_content.paragraph picture_hint) (proved_parts_are_content.picture wide picture_name svg drawn))
 
-picture_content : (t : MessageTable) (c : Chronicle) → IsContent (picture_part t c)
-picture_content t c = let drawn = proved_diagrams_are_elements t c in svg_content (is_wide c.scenario c.accesses) (svg_text t c) drawn.0 drawn.1 drawn.2
+diagram_filled : (t : MessageTable) (c : Chronicle) → IsFilled (diagram_section t c)
+diagram_filled t c = let drawn = proved_diagrams_are_elements t c in picture_filled (is_wide c.scenario c.accesses) (svg_text t c) drawn.0 drawn.1 drawn.2
 
 why_content : (t : MessageTable) (traitors : List ℕ) (g : ℕ) → IsContent (why_part t traitors g)
 why_content t traitors g =
@@ -138,14 +168,11 @@ lieutenant_content t traitors view g =
 one_content : (t : MessageTable) (traitors : List ℕ) (view : View) (g : ℕ) → IsContent (lieutenant_part t traitors view g)
 one_content t traitors view g = cond_both (g == t.commander) [] (lieutenant_told t traitors view g) IsContent (λ _. text [] no_text) (λ _. lieutenant_content t traitors view g)
 
-pub lieutenants_fitted_content : (told : List ℕ) → IsContent told → IsContent (lieutenants_fitted told)
-lieutenants_fitted_content told is = fitted_content room_for_lieutenants told lieutenants_printer is
+pub lieutenants_filled : (title told : List ℕ) → IsContent told → IsFilled (lieutenants_roomed title told)
+lieutenants_filled title told is = filled title room_for_lieutenants lieutenants_printer told is
 
-lieutenants_content : (t : MessageTable) (traitors : List ℕ) (view : View) → IsContent (lieutenants_part t traitors view)
-lieutenants_content t traitors view =
-    let told : List ℕ = each_lieutenant t traitors view in
-    below lieutenants_heading (lieutenants_fitted told)
-    (lieutenants_fitted_content told (all (lieutenant_part t traitors view) (range_with_len 0 t.generals) (one_content t traitors view)))
+lieutenants_content : (t : MessageTable) (traitors : List ℕ) (view : View) → IsContent (each_lieutenant t traitors view)
+lieutenants_content t traitors view = all (lieutenant_part t traitors view) (range_with_len 0 t.generals) (one_content t traitors view)
 
 heads_content : IsContent access_heads
 heads_content =
@@ -168,18 +195,17 @@ rows_content : (accesses : List Access) → IsContent (flat_map access_row acces
 rows_content [] = text [] no_text
 rows_content (a ∷ accesses) = joined (access_row a) (flat_map access_row accesses) (access_content a) (rows_content accesses)
 
-pub accesses_content : (accesses : List Access) → IsContent (accesses_part accesses)
+accesses_content : (accesses : List Access) → IsContent (accesses_told accesses)
 accesses_content [] = text [] no_text
 accesses_content (a ∷ accesses) =
     let rows : List ℕ = flat_map access_row (a ∷ accesses) in
-    below accesses_heading (fitted room_for_accesses (table (access_heads ++ rows)) accesses_printer)
-    (fitted_content room_for_accesses (table (access_heads ++ rows)) accesses_printer
-    (proved_parts_are_content.table (access_heads ++ rows) (joined access_heads rows heads_content (rows_content (a ∷ accesses)))))
+    proved_parts_are_content.table (access_heads ++ rows) (joined access_heads rows heads_content (rows_content (a ∷ accesses)))
 
-pub chronicle_content : (words : List ℕ) → IsContent (chronicle_shown words)
-chronicle_content words =
-    let text : List ℕ = flat_map encode_utf8 words in
-    below chronicle_heading (fitted_lines room_for_chronicle text chronicle_printer) (lines_content room_for_chronicle text chronicle_printer)
+pub accesses_filled : (accesses : List Access) → IsFilled (accesses_section accesses)
+accesses_filled accesses = filled accesses_heading room_for_accesses accesses_printer (accesses_told accesses) (accesses_content accesses)
+
+pub chronicle_filled : (words : List ℕ) → IsFilled (chronicle_section words)
+chronicle_filled words = filled chronicle_heading room_for_chronicle chronicle_printer (lines_told room_for_chronicle chronicle_printer (flat_map encode_utf8 words)) (lines_content room_for_chronicle chronicle_printer (flat_map encode_utf8 words))
 
 pub verdict_content : (v : Verdict) (bound : List ℕ) → IsContent (verdict_told v bound)
 verdict_content v bound =
@@ -189,21 +215,29 @@ verdict_content v bound =
     (proved_parts_are_content.paragraph (obeyed_words v.obeyed)))
     (proved_parts_are_content.paragraph bound)
 
+-- sections that are filled, and a verdict
+pub sections_content : (ss : List Section) (verdict : List ℕ) → AllByRecursion IsFilled ss → IsContent verdict → IsContent (sections_in room_for_sections ss ++ verdict)
+sections_content ss verdict each is =
+    joined (sections_in room_for_sections ss) verdict (proved_sections_are_fitted.content room_for_sections ss (All-from_recursion IsFilled ss each)) is
+
 parts_content : (words : List ℕ) (schedule : Option (List (List Repeat))) (t : MessageTable) (c : Chronicle) → IsContent (parts words schedule t c)
 unfolding parts
 parts_content words schedule t c =
-    joined _ (verdict_part c.verdict)
-    (joined _ (chronicle_part c)
-    (joined _ (accesses_part c.accesses)
-    (joined _ (lieutenants_part t (traitors_of c.scenario) (view_of c.scenario))
-    (joined _ (picture_part t c)
-    (joined _ (programs_part c.scenario)
-    (joined (scenario_part words) (schedule_part schedule) (scenario_content words) (schedule_content schedule))
-    (programs_content c.scenario))
-    (picture_content t c))
-    (lieutenants_content t (traitors_of c.scenario) (view_of c.scenario)))
-    (accesses_content c.accesses))
-    (chronicle_content (chronicle_text c)))
+    let traitors : List ℕ = traitors_of c.scenario in
+    let view : View = view_of c.scenario in
+    sections_content (sections words schedule t c) (verdict_part c.verdict) (
+      scenario_filled words,
+      (
+        schedule_filled schedule,
+        (
+          programs_filled c.scenario,
+          (
+            diagram_filled t c,
+            (lieutenants_filled lieutenants_heading (each_lieutenant t traitors view) (lieutenants_content t traitors view), (accesses_filled c.accesses, (chronicle_filled (chronicle_text c), tt))),
+          ),
+        ),
+      ),
+    )
     (verdict_content c.verdict (bound_told c.verdict.bound))
 
 pub proved_campaign_pages_are_elements : CampaignPagesAreElements

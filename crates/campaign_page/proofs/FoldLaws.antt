@@ -1,8 +1,8 @@
 -- What stands in the folds of a page.
-use Rattle.std.proofs.Common.{ℕ, zero, suc, ◌<◌, ◌≤◌, length, nat_lt, ◌≡◌, ◌≢◌, Bool, true, false, List, [], ◌∷◌, ◌++◌, refl, sym, ap, subst, ◌∙◌, append_assoc, arith, inl, inr, Option, codes}
+use Rattle.std.proofs.Common.{ℕ, zero, suc, ◌<◌, ◌≤◌, length, ◌≡◌, ◌≢◌, Bool, true, false, List, [], ◌∷◌, ◌++◌, refl, sym, ap, subst, ◌∙◌, arith, inl, inr, Option, codes}
 use Rattle.std.specs.Prelude.{◌==◌, if◌then◌else◌}
 use Rattle.std.specs.List.{AllByRecursion, flat_map, range_with_len}
-use Rattle.std.proofs.lemmas.Bool.{cond-false, eqb-true, le-ltb, ne_eqb, or_cases}
+use Rattle.std.proofs.lemmas.Bool.{cond-false, eqb-true, ne_eqb, or_cases}
 use Rattle.std.proofs.lemmas.List.Elements.{All-from_recursion}
 use Rattle.book.specs.Decisions.{decision_of}
 use Rattle.book.specs.Table.{MessageTable}
@@ -14,25 +14,25 @@ use Rattle.drawing.specs.declared.node.View.{View}
 use Rattle.label.specs.Labels.{on, others}
 use Rattle.label.proofs.Counting.{range-on}
 use Rattle.label.proofs.Places.{all-append}
-use Rattle.page.specs.Page.{fold, fold_end, fold_start, heading, item, item_end, item_start, list, list_end, list_start, page_end, page_start, paragraph, shown, text_item}
+use Rattle.page.specs.Page.{fold, fold_end, fold_start, item, item_end, item_start, list, list_end, list_start, page_end, page_start, paragraph, shown, text_item}
+use Rattle.page.specs.Laws.{StandsIn}
+use Rattle.page.specs.Sections.{Section, sections_in}
+use Rattle.page.proofs.SectionLaws.{ahead, behind, proved_sections_are_fitted}
 use Rattle.retold.specs.Retold.{traitors_of}
+use Rattle.trace.specs.Text.{chronicle_text}
 use Rattle.world.specs.Chronicle.{Chronicle}
 use Rattle.world.specs.declared.schedule.Repeat.{Repeat}
-use Rattle.campaign_page.specs.Account.{accesses_part, chronicle_part, each_lieutenant, lieutenant_part, lieutenant_told, lieutenant_words, lieutenants_fitted, lieutenants_heading, lieutenants_part, page_text, parts, picture_part, programs_part, scenario_part, schedule_part, title, verdict_part, view_of, why_part}
-use Rattle.campaign_page.specs.Printers.{lieutenants_printer}
-use Rattle.campaign_page.specs.Room.{fitted, over_words, room_for_lieutenants}
-use Rattle.campaign_page.specs.Laws.{FoldsHideNothing, StandsIn, IsShownIn as Shows}
+use Rattle.campaign_page.specs.Account.{accesses_section, chronicle_section, diagram_section, each_lieutenant, lieutenant_part, lieutenant_told, lieutenant_words, lieutenants_section, page_text, parts, programs_section, scenario_section, schedule_section, sections, title, verdict_part, view_of, why_part}
+use Rattle.campaign_page.specs.Room.{room_for_lieutenants, room_for_sections}
+use Rattle.campaign_page.specs.Laws.{FoldsHideNothing, IsShownIn as Shows}
 use Rattle.campaign_page.specs.Trees.{item_by, items_below, tree_told}
-
--- what stands in a text stands in a longer one
-behind : (part whole before : List ℕ) → StandsIn part whole → StandsIn part (before ++ whole)
-behind part whole before is = (before ++ is.0, is.1, ap (λ v. before ++ v) is.2 ∙ simp append_assoc)
-
-ahead : (part whole after : List ℕ) → StandsIn part whole → StandsIn part (whole ++ after)
-ahead part whole after is = (is.0, is.1 ++ after, ap (λ v. v ++ after) is.2 ∙ append_assoc (is.0 ++ part) is.1 after)
 
 between : (part whole before after : List ℕ) → StandsIn part whole → StandsIn part (before ++ whole ++ after)
 between part whole before after is = ahead part (before ++ whole) after (behind part whole before is)
+
+-- what stands in a part of a text stands in the text
+within : (part inner whole : List ℕ) → StandsIn part inner → StandsIn inner whole → StandsIn part whole
+within part inner whole is there = subst (StandsIn part) (sym there.2) (between part inner there.0 there.1 is)
 
 weaker : (P Q : Node → Type 0) (xs : List Node) → ((x : Node) → P x → Q x) → AllByRecursion P xs → AllByRecursion Q xs
 weaker P Q [] h a = tt
@@ -98,37 +98,27 @@ among_all part G (x ∷ xs) j there is = elim (or_cases (x == j) (on xs j) there
   | inr later ↦ behind part (flat_map G xs) (G x) (among_all part G xs j later is)
 ]
 
--- the part of a lieutenant stands in the page
-part_stands : (part words : List ℕ) (schedule : Option (List (List Repeat))) (t : MessageTable) (c : Chronicle) → StandsIn part (lieutenants_part t (traitors_of c.scenario) (view_of c.scenario))
-    → StandsIn part (page_text words schedule t c)
+-- the parts of the lieutenants stand in the page, if they are within their own room
+lieutenants_stand : (words : List ℕ) (schedule : Option (List (List Repeat))) (t : MessageTable) (c : Chronicle)
+    → length (each_lieutenant t (traitors_of c.scenario) (view_of c.scenario)) ≤ room_for_lieutenants
+    → StandsIn (each_lieutenant t (traitors_of c.scenario) (view_of c.scenario)) (page_text words schedule t c)
 unfolding parts
-part_stands part words schedule t c is =
-    let before : List ℕ = scenario_part words ++ schedule_part schedule ++ programs_part c.scenario ++ picture_part t c in
-    let mine : List ℕ = lieutenants_part t (traitors_of c.scenario) (view_of c.scenario) in
-    let one : List ℕ = before ++ mine in
-    let two : List ℕ = one ++ accesses_part c.accesses in
-    let three : List ℕ = two ++ chronicle_part c in
-    between part (three ++ verdict_part c.verdict) (page_start (title c.scenario)) page_end
-    (ahead part three (verdict_part c.verdict)
-    (ahead part two (chronicle_part c)
-    (ahead part one (accesses_part c.accesses)
-    (behind part mine before is))))
+lieutenants_stand words schedule t c short =
+    let told : List ℕ = each_lieutenant t (traitors_of c.scenario) (view_of c.scenario) in
+    let all : List Section = sections words schedule t c in
+    between told (sections_in room_for_sections all ++ verdict_part c.verdict) (page_start (title c.scenario)) page_end
+    (ahead told (sections_in room_for_sections all) (verdict_part c.verdict)
+    (proved_sections_are_fitted.own room_for_sections (scenario_section words ∷ schedule_section schedule ∷ programs_section c.scenario ∷ diagram_section t c ∷ [])
+    (lieutenants_section t c.scenario) (accesses_section c.accesses ∷ chronicle_section (chronicle_text c) ∷ []) short))
 
--- a part that there is room for
-has_room : (room : ℕ) (part who : List ℕ) → length part ≤ room → fitted room part who ≡ part
-has_room room part who short = cond-false (nat_lt room (length part)) (paragraph (over_words room who)) part (le-ltb room (length part) short)
-
-lieutenant_stands : (part : List ℕ) (t : MessageTable) (traitors : List ℕ) (view : View) (p : ℕ) → p < t.generals → p ≢ t.commander → length (each_lieutenant t traitors view) ≤ room_for_lieutenants
-    → StandsIn part (tree_told t traitors view p) → StandsIn part (lieutenants_part t traitors view)
-lieutenant_stands part t traitors view p general lieutenant short is =
+lieutenant_stands : (part : List ℕ) (t : MessageTable) (traitors : List ℕ) (view : View) (p : ℕ) → p < t.generals → p ≢ t.commander
+    → StandsIn part (tree_told t traitors view p) → StandsIn part (each_lieutenant t traitors view)
+lieutenant_stands part t traitors view p general lieutenant is =
     let told : List ℕ = tree_told t traitors view p ++ why_part t traitors p in
     let words : List ℕ = lieutenant_words p (on traitors p) (decision_of t p) in
     let his : StandsIn part (lieutenant_told t traitors view p) = between part told (fold_start words) fold_end (ahead part (tree_told t traitors view p) (why_part t traitors p) is) in
     let own : lieutenant_told t traitors view p ≡ lieutenant_part t traitors view p = sym (cond-false (p == t.commander) [] (lieutenant_told t traitors view p) (ne_eqb p t.commander lieutenant)) in
-    let all : List ℕ = each_lieutenant t traitors view in
-    let there : StandsIn part all =
-    among_all part (lieutenant_part t traitors view) (range_with_len 0 t.generals) p (range-on 0 t.generals p (omega arith) (omega arith)) (subst (StandsIn part) own his) in
-    behind part (lieutenants_fitted all) (heading lieutenants_heading) (subst (StandsIn part) (sym (has_room room_for_lieutenants all lieutenants_printer short)) there)
+    among_all part (lieutenant_part t traitors view) (range_with_len 0 t.generals) p (range-on 0 t.generals p (omega arith) (omega arith)) (subst (StandsIn part) own his)
 
 pub proved_folds_hide_nothing : FoldsHideNothing
 proved_folds_hide_nothing words schedule t c p general lieutenant short =
@@ -138,5 +128,6 @@ proved_folds_hide_nothing words schedule t c p general lieutenant short =
     (weaker (Shows (tree_told t traitors view p)) (Shows (page_text words schedule t c)) (nodes_of t traitors view p)
     (λ node is.
     let part : List ℕ = shown (said node) in
-    part_stands part words schedule t c (lieutenant_stands part t traitors view p general lieutenant short is))
+    within part (each_lieutenant t traitors view) (page_text words schedule t c) (lieutenant_stands part t traitors view p general lieutenant is)
+    (lieutenants_stand words schedule t c short))
     (tree_shows t traitors view p))

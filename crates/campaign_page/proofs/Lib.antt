@@ -5,3 +5,4 @@ pub mod FoldLaws
 pub mod ShortLaws
 pub mod ShortLemmas
 mod TreeLemmas
+mod StoryLemmas

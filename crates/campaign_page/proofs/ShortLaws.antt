@@ -1,127 +1,184 @@
 -- No page is long.
-use Rattle.std.proofs.Common.{ℕ, ◌+◌, ◌*◌, ◌^◌, ◌<◌, ◌≤◌, ◌≡◌, Bool, true, false, List, [], ◌∷◌, ◌++◌, length, length-append, refl, arith, codes, encode_utf8, Option, None, Some}
-use Rattle.std.specs.Prelude.{nat_lt}
+use Rattle.std.proofs.Common.{ℕ, zero, suc, ◌+◌, ◌*◌, ◌^◌, ◌<◌, ◌≤◌, ◌≡◌, Bool, true, false, List, [], ◌∷◌, ◌++◌, length, length-append, refl, arith, codes, encode_utf8, Option, None, Some}
+use Rattle.std.specs.Prelude.{nat_le, nat_lt}
 use Rattle.std.specs.Fmt.{decimal}
-use Rattle.std.specs.List.{flat_map}
-use Rattle.std.proofs.lemmas.Bool.{cond_both, ltb-false}
+use Rattle.std.specs.List.{All, flat_map, range_with_len}
+use Rattle.std.proofs.lemmas.Bool.{agree_below_at, cond_both, leb-true, ltb-false, ltb-true}
 use Rattle.std.proofs.lemmas.Fmt.{length-decimal-le}
+use Rattle.std.proofs.lemmas.List.Elements.{All-from_recursion}
 use Rattle.board.specs.Board.{Access}
 use Rattle.book.specs.Table.{MessageTable}
 use Rattle.diagram.specs.Foot.{alike_words, bound_words, obeyed_words}
 use Rattle.diagram.specs.Svg.{svg_text}
-use Rattle.explore.specs.Text.{schedule_text}
-use Rattle.page.specs.Page.{head_end, head_middle, heading, lines, look, look_end, page, page_end, page_start, paragraph, preamble, shown}
+use Rattle.insn.specs.declared.insn.Insn.{Insn}
+use Rattle.page.specs.Laws.{IsRoomy}
+use Rattle.page.specs.Page.{fold_end, fold_start, head_end, head_middle, heading, look, look_end, page, page_end, page_start, paragraph, preamble, shown}
+use Rattle.page.specs.Sections.{Section, heading_bytes, rooms, sections_in}
+use Rattle.page.proofs.SectionLaws.{proved_sections_are_fitted}
 use Rattle.retold.specs.Retold.{traitors_of}
-use Rattle.roster.specs.Scenario.{IsScenario, Scenario}
+use Rattle.roster.specs.Scenario.{IsScenario, Scenario, program_of}
 use Rattle.trace.specs.Text.{chronicle_text}
 use Rattle.world.specs.Chronicle.{Chronicle}
 use Rattle.world.specs.declared.schedule.Repeat.{Repeat}
 use Rattle.world.specs.declared.verdict.Verdict.{Verdict}
-use Rattle.campaign_page.specs.Account.{access_table, accesses_heading, accesses_part, bound_told, chronicle_heading, chronicle_part, chronicle_shown, course_told, each_lieutenant, each_program, hinted, is_wide, lieutenants_fitted, lieutenants_heading, lieutenants_part, page_text, parts, picture_heading, picture_part, picture_told, programs_heading, programs_part, programs_told, promise_words, recorded_words, scenario_heading, scenario_part, schedule_heading, schedule_part, title, title_words, unscheduled_words, verdict_heading, verdict_part, verdict_told, view_of}
+use Rattle.campaign_page.specs.Account.{accesses_heading, accesses_section, accesses_told, bound_told, chronicle_heading, chronicle_section, course_told, each_lieutenant, each_program, explained_told, general_name, hinted, is_wide, lieutenants_heading, lieutenants_roomed, parts, picture_heading, picture_section, program_if, program_part, programs_heading, programs_section, programs_told, promise_words, scenario_heading, scenario_section, schedule_heading, schedule_section, sections, story_told, title, title_words, verdict_heading, verdict_part, verdict_told, view_of}
 use Rattle.campaign_page.specs.Laws.{CampaignPagesAreShort}
 use Rattle.campaign_page.specs.Printers.{accesses_printer, chronicle_printer, lieutenants_printer, picture_printer, programs_printer, scenario_printer, schedule_printer}
-use Rattle.campaign_page.specs.Room.{fitted, fitted_lines, over_words}
+use Rattle.campaign_page.specs.Room.{fitted, lines_told, over, over_words, room_for_sections, roomed, share}
+use Rattle.campaign_page.specs.Story.{story}
 use Rattle.campaign_page.proofs.ShortLemmas.{both, known, shown_short}
 
 -- a text between two that are written out
-pub paragraph_short : (text : List ℕ) (n : ℕ) → length text ≤ n → length (paragraph text) ≤ 8 * n + 8
+pub paragraph_short : (text : List ℕ) (n : ℕ) → length text ≤ n → length (paragraph text) ≤ 9 * n + 8
 paragraph_short text n short =
     let start : length (codes "<p>") ≤ 3 = known (codes "<p>") 3 refl in
     let end : length (codes "</p>\n") ≤ 5 = known (codes "</p>\n") 5 refl in
     let told = shown_short text n short in
     omega (arith, length-append (codes "<p>" ++ shown text) (codes "</p>\n"), length-append (codes "<p>") (shown text))
 
-pub heading_short : (text : List ℕ) (n : ℕ) → length text ≤ n → length (heading text) ≤ 8 * n + 10
+pub heading_short : (text : List ℕ) (n : ℕ) → length text ≤ n → length (heading text) ≤ 9 * n + 10
 heading_short text n short =
     let start : length (codes "<h2>") ≤ 4 = known (codes "<h2>") 4 refl in
     let end : length (codes "</h2>\n") ≤ 6 = known (codes "</h2>\n") 6 refl in
     let told = shown_short text n short in
     omega (arith, length-append (codes "<h2>" ++ shown text) (codes "</h2>\n"), length-append (codes "<h2>") (shown text))
 
--- a part that is within its room, or that says that it is not
-over_short : (room : ℕ) (who : List ℕ) → room < 10 ^ 6 → length who ≤ 130 → length (over_words room who) ≤ 200
+-- what stands in place of a section that there is no room for
+over_words_short : (room : ℕ) (who : List ℕ) → room < 10 ^ 6 → length who ≤ 130 → length (over_words room who) ≤ 200
 unfolding over_words
-over_short room who low short =
+over_words_short room who low short =
     let digits : length (decimal room) ≤ 6 = length-decimal-le 6 room (omega arith) low (omega arith) in
     let start : length (codes "More than ") ≤ 10 = known (codes "More than ") 10 refl in
-    let middle : length (codes " bytes of HTML, for which a page has no room: ") ≤ 46 = known (codes " bytes of HTML, for which a page has no room: ") 46 refl in
-    omega (arith, length-append (codes "More than ") (decimal room ++ (codes " bytes of HTML, for which a page has no room: " ++ who)), length-append (decimal room) (codes " bytes of HTML, for which a page has no room: " ++ who), length-append (codes " bytes of HTML, for which a page has no room: ") who)
+    let middle : length (codes " bytes of HTML, for which this page has no room: ") ≤ 50 = known (codes " bytes of HTML, for which this page has no room: ") 50 refl in
+    omega (arith, length-append (codes "More than ") (decimal room ++ (codes " bytes of HTML, for which this page has no room: " ++ who)), length-append (decimal room) (codes " bytes of HTML, for which this page has no room: " ++ who), length-append (codes " bytes of HTML, for which this page has no room: ") who)
 
-left_short : (room : ℕ) (who : List ℕ) → 2000 ≤ room → room < 10 ^ 6 → length who ≤ 130 → length (paragraph (over_words room who)) ≤ room
-left_short room who high low short = let told = paragraph_short (over_words room who) 200 (over_short room who low short) in omega arith
+over_short : (room : ℕ) (who : List ℕ) → room < 10 ^ 6 → length who ≤ 130 → length (over room who) ≤ 2000
+over_short room who low short = let told = paragraph_short (over_words room who) 200 (over_words_short room who low short) in omega arith
 
-pub fitted_short : (room : ℕ) (part who : List ℕ) → 2000 ≤ room → room < 10 ^ 6 → length who ≤ 130 → length (fitted room part who) ≤ room
-fitted_short room part who high low short =
-    cond_both (nat_lt room (length part)) (paragraph (over_words room who)) part (λ xs. length xs ≤ room) (λ _. left_short room who high low short) (λ e. ltb-false room (length part) e)
+fitted_short : (room : ℕ) (who part : List ℕ) → 2000 ≤ room → room < 10 ^ 6 → length who ≤ 130 → length (fitted room who part) ≤ room
+fitted_short room who part high low short =
+    cond_both (nat_lt room (length part)) (over room who) part (λ xs. length xs ≤ room) (λ _. let told = over_short room who low short in omega arith) (λ e. ltb-false room (length part) e)
 
-lines_short : (room : ℕ) (text who : List ℕ) → 2000 ≤ room → room < 10 ^ 6 → length who ≤ 130 → length (fitted_lines room text who) ≤ room
-lines_short room text who high low short =
-    cond_both (nat_lt room (length text)) (paragraph (over_words room who)) (fitted room (lines text) who) (λ xs. length xs ≤ room) (λ _. left_short room who high low short)
-    (λ _. fitted_short room (lines text) who high low short)
+lower : (n middle m : ℕ) → n ≤ middle → middle ≤ m → n ≤ m
+lower n middle m one two = omega arith
 
--- each section, with its heading
-pub scenario_short : (words : List ℕ) → length (scenario_part words) ≤ 151000
-unfolding scenario_heading scenario_printer
-scenario_short words =
-    let head = heading_short scenario_heading 60 (known scenario_heading 60 refl) in
-    let told = lines_short 150000 words scenario_printer (omega arith) (omega arith) (known scenario_printer 130 refl) in
-    omega (arith, length-append (heading scenario_heading) (fitted_lines 150000 words scenario_printer))
+roomy : (title : List ℕ) (room : ℕ) (who told : List ℕ) → 2000 ≤ room → room < 10 ^ 6 → length who ≤ 130 → IsRoomy (roomed title room who told)
+roomy title room who told high low short = lower (length (over room who)) 2000 room (over_short room who low short) high
 
-course_short : (schedule : Option (List (List Repeat))) → length (course_told schedule) ≤ 30000
-unfolding recorded_words unscheduled_words schedule_printer
-course_short None = let told = paragraph_short recorded_words 130 (known recorded_words 130 refl) in omega arith
-course_short (Some []) = let told = paragraph_short unscheduled_words 130 (known unscheduled_words 130 refl) in omega arith
-course_short (Some (line ∷ rest)) = lines_short 30000 (schedule_text (line ∷ rest)) schedule_printer (omega arith) (omega arith) (known schedule_printer 130 refl)
+-- ---- each section
 
-pub schedule_short : (schedule : Option (List (List Repeat))) → length (schedule_part schedule) ≤ 31000
-unfolding schedule_heading
-schedule_short schedule =
-    let head = heading_short schedule_heading 60 (known schedule_heading 60 refl) in
-    let told = course_short schedule in
-    omega (arith, length-append (heading schedule_heading) (course_told schedule))
+pub scenario_roomy : (words : List ℕ) → IsRoomy (scenario_section words)
+unfolding scenario_printer
+scenario_roomy words =
+    let his : length scenario_printer ≤ 130 = known scenario_printer 130 refl in
+    let tale : List ℕ = fitted 20000 scenario_printer (story_told (story words)) in
+    lower (length (tale ++ over 151000 scenario_printer)) 22000 151000
+    (both tale (over 151000 scenario_printer) 20000 2000 (fitted_short 20000 scenario_printer (story_told (story words)) (omega arith) (omega arith) his) (over_short 151000 scenario_printer (omega arith) his))
+    (omega arith)
 
-pub programs_short : (s : Scenario) → length (programs_part s) ≤ 151000
-unfolding programs_heading programs_printer
-programs_short s =
-    let head = heading_short programs_heading 60 (known programs_heading 60 refl) in
-    let part : List ℕ = programs_told (each_program s) in
-    let told = fitted_short 150000 part programs_printer (omega arith) (omega arith) (known programs_printer 130 refl) in
-    omega (arith, length-append (heading programs_heading) (fitted 150000 part programs_printer))
+pub schedule_roomy : (schedule : Option (List (List Repeat))) → IsRoomy (schedule_section schedule)
+unfolding schedule_printer
+schedule_roomy schedule = roomy schedule_heading 31000 schedule_printer (course_told schedule) (omega arith) (omega arith) (known schedule_printer 130 refl)
 
-pub picture_short : (wide : Bool) (svg : List ℕ) → length (picture_told wide svg) ≤ 601000
-unfolding picture_heading picture_printer
-picture_short wide svg =
-    let head = heading_short picture_heading 60 (known picture_heading 60 refl) in
-    let told = fitted_short 600000 (hinted wide svg) picture_printer (omega arith) (omega arith) (known picture_printer 130 refl) in
-    omega (arith, length-append (heading picture_heading) (fitted 600000 (hinted wide svg) picture_printer))
+name_short : (g : ℕ) → g < 10 ^ 2 → length (general_name g) ≤ 10
+name_short g low = both (codes "General ") (decimal g) 8 2 (known (codes "General ") 8 refl) (length-decimal-le 2 g (omega arith) low (omega arith))
 
-pub lieutenants_fitted_short : (part : List ℕ) → length (lieutenants_fitted part) ≤ 510000
+program_short : (room g : ℕ) (program : Option (List Insn)) → 2000 ≤ room → room < 10 ^ 6 → g < 10 ^ 2 → length (program_if room g program) ≤ room + 140
+unfolding programs_printer
+program_short room g None high low few = omega arith
+program_short room g (Some program) high low few =
+    let name : List ℕ = general_name g in
+    let told : List ℕ = fitted room programs_printer (explained_told program) in
+    let his : length (shown name) ≤ 90 = shown_short name 10 (name_short g few) in
+    let short : length told ≤ room = fitted_short room programs_printer (explained_told program) high low (known programs_printer 130 refl) in
+    let one = both (codes "<details>\n<summary>") (shown name) 19 90 (known (codes "<details>\n<summary>") 19 refl) his in
+    let two = both (codes "<details>\n<summary>" ++ shown name) (codes "</summary>\n") 109 11 one (known (codes "</summary>\n") 11 refl) in
+    let three = both (fold_start name) told 120 room two short in
+    let four = both (fold_start name ++ told) fold_end (120 + room) 11 three (known fold_end 11 refl) in
+    omega arith
+
+-- so often a number
+times : ℕ → ℕ → ℕ
+times zero k = 0
+times (suc n) k = k + times n k
+
+each_short : (room : ℕ) (s : Scenario) (first n : ℕ) → 2000 ≤ room → room < 10 ^ 6 → first + n ≤ 13 → length (flat_map (program_part room s) (range_with_len first n)) ≤ times n (room + 140)
+unfolding times
+each_short room s first zero high low few = omega arith
+each_short room s first (suc n) high low few =
+    both (program_part room s first) (flat_map (program_part room s) (range_with_len (first + 1) n)) (room + 140) (times n (room + 140))
+    (program_short room first (program_of s first) high low (omega arith)) (each_short room s (first + 1) n high low (omega arith))
+
+shares_high : (n : ℕ) → n < 14 → 2000 ≤ share n
+shares_high n few = leb-true 2000 (share n) (agree_below_at (λ x. nat_le 2000 (share x)) (λ _. true) 14 n refl few)
+
+shares_low : (n : ℕ) → n < 14 → share n < 10 ^ 6
+shares_low n few = ltb-true (share n) 1000000 (agree_below_at (λ x. nat_lt (share x) 1000000) (λ _. true) 14 n refl few)
+
+shares_short : (n : ℕ) → n < 14 → times n (share n + 140) ≤ 150000
+unfolding times
+shares_short n few = leb-true (times n (share n + 140)) 150000 (agree_below_at (λ x. nat_le (times x (share x + 140)) 150000) (λ _. true) 14 n refl few)
+
+shared_short : (s : Scenario) → IsScenario s → length (each_program (share s.generals) s) ≤ 150000
+shared_short s is =
+    let n : ℕ = s.generals in
+    let few : n < 14 = omega arith in
+    let all = each_short (share n) s 0 n (shares_high n few) (shares_low n few) (omega arith) in
+    let whole = shares_short n few in
+    omega arith
+
+pub programs_roomy : (s : Scenario) → IsScenario s → IsRoomy (programs_section s)
+programs_roomy s is =
+    cond_both (nat_lt 150000 (length (programs_told (each_program room_for_sections s)))) (each_program (share s.generals) s) [] (λ xs. length xs ≤ 150000)
+    (λ _. shared_short s is) (λ _. omega arith)
+
+pub picture_roomy : (wide : Bool) (svg : List ℕ) → IsRoomy (picture_section wide svg)
+unfolding picture_printer
+picture_roomy wide svg = roomy picture_heading 600000 picture_printer (hinted wide svg) (omega arith) (omega arith) (known picture_printer 130 refl)
+
+pub lieutenants_roomy : (title told : List ℕ) → IsRoomy (lieutenants_roomed title told)
 unfolding lieutenants_printer
-lieutenants_fitted_short part = fitted_short 510000 part lieutenants_printer (omega arith) (omega arith) (known lieutenants_printer 130 refl)
+lieutenants_roomy title told = roomy title 525000 lieutenants_printer told (omega arith) (omega arith) (known lieutenants_printer 130 refl)
 
-lieutenants_short : (part : List ℕ) → length (heading lieutenants_heading ++ lieutenants_fitted part) ≤ 511000
+pub accesses_roomy : (accesses : List Access) → IsRoomy (accesses_section accesses)
+unfolding accesses_printer
+accesses_roomy accesses = roomy accesses_heading 130000 accesses_printer (accesses_told accesses) (omega arith) (omega arith) (known accesses_printer 130 refl)
+
+pub chronicle_roomy : (words : List ℕ) → IsRoomy (chronicle_section words)
+unfolding chronicle_printer
+chronicle_roomy words = roomy chronicle_heading 400000 chronicle_printer (lines_told 400000 chronicle_printer (flat_map encode_utf8 words)) (omega arith) (omega arith) (known chronicle_printer 130 refl)
+
+-- ---- their headings
+
+pub scenario_headed : length (heading scenario_heading) ≤ 487
+unfolding scenario_heading
+scenario_headed = heading_short scenario_heading 53 (known scenario_heading 53 refl)
+
+pub schedule_headed : length (heading schedule_heading) ≤ 487
+unfolding schedule_heading
+schedule_headed = heading_short schedule_heading 53 (known schedule_heading 53 refl)
+
+pub programs_headed : length (heading programs_heading) ≤ 487
+unfolding programs_heading
+programs_headed = heading_short programs_heading 53 (known programs_heading 53 refl)
+
+pub picture_headed : length (heading picture_heading) ≤ 487
+unfolding picture_heading
+picture_headed = heading_short picture_heading 53 (known picture_heading 53 refl)
+
+lieutenants_headed : length (heading lieutenants_heading) ≤ 487
 unfolding lieutenants_heading
-lieutenants_short part =
-    let head = heading_short lieutenants_heading 60 (known lieutenants_heading 60 refl) in
-    let told = lieutenants_fitted_short part in
-    omega (arith, length-append (heading lieutenants_heading) (lieutenants_fitted part))
+lieutenants_headed = heading_short lieutenants_heading 53 (known lieutenants_heading 53 refl)
 
-pub accesses_short : (accesses : List Access) → length (accesses_part accesses) ≤ 131000
-unfolding accesses_heading accesses_printer
-accesses_short [] = omega arith
-accesses_short (a ∷ accesses) =
-    let part : List ℕ = access_table (a ∷ accesses) in
-    let head = heading_short accesses_heading 60 (known accesses_heading 60 refl) in
-    let told = fitted_short 130000 part accesses_printer (omega arith) (omega arith) (known accesses_printer 130 refl) in
-    omega (arith, length-append (heading accesses_heading) (fitted 130000 part accesses_printer))
+pub accesses_headed : length (heading accesses_heading) ≤ 487
+unfolding accesses_heading
+accesses_headed = heading_short accesses_heading 53 (known accesses_heading 53 refl)
 
-pub chronicle_short : (words : List ℕ) → length (chronicle_shown words) ≤ 401000
-unfolding chronicle_heading chronicle_printer
-chronicle_short words =
-    let part : List ℕ = flat_map encode_utf8 words in
-    let head = heading_short chronicle_heading 60 (known chronicle_heading 60 refl) in
-    let told = lines_short 400000 part chronicle_printer (omega arith) (omega arith) (known chronicle_printer 130 refl) in
-    omega (arith, length-append (heading chronicle_heading) (fitted_lines 400000 part chronicle_printer))
+pub chronicle_headed : length (heading chronicle_heading) ≤ 487
+unfolding chronicle_heading
+chronicle_headed = heading_short chronicle_heading 53 (known chronicle_heading 53 refl)
+
+-- ---- the verdict
 
 alike_short : (b : Bool) → length (alike_words b) ≤ 60
 alike_short true = known (alike_words true) 60 refl
@@ -143,13 +200,13 @@ bound_short false = known (bound_words false) 200 refl
 pub verdict_short : (v : Verdict) (bound : List ℕ) → length bound ≤ 200 → length (verdict_told v bound) ≤ 4000
 unfolding verdict_heading
 verdict_short v bound short =
-    let head = heading_short verdict_heading 60 (known verdict_heading 60 refl) in
+    let head = heading_short verdict_heading 53 (known verdict_heading 53 refl) in
     let one = paragraph_short (alike_words v.alike) 60 (alike_short v.alike) in
     let two = paragraph_short (obeyed_words v.obeyed) 60 (obeyed_short v.obeyed) in
     let three = paragraph_short bound 200 short in
-    let first = both (heading verdict_heading) (paragraph (alike_words v.alike)) 490 488 (omega arith) (omega arith) in
-    let second = both (heading verdict_heading ++ paragraph (alike_words v.alike)) (paragraph (obeyed_words v.obeyed)) 978 488 (omega arith) (omega arith) in
-    let whole = both (heading verdict_heading ++ paragraph (alike_words v.alike) ++ paragraph (obeyed_words v.obeyed)) (paragraph bound) 1466 1608 (omega arith) (omega arith) in
+    let first = both (heading verdict_heading) (paragraph (alike_words v.alike)) 490 548 (omega arith) (omega arith) in
+    let second = both (heading verdict_heading ++ paragraph (alike_words v.alike)) (paragraph (obeyed_words v.obeyed)) 1038 548 (omega arith) (omega arith) in
+    let whole = both (heading verdict_heading ++ paragraph (alike_words v.alike) ++ paragraph (obeyed_words v.obeyed)) (paragraph bound) 1586 1808 (omega arith) (omega arith) in
     omega arith
 
 -- the campaign's numbers
@@ -180,7 +237,7 @@ look_short : length look ≤ 2000
 unfolding look
 look_short = known look 2000 refl
 
-start_short : (title : List ℕ) → length title ≤ 150 → length (page_start title) ≤ 5100
+start_short : (title : List ℕ) → length title ≤ 150 → length (page_start title) ≤ 5400
 start_short title short =
     let his = shown_short title 150 short in
     let a : List ℕ = preamble ++ look in
@@ -190,37 +247,52 @@ start_short title short =
     let e : List ℕ = d ++ shown title in
     let s1 = both preamble look 500 2000 preamble_short look_short in
     let s2 = both a look_end 2500 50 s1 (known look_end 50 refl) in
-    let s3 = both b (shown title) 2550 1200 s2 his in
-    let s4 = both c head_middle 3750 50 s3 (known head_middle 50 refl) in
-    let s5 = both d (shown title) 3800 1200 s4 his in
-    both e head_end 5000 100 s5 (known head_end 100 refl)
+    let s3 = both b (shown title) 2550 1350 s2 his in
+    let s4 = both c head_middle 3900 50 s3 (known head_middle 50 refl) in
+    let s5 = both d (shown title) 3950 1350 s4 his in
+    both e head_end 5300 100 s5 (known head_end 100 refl)
 
-pub page_short : (title parts : List ℕ) (n : ℕ) → length title ≤ 150 → length parts ≤ n → length (page title parts) ≤ n + 5200
+pub page_short : (title parts : List ℕ) (n : ℕ) → length title ≤ 150 → length parts ≤ n → length (page title parts) ≤ n + 5500
 page_short title parts n short few =
     let start = start_short title short in
     let end : length page_end ≤ 100 = known page_end 100 refl in
     omega (arith, length-append (page_start title ++ parts) page_end, length-append (page_start title) parts)
 
-parts_short : (words : List ℕ) (schedule : Option (List (List Repeat))) (t : MessageTable) (c : Chronicle) → length (parts words schedule t c) ≤ 1981000
+-- sections and a verdict
+pub sections_short : (ss : List Section) (verdict : List ℕ) → rooms ss ≤ 1987000 → All IsRoomy ss → heading_bytes ss ≤ 3500 → length verdict ≤ 4000 → length (sections_in 1987000 ss ++ verdict) ≤ 1994500
+sections_short ss verdict low each few short =
+    let all = proved_sections_are_fitted.short 1987000 ss low each in
+    omega (arith, length-append (sections_in 1987000 ss) verdict)
+
+parts_short : (words : List ℕ) (schedule : Option (List (List Repeat))) (t : MessageTable) (c : Chronicle) → IsScenario c.scenario → length (parts words schedule t c) ≤ 1994500
 unfolding parts
-parts_short words schedule t c =
-    let traitors : List ℕ = traitors_of c.scenario in
-    let view = view_of c.scenario in
-    let one : List ℕ = scenario_part words ++ schedule_part schedule in
-    let two : List ℕ = one ++ programs_part c.scenario in
-    let three : List ℕ = two ++ picture_part t c in
-    let four : List ℕ = three ++ lieutenants_part t traitors view in
-    let five : List ℕ = four ++ accesses_part c.accesses in
-    let six : List ℕ = five ++ chronicle_part c in
-    let s1 = both (scenario_part words) (schedule_part schedule) 151000 31000 (scenario_short words) (schedule_short schedule) in
-    let s2 = both one (programs_part c.scenario) 182000 151000 s1 (programs_short c.scenario) in
-    let s3 = both two (picture_part t c) 333000 601000 s2 (picture_short (is_wide c.scenario c.accesses) (svg_text t c)) in
-    let s4 = both three (lieutenants_part t traitors view) 934000 511000 s3 (lieutenants_short (each_lieutenant t traitors view)) in
-    let s5 = both four (accesses_part c.accesses) 1445000 131000 s4 (accesses_short c.accesses) in
-    let s6 = both five (chronicle_part c) 1576000 401000 s5 (chronicle_short (chronicle_text c)) in
-    let s7 = both six (verdict_part c.verdict) 1977000 4000 s6 (verdict_short c.verdict (bound_told c.verdict.bound) (bound_short c.verdict.bound)) in
-    s7
+parts_short words schedule t c is =
+    let ss : List Section = sections words schedule t c in
+    let each : All IsRoomy ss =
+    All-from_recursion IsRoomy ss (
+      scenario_roomy words,
+      (
+        schedule_roomy schedule,
+        (
+          programs_roomy c.scenario is,
+          (
+            picture_roomy (is_wide c.scenario c.accesses) (svg_text t c),
+            (lieutenants_roomy lieutenants_heading (each_lieutenant t (traitors_of c.scenario) (view_of c.scenario)), (accesses_roomy c.accesses, (chronicle_roomy (chronicle_text c), tt))),
+          ),
+        ),
+      ),
+    ) in
+    let h1 = scenario_headed in
+    let h2 = schedule_headed in
+    let h3 = programs_headed in
+    let h4 = picture_headed in
+    let h5 = lieutenants_headed in
+    let h6 = accesses_headed in
+    let h7 = chronicle_headed in
+    let headed : length (heading scenario_heading) + (length (heading schedule_heading) + (length (heading programs_heading) + (length (heading picture_heading)
+    + (length (heading lieutenants_heading) + (length (heading accesses_heading) + (length (heading chronicle_heading) + 0)))))) ≤ 3500 = omega arith in
+    sections_short ss (verdict_part c.verdict) (leb-true (rooms ss) 1987000 refl) each headed (verdict_short c.verdict (bound_told c.verdict.bound) (bound_short c.verdict.bound))
 
 pub proved_campaign_pages_are_short : CampaignPagesAreShort
 proved_campaign_pages_are_short words schedule t c is =
-    let whole = page_short (title c.scenario) (parts words schedule t c) 1981000 (let his = title_short c.scenario is in omega arith) (parts_short words schedule t c) in omega arith
+    let whole = page_short (title c.scenario) (parts words schedule t c) 1994500 (let his = title_short c.scenario is in omega arith) (parts_short words schedule t c is) in omega arith

@@ -1,6 +1,6 @@
 -- How long a text of others is at most, as it is shown.
 use Rattle.std.proofs.Common.{ℕ, zero, suc, ◌+◌, ◌*◌, ◌-◌, ◌/◌, ◌%◌, ◌<◌, ◌≤◌, ◌≡◌, Bool, true, false, List, [], ◌∷◌, ◌++◌, length, length-append, refl, sym, ap, subst, ◌∙◌, arith, append-nil, codes, encode_utf8, encode_utf8_all, Option, None, Some}
-use Rattle.std.specs.Prelude.{◌==◌, nat_le, if◌then◌else◌, unwrap_or}
+use Rattle.std.specs.Prelude.{◌==◌, nat_le, nat_lt, if◌then◌else◌, unwrap_or}
 use Rattle.std.specs.Str.{chars, chars_after, continuation_len, lead_bits}
 use Rattle.std.proofs.Math.Utf8.{encode}
 use Rattle.std.proofs.lemmas.Bool.{agree_below_at, cond_both, leb-true}
@@ -8,7 +8,7 @@ use Rattle.std.proofs.lemmas.Grind.{flat_map-append}
 use Rattle.std.proofs.lemmas.Str.{encodes-append, len_utf8_bounds, length-encode}
 use Rattle.markup.specs.Escaped.{escaped, reference, shown as character, written}
 use Rattle.page.specs.Page.{shown}
-use Rattle.page.specs.Visible.{digit, is_hidden, made_visible, numbered, visible}
+use Rattle.page.specs.Visible.{digit, fifth, is_hidden, made_visible, numbered, visible}
 
 -- characters as they are written, in bytes
 abbrev E : List ℕ → List ℕ
@@ -81,7 +81,11 @@ four_short a b c d h1 h2 h3 h4 =
     let e3 : length (E (c ∷ d ∷ [])) ≡ length (E (c ∷ []) ++ E (d ∷ [])) = ap length (E_append (c ∷ []) (d ∷ [])) in
     omega (arith, length-append (E (a ∷ [])) (E (b ∷ c ∷ d ∷ [])), length-append (E (b ∷ [])) (E (c ∷ d ∷ [])), length-append (E (c ∷ [])) (E (d ∷ [])))
 
-number_short : (c : ℕ) → length (E (numbered c)) ≤ 8
+fifth_short : (c : ℕ) → length (E (fifth c)) ≤ 1
+unfolding encode
+fifth_short c = cond_both (nat_lt c 65536) [] (digit (c / 65536 % 16) ∷ []) (λ xs. length (E xs) ≤ 1) (λ _. omega arith) (λ _. digit_short (c / 65536 % 16) (omega arith))
+
+number_short : (c : ℕ) → length (E (numbered c)) ≤ 9
 unfolding encode
 number_short c =
     let a : ℕ = digit (c / 4096 % 16) in
@@ -89,27 +93,30 @@ number_short c =
     let d : ℕ = digit (c / 16 % 16) in
     let e : ℕ = digit (c % 16) in
     let digits : List ℕ = a ∷ b ∷ d ∷ e ∷ [] in
-    let same : length (E (numbered c)) ≡ length (E (codes "[U+") ++ E (digits ++ codes "]")) = ap length (E_append (codes "[U+") (digits ++ codes "]")) in
+    let lead : List ℕ = fifth c in
+    let same : length (E (numbered c)) ≡ length (E (codes "[U+") ++ E (lead ++ (digits ++ codes "]"))) = ap length (E_append (codes "[U+") (lead ++ (digits ++ codes "]"))) in
+    let led : length (E (lead ++ (digits ++ codes "]"))) ≡ length (E lead ++ E (digits ++ codes "]")) = ap length (E_append lead (digits ++ codes "]")) in
     let rest : length (E (digits ++ codes "]")) ≡ length (E digits ++ E (codes "]")) = ap length (E_append digits (codes "]")) in
     let four : length (E digits) ≤ 4 =
     four_short a b d e (digit_short (c / 4096 % 16) (omega arith)) (digit_short (c / 256 % 16) (omega arith)) (digit_short (c / 16 % 16) (omega arith)) (digit_short (c % 16) (omega arith)) in
+    let five = fifth_short c in
     let start : length (E (codes "[U+")) ≤ 3 = known (E (codes "[U+")) 3 refl in
     let end : length (E (codes "]")) ≤ 1 = known (E (codes "]")) 1 refl in
-    omega (arith, length-append (E (codes "[U+")) (E (digits ++ codes "]")), length-append (E digits) (E (codes "]")))
+    omega (arith, length-append (E (codes "[U+")) (E (lead ++ (digits ++ codes "]"))), length-append (E lead) (E (digits ++ codes "]")), length-append (E digits) (E (codes "]")))
 
-made_short : (c : ℕ) → length (E (made_visible c)) ≤ 8
-made_short c = cond_both (is_hidden c) (numbered c) (c ∷ []) (λ xs. length (E xs) ≤ 8) (λ _. number_short c) (λ _. let few = first_short c in omega arith)
+made_short : (c : ℕ) → length (E (made_visible c)) ≤ 9
+made_short c = cond_both (is_hidden c) (numbered c) (c ∷ []) (λ xs. length (E xs) ≤ 9) (λ _. number_short c) (λ _. let few = first_short c in omega arith)
 
-visible_short : (cs : List ℕ) → length (E (visible cs)) ≤ 8 * length cs
+visible_short : (cs : List ℕ) → length (E (visible cs)) ≤ 9 * length cs
 visible_short [] = omega arith
 visible_short (c ∷ cs) =
     let same : length (E (visible (c ∷ cs))) ≡ length (E (made_visible c) ++ E (visible cs)) = ap length (E_append (made_visible c) (visible cs)) in
-    let one : length (E (made_visible c)) ≤ 8 = made_short c in
-    let more : length (E (visible cs)) ≤ 8 * length cs = visible_short cs in
+    let one : length (E (made_visible c)) ≤ 9 = made_short c in
+    let more : length (E (visible cs)) ≤ 9 * length cs = visible_short cs in
     omega (arith, length-append (E (made_visible c)) (E (visible cs)))
 
-pub shown_short : (text : List ℕ) (n : ℕ) → length text ≤ n → length (shown text) ≤ 8 * n
+pub shown_short : (text : List ℕ) (n : ℕ) → length text ≤ n → length (shown text) ≤ 9 * n
 shown_short text n short =
-    let told : length (shown text) ≤ 8 * length (chars text) = visible_short (chars text) in
+    let told : length (shown text) ≤ 9 * length (chars text) = visible_short (chars text) in
     let fewer : length (chars text) ≤ length text = chars_short text in
     omega arith

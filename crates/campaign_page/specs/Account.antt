@@ -1,7 +1,7 @@
 -- A campaign as a page of HTML, section by section.
 use Rattle.std.specs.Prelude.{ℕ, ◌==◌, nat_lt, Bool, true, false, if◌then◌else◌, List, [], ◌∷◌, ◌++◌, length, flat_map, codes, encode_utf8, Option, None, Some}
 use Rattle.std.specs.Fmt.{decimal}
-use Rattle.std.specs.List.{range_with_len}
+use Rattle.std.specs.List.{list_all, range_with_len}
 use Rattle.board.specs.Board.{Access}
 use Rattle.book.specs.Decisions.{decision_of}
 use Rattle.book.specs.Explained.{explained_one}
@@ -17,6 +17,7 @@ use Rattle.insn.specs.declared.insn.Insn.{Insn}
 use Rattle.insn.specs.Program.{slots_of}
 use Rattle.label.specs.Labels.{on}
 use Rattle.page.specs.Page.{begun_lines, cell, fold, head, heading, lines, page, paragraph, picture, row, table}
+use Rattle.page.specs.Sections.{Section, sections_in}
 use Rattle.retold.specs.Retold.{traitors_of}
 use Rattle.roster.specs.Scenario.{Scenario, program_of}
 use Rattle.trace.specs.Text.{chronicle_text}
@@ -25,7 +26,8 @@ use Rattle.world.specs.declared.schedule.Repeat.{Repeat}
 use Rattle.world.specs.declared.verdict.Verdict.{Verdict}
 use Rattle.campaign_page.specs.Calls.{named_calls}
 use Rattle.campaign_page.specs.Printers.{accesses_printer, chronicle_printer, lieutenants_printer, picture_printer, programs_printer, scenario_printer, schedule_printer}
-use Rattle.campaign_page.specs.Room.{fitted, fitted_lines, narrow_sheet, room_for_accesses, room_for_chronicle, room_for_lieutenants, room_for_picture, room_for_programs, room_for_scenario, room_for_schedule, room_for_units, units_words}
+use Rattle.campaign_page.specs.Room.{fitted, lines_told, narrow_sheet, over, room_for_accesses, room_for_chronicle, room_for_lieutenants, room_for_picture, room_for_programs, room_for_scenario, room_for_schedule, room_for_sections, room_for_story, room_for_units, roomed, share, units_words}
+use Rattle.campaign_page.specs.Story.{behind_story, story}
 use Rattle.campaign_page.specs.Trees.{tree_told}
 
 -- ---- headings
@@ -59,6 +61,11 @@ unscheduled_words =
     codes "By no schedule: in each round the loyal generals write, and then each traitor acts up to his end, by their "
     ++ codes "numbers."
 
+unfoldable pub behind_words : List ℕ
+behind_words =
+    codes "When a round's line is done, and in a round without one, the loyal generals who have not written do so, and "
+    ++ codes "then each traitor acts up to his end, by their numbers."
+
 unfoldable pub verdict_heading : List ℕ
 verdict_heading = codes "Verdict, and what was promised"
 
@@ -72,21 +79,44 @@ picture_hint =
 
 -- ---- sections
 
--- the scenario as it is written, with its story at its head
-abbrev pub scenario_part : List ℕ → List ℕ
-scenario_part text = heading scenario_heading ++ fitted_lines room_for_scenario text scenario_printer
+-- the story of a scenario, if there is one
+abbrev pub story_told : List ℕ → List ℕ
+story_told [] = []
+story_told (c ∷ cs) = lines (c ∷ cs)
+
+-- where there is no room for the scenario, the story stands in its place, if there is room for it
+abbrev pub scenario_instead : List ℕ → List ℕ
+scenario_instead text =
+    fitted room_for_story scenario_printer (story_told (story text)) ++ over room_for_scenario scenario_printer
+
+-- the scenario as it is written, its story apart; one that is longer than all sections together is not written first
+abbrev pub scenario_told : List ℕ → List ℕ
+scenario_told text =
+    if nat_lt room_for_sections (length text)
+    then scenario_instead text
+    else story_told (story text) ++ lines (behind_story text)
+
+abbrev pub scenario_section : List ℕ → Section
+scenario_section text = record {
+  title = scenario_heading;
+  told = scenario_told text;
+  room = room_for_scenario;
+  instead = scenario_instead text;
+}
 
 -- the schedule by which the campaign was played, if it was played and is not a chronicle's
 abbrev pub schedule_told : List (List Repeat) → List ℕ
-schedule_told [] = paragraph unscheduled_words
-schedule_told (line ∷ rest) = fitted_lines room_for_schedule (schedule_text (line ∷ rest)) schedule_printer
+schedule_told schedule =
+    if list_all (λ line. length line == 0) schedule
+    then paragraph unscheduled_words
+    else lines_told room_for_schedule schedule_printer (schedule_text schedule) ++ paragraph behind_words
 
 abbrev pub course_told : Option (List (List Repeat)) → List ℕ
 course_told None = paragraph recorded_words
 course_told (Some schedule) = schedule_told schedule
 
-abbrev pub schedule_part : Option (List (List Repeat)) → List ℕ
-schedule_part schedule = heading schedule_heading ++ course_told schedule
+abbrev pub schedule_section : Option (List (List Repeat)) → Section
+schedule_section schedule = roomed schedule_heading room_for_schedule schedule_printer (course_told schedule)
 
 -- the program of a traitor, and what the verifier knows of it, if it is short enough
 abbrev pub general_name : ℕ → List ℕ
@@ -98,15 +128,19 @@ explained_told program =
     then paragraph (units_words (length (slots_of program)) programs_printer)
     else begun_lines (explained_at (named_calls program) program)
 
-abbrev pub program_told : ℕ → List Insn → List ℕ
-program_told g program = fold (general_name g) (explained_told program)
+abbrev pub program_told : ℕ → ℕ → List Insn → List ℕ
+program_told room g program = fold (general_name g) (fitted room programs_printer (explained_told program))
 
-abbrev pub program_if : ℕ → Option (List Insn) → List ℕ
-program_if g None = []
-program_if g (Some program) = program_told g program
+abbrev pub program_if : ℕ → ℕ → Option (List Insn) → List ℕ
+program_if room g None = []
+program_if room g (Some program) = program_told room g program
 
-abbrev pub program_part : Scenario → ℕ → List ℕ
-program_part s g = program_if g (program_of s g)
+abbrev pub program_part : ℕ → Scenario → ℕ → List ℕ
+program_part room s g = program_if room g (program_of s g)
+
+-- of each traitor, in a room of its own
+abbrev pub each_program : ℕ → Scenario → List ℕ
+each_program room s = flat_map (program_part room s) (range_with_len 0 s.generals)
 
 unfoldable pub no_programs : List ℕ
 no_programs = codes "None: all generals are loyal."
@@ -115,12 +149,20 @@ abbrev pub programs_told : List ℕ → List ℕ
 programs_told [] = paragraph no_programs
 programs_told (c ∷ cs) = c ∷ cs
 
-abbrev pub each_program : Scenario → List ℕ
-each_program s = flat_map (program_part s) (range_with_len 0 s.generals)
+-- where there is no room for all, each has its share
+abbrev pub programs_shared : Scenario → ℕ → List ℕ
+programs_shared s bytes = if nat_lt room_for_programs bytes then each_program (share s.generals) s else []
 
-abbrev pub programs_part : Scenario → List ℕ
-programs_part s =
-    heading programs_heading ++ fitted room_for_programs (programs_told (each_program s)) programs_printer
+abbrev pub programs_roomed : Scenario → List ℕ → Section
+programs_roomed s told = record {
+  title = programs_heading;
+  told = told;
+  room = room_for_programs;
+  instead = programs_shared s (length told);
+}
+
+abbrev pub programs_section : Scenario → Section
+programs_section s = programs_roomed s (programs_told (each_program room_for_sections s))
 
 -- the picture, and where it is to be had alone; on paper a wide one has a wide sheet, since a narrow one would make its
 -- letters too small to be read
@@ -130,11 +172,11 @@ is_wide s accesses = nat_lt narrow_sheet (width s.generals accesses)
 abbrev pub hinted : Bool → List ℕ → List ℕ
 hinted is_wide svg = paragraph picture_hint ++ picture is_wide picture_name svg
 
-abbrev pub picture_told : Bool → List ℕ → List ℕ
-picture_told is_wide svg = heading picture_heading ++ fitted room_for_picture (hinted is_wide svg) picture_printer
+abbrev pub picture_section : Bool → List ℕ → Section
+picture_section is_wide svg = roomed picture_heading room_for_picture picture_printer (hinted is_wide svg)
 
-abbrev pub picture_part : MessageTable → Chronicle → List ℕ
-picture_part t c = picture_told (is_wide c.scenario c.accesses) (svg_text t c)
+abbrev pub diagram_section : MessageTable → Chronicle → Section
+diagram_section t c = picture_section (is_wide c.scenario c.accesses) (svg_text t c)
 
 -- what a lieutenant decides, his tree, two levels below the commander's, and shorter where all tell the same, and how
 -- his decision comes about
@@ -151,8 +193,8 @@ lieutenant_words g is_traitor order =
 -- of five rounds, in which he may have more than a thousand lists, who tells them
 unfoldable pub elsewhere_words : ℕ → List ℕ
 elsewhere_words g =
-    codes "Of five rounds a page has no room for the lists by which he decides so: play, with --schedule as here, of a "
-    ++ codes "chronicle audit, tells them with --explain --of " ++ (decimal g ++ codes ".")
+    codes "Of five rounds a page has no room for the lists by which he decides so: byzlab play, with --schedule as "
+    ++ codes "here, or byzlab audit of the chronicle tells them with --explain --of " ++ (decimal g ++ codes ".")
 
 abbrev pub why_part : MessageTable → List ℕ → ℕ → List ℕ
 why_part t traitors g = if nat_lt t.bound 4 then lines (explained_one t traitors g) else paragraph (elsewhere_words g)
@@ -167,11 +209,12 @@ lieutenant_part t traitors view g = if g == t.commander then [] else lieutenant_
 abbrev pub each_lieutenant : MessageTable → List ℕ → View → List ℕ
 each_lieutenant t traitors view = flat_map (lieutenant_part t traitors view) (range_with_len 0 t.generals)
 
-abbrev pub lieutenants_fitted : List ℕ → List ℕ
-lieutenants_fitted told = fitted room_for_lieutenants told lieutenants_printer
+-- lieutenants of whom this is told, under a title
+abbrev pub lieutenants_roomed : List ℕ → List ℕ → Section
+lieutenants_roomed title told = roomed title room_for_lieutenants lieutenants_printer told
 
-abbrev pub lieutenants_part : MessageTable → List ℕ → View → List ℕ
-lieutenants_part t traitors view = heading lieutenants_heading ++ lieutenants_fitted (each_lieutenant t traitors view)
+abbrev pub lieutenants_section : MessageTable → Scenario → Section
+lieutenants_section t s = lieutenants_roomed lieutenants_heading (each_lieutenant t (traitors_of s) (view_of s))
 
 -- the accesses, in the board's order, if there are any: a table with a row for each
 abbrev pub access_heads : List ℕ
@@ -185,18 +228,18 @@ access_row a = row (cell (decimal a.round) ++ cell (decimal a.general) ++ cell (
 abbrev pub access_table : List Access → List ℕ
 access_table accesses = table (access_heads ++ flat_map access_row accesses)
 
-abbrev pub accesses_part : List Access → List ℕ
-accesses_part [] = []
-accesses_part (a ∷ accesses) =
-    heading accesses_heading ++ fitted room_for_accesses (access_table (a ∷ accesses)) accesses_printer
+abbrev pub accesses_told : List Access → List ℕ
+accesses_told [] = []
+accesses_told (a ∷ accesses) = access_table (a ∷ accesses)
+
+abbrev pub accesses_section : List Access → Section
+accesses_section accesses = roomed accesses_heading room_for_accesses accesses_printer (accesses_told accesses)
 
 -- the chronicle, each of its bytes as a character
-abbrev pub chronicle_shown : List ℕ → List ℕ
-chronicle_shown text =
-    heading chronicle_heading ++ fitted_lines room_for_chronicle (flat_map encode_utf8 text) chronicle_printer
-
-abbrev pub chronicle_part : Chronicle → List ℕ
-chronicle_part c = chronicle_shown (chronicle_text c)
+abbrev pub chronicle_section : List ℕ → Section
+chronicle_section text =
+    roomed chronicle_heading room_for_chronicle chronicle_printer
+    (lines_told room_for_chronicle chronicle_printer (flat_map encode_utf8 text))
 
 -- the verdict, and which promise holds (TOPLAS 1982, IC1 and IC2)
 unfoldable pub promise_words : List ℕ
@@ -215,13 +258,16 @@ verdict_told v bound =
 abbrev pub verdict_part : Verdict → List ℕ
 verdict_part v = verdict_told v (bound_told v.bound)
 
--- all sections, of a chronicle whose letters tell this message table, whose scenario this text tells, and which was
--- played by this schedule, if by one
+-- all sections but the verdict, of a chronicle whose letters tell this message table, whose scenario this text tells,
+-- and which was played by this schedule, if by one
+abbrev pub sections : List ℕ → Option (List (List Repeat)) → MessageTable → Chronicle → List Section
+sections text schedule t c =
+    scenario_section text ∷ schedule_section schedule ∷ programs_section c.scenario ∷ diagram_section t c
+    ∷ lieutenants_section t c.scenario ∷ accesses_section c.accesses ∷ chronicle_section (chronicle_text c) ∷ []
+
+-- and in their room, with the verdict
 unfoldable pub parts : List ℕ → Option (List (List Repeat)) → MessageTable → Chronicle → List ℕ
-parts text schedule t c =
-    scenario_part text ++ schedule_part schedule ++ programs_part c.scenario ++ picture_part t c
-    ++ lieutenants_part t (traitors_of c.scenario) (view_of c.scenario) ++ accesses_part c.accesses ++ chronicle_part c
-    ++ verdict_part c.verdict
+parts text schedule t c = sections_in room_for_sections (sections text schedule t c) ++ verdict_part c.verdict
 
 -- the campaign's numbers
 unfoldable pub title_words : ℕ → ℕ → ℕ → ℕ → List ℕ

@@ -7,6 +7,7 @@ use Rattle.book.specs.Table.{MessageTable}
 use Rattle.drawing.specs.Shown.{nodes_of}
 use Rattle.drawing.specs.Words.{said}
 use Rattle.drawing.specs.declared.node.Node.{Node}
+use Rattle.page.specs.Laws.{StandsIn}
 use Rattle.page.specs.Page.{shown}
 use Rattle.retold.specs.Retold.{traitors_of}
 use Rattle.roster.specs.Scenario.{IsScenario}
@@ -26,15 +27,12 @@ CampaignPagesAreElements =
     → (text : List ℕ) × IsElement text
     × (page_text scenario schedule t c ≡ codes "<!DOCTYPE html>\n" ++ text ++ codes "\n")
 
--- no page is longer than this, whatever stands in the scenario, and whatever the schedule, the table and the letters
+-- no page of a campaign within its limits is longer than this, whatever stands in the scenario's text, and whatever the
+-- schedule, the table and the letters
 abbrev pub CampaignPagesAreShort : Type 0
 CampaignPagesAreShort =
     (scenario : List ℕ) (schedule : Option (List (List Repeat))) (t : MessageTable) (c : Chronicle)
     → IsScenario c.scenario → length (page_text scenario schedule t c) ≤ longest_page
-
--- a text stands in another
-abbrev pub StandsIn : List ℕ → List ℕ → Type 0
-StandsIn part whole = (before : List ℕ) × (after : List ℕ) × (whole ≡ before ++ part ++ after)
 
 -- what is said of a label stands in a page
 abbrev pub IsShownIn : List ℕ → Node → Type 0

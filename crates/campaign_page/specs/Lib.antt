@@ -4,3 +4,4 @@ pub mod Printers
 pub mod Trees
 pub mod Account
 pub mod Laws
+pub mod Story

@@ -16,7 +16,8 @@ picture_printer = codes "byzlab draw writes it, with --schedule or --chronicle a
 
 unfoldable pub lieutenants_printer : List ℕ
 lieutenants_printer =
-    codes "play, with --schedule as here, of a chronicle audit, tells with --explain why they decide so."
+    codes "byzlab play --explain, with --schedule as here, or byzlab audit --explain of the chronicle tells why they "
+    ++ codes "decide so."
 
 unfoldable pub accesses_printer : List ℕ
 accesses_printer =

@@ -3,51 +3,46 @@ ghost use Rattle.std.specs.Prelude.{◌≡◌, ◌++◌, decimal, flat_map, stri
 ghost use Rattle.semantics.specs.Replies.{words_in};
 ghost use Rattle.diagram.specs.Words.{answered_words, asked_words};
 ghost use Rattle.page.specs.Page.{cell, head, row};
-ghost use Rattle.campaign_page.specs.Account.{access_heads, access_row, access_table, accesses_heading, accesses_part};
+ghost use Rattle.campaign_page.specs.Account.{access_heads, access_row, access_table, accesses_heading, accesses_section, accesses_told};
 
 use crate::printers::accesses_printer;
-use crate::room::{ROOM_FOR_ACCESSES, put_fitted};
+use crate::room::{ROOM_FOR_ACCESSES, roomed};
 use board::Access;
 use diagram::words::{put_answered, put_asked};
 use page::{
-    put_cell, put_head, put_heading, put_row_end, put_row_start, put_table_end, put_table_start,
+    Section, put_cell, put_head, put_row_end, put_row_start, put_table_end, put_table_start,
 };
 use semantics::{Reply, Request};
 use std::alloc::{AllocError, Global};
-use world::Chronicle;
 
-/// Adds the accesses to the board, if there are any.
-pub(crate) fn put_accesses(
-    alloc: Global,
-    out: &mut String,
-    chronicle: &Chronicle,
-) -> Result<(), AllocError>
-    ensures { OnOk result (string_bytes out.new ≡ string_bytes out.old ++ accesses_part chronicle.now.accesses) }
-{
-    put_listed(alloc, out, chronicle.accesses())
-}
-
-/// Adds these accesses, if there are any.
+/// These accesses to the board, if there are any.
 ///
 /// # Errors
 ///
 /// No memory for the text.
-pub fn put_listed(alloc: Global, out: &mut String, accesses: &[Access]) -> Result<(), AllocError>
-    ensures { OnOk result (string_bytes out.new ≡ string_bytes out.old ++ accesses_part accesses.now) }
+pub fn accesses_section(alloc: Global, accesses: &[Access]) -> Result<Section, AllocError>
+    ensures { IfOk result (λ section. section ≡ accesses_section accesses.now) }
 {
-    if accesses.is_empty() {
-        return Ok(());
-    }
-    let mut table = String::new(alloc);
-    put_table(alloc, &mut table, accesses)?;
-    put_heading(out, accesses_heading())?;
-    put_fitted(
+    let told = accesses_told(alloc, accesses)?;
+    roomed(
         alloc,
-        out,
+        accesses_heading(),
         ROOM_FOR_ACCESSES,
-        table.as_str(),
         accesses_printer(),
+        told,
     )
+}
+
+/// The table of these accesses, if there are any.
+fn accesses_told(alloc: Global, accesses: &[Access]) -> Result<String, AllocError>
+    ensures { IfOk result (λ told. string_bytes told ≡ accesses_told accesses.now) }
+{
+    let mut told = String::new(alloc);
+    if accesses.is_empty() {
+        return Ok(told);
+    }
+    put_table(alloc, &mut told, accesses)?;
+    Ok(told)
 }
 
 /// Adds a table of these accesses.

@@ -1,22 +1,22 @@
 //! A campaign as a page.
 ghost use Rattle.std.specs.Prelude.{◌≡◌, ◌++◌, encode_utf8, flat_map, option_map, string_bytes, IfOk, OnOk};
-ghost use Rattle.campaign_page.specs.Account.{picture_hint, picture_name, chronicle_heading, picture_heading, scenario_heading, chronicle_shown, chronicle_part, hinted, page_text, is_wide, parts, picture_part, picture_told, scenario_part, title, title_words};
+ghost use Rattle.campaign_page.specs.Account.{accesses_section, chronicle_heading, chronicle_section, diagram_section, hinted, is_wide, page_text, parts, picture_heading, picture_hint, picture_name, picture_section, programs_section, title, title_words};
 ghost use Rattle.trace.specs.Text.{chronicle_text};
 
-use crate::accesses::put_accesses;
-use crate::printers::{chronicle_printer, picture_printer, scenario_printer};
+use crate::accesses::accesses_section;
+use crate::printers::{chronicle_printer, picture_printer};
 use crate::room::{
-    NARROW_SHEET, ROOM_FOR_CHRONICLE, ROOM_FOR_PICTURE, ROOM_FOR_SCENARIO, put_fitted,
-    put_fitted_lines,
+    NARROW_SHEET, ROOM_FOR_CHRONICLE, ROOM_FOR_PICTURE, ROOM_FOR_SECTIONS, lines_told, roomed,
 };
-use crate::schedule::put_schedule;
-use crate::sections::{put_lieutenants, put_programs_of};
+use crate::scenario::scenario_section;
+use crate::schedule::schedule_section;
+use crate::sections::{lieutenants_section, programs_section};
 use crate::verdict::put_verdict;
 use board::Access;
 use book::Heard;
 use diagram::campaign_svg;
 use diagram::layout::width;
-use page::{finish, put_heading, put_paragraph, put_picture, start};
+use page::{Section, finish, put_paragraph, put_picture, put_sections, start};
 use roster::Scenario;
 use std::alloc::{AllocError, Global};
 use trace::{Latch, write_chronicle};
@@ -57,15 +57,39 @@ fn put_parts<H: Heard>(
     ensures { OnOk result (string_bytes out.new ≡ string_bytes out.old
         ++ parts scenario_text.now (option_map (λ s. s.now) schedule.entry) (H.seen table.now) chronicle.now) }
 {
-    put_scenario(alloc, out, scenario_text)?;
-    put_schedule(alloc, out, schedule)?;
-    put_programs_of(alloc, out, chronicle)?;
-    put_diagram(alloc, out, table, chronicle)?;
-    put_lieutenants(alloc, out, table, chronicle)?;
-    put_accesses(alloc, out, chronicle)?;
-    put_chronicle(alloc, out, chronicle)?;
+    let scenario = scenario_section(alloc, scenario_text)?;
+    let time = schedule_section(alloc, schedule)?;
+    let programs = programs_of(alloc, chronicle)?;
+    let picture = diagram_section(alloc, table, chronicle)?;
+    let lieutenants = lieutenants_section(alloc, table, chronicle)?;
+    let accesses = accesses_of(alloc, chronicle)?;
+    let text = section_of(alloc, chronicle)?;
+    let sections = [
+        scenario,
+        time,
+        programs,
+        picture,
+        lieutenants,
+        accesses,
+        text,
+    ];
+    put_sections(out, ROOM_FOR_SECTIONS, &sections)?;
     put_verdict(out, chronicle)?;
     Ok(())
+}
+
+/// The programs of its traitors.
+fn programs_of(alloc: Global, chronicle: &Chronicle) -> Result<Section, AllocError>
+    ensures { IfOk result (λ section. section ≡ programs_section chronicle.now.scenario) }
+{
+    programs_section(alloc, chronicle.scenario())
+}
+
+/// Its accesses to the board.
+fn accesses_of(alloc: Global, chronicle: &Chronicle) -> Result<Section, AllocError>
+    ensures { IfOk result (λ section. section ≡ accesses_section chronicle.now.accesses) }
+{
+    accesses_section(alloc, chronicle.accesses())
 }
 
 /// The campaign's numbers.
@@ -97,31 +121,17 @@ fn title_of(
     )
 }
 
-/// Adds the scenario's text.
-///
-/// # Errors
-///
-/// No memory for the text; so of every function here.
-pub fn put_scenario(alloc: Global, out: &mut String, text: &str) -> Result<(), AllocError>
-    ensures { OnOk result (string_bytes out.new ≡ string_bytes out.old ++ scenario_part text.now) }
-{
-    put_heading(out, scenario_heading())?;
-    put_fitted_lines(alloc, out, ROOM_FOR_SCENARIO, text, scenario_printer())
-}
-
-/// Adds the picture.
-fn put_diagram<H: Heard>(
+/// The picture of a campaign.
+fn diagram_section<H: Heard>(
     alloc: Global,
-    out: &mut String,
     table: &H,
     chronicle: &Chronicle,
-) -> Result<(), AllocError>
-    ensures { OnOk result (string_bytes out.new ≡ string_bytes out.old
-        ++ picture_part (H.seen table.now) chronicle.now) }
+) -> Result<Section, AllocError>
+    ensures { IfOk result (λ section. section ≡ diagram_section (H.seen table.now) chronicle.now) }
 {
     let svg = campaign_svg(alloc, table, chronicle)?;
     let wide = is_wide(alloc, chronicle.scenario(), chronicle.accesses())?;
-    put_svg(alloc, out, wide, svg.as_str())
+    picture_section(alloc, wide, svg.as_str())
 }
 
 /// Whether the picture of a campaign with these accesses has a wide sheet on paper.
@@ -131,19 +141,22 @@ pub fn is_wide(alloc: Global, scenario: &Scenario, accesses: &[Access]) -> Resul
     Ok(width(alloc, scenario.generals(), accesses)? > NARROW_SHEET)
 }
 
-/// Adds where this picture is to be had alone, and the picture, or that there is no room.
-pub fn put_svg(alloc: Global, out: &mut String, is_wide: bool, svg: &str) -> Result<(), AllocError>
-    ensures { OnOk result (string_bytes out.new ≡ string_bytes out.old ++ picture_told is_wide svg.now) }
+/// Where this picture is to be had alone, and the picture.
+///
+/// # Errors
+///
+/// No memory for the text; so of every function here.
+pub fn picture_section(alloc: Global, is_wide: bool, svg: &str) -> Result<Section, AllocError>
+    ensures { IfOk result (λ section. section ≡ picture_section is_wide svg.now) }
 {
-    let mut drawn = String::new(alloc);
-    put_hinted(&mut drawn, is_wide, svg)?;
-    put_heading(out, picture_heading())?;
-    put_fitted(
+    let mut told = String::new(alloc);
+    put_hinted(&mut told, is_wide, svg)?;
+    roomed(
         alloc,
-        out,
+        picture_heading(),
         ROOM_FOR_PICTURE,
-        drawn.as_str(),
         picture_printer(),
+        told,
     )
 }
 
@@ -155,27 +168,22 @@ fn put_hinted(out: &mut String, is_wide: bool, svg: &str) -> Result<(), AllocErr
     put_picture(out, is_wide, picture_name(), svg)
 }
 
-/// Adds the chronicle.
-fn put_chronicle(alloc: Global, out: &mut String, chronicle: &Chronicle) -> Result<(), AllocError>
-    ensures { OnOk result (string_bytes out.new ≡ string_bytes out.old ++ chronicle_part chronicle.now) }
+/// The chronicle.
+fn section_of(alloc: Global, chronicle: &Chronicle) -> Result<Section, AllocError>
+    ensures { IfOk result (λ section. section ≡ chronicle_section (chronicle_text chronicle.now)) }
 {
     let text = chronicle_text(alloc, chronicle)?;
-    put_chronicle_text(alloc, out, text.as_slice())
+    chronicle_section(alloc, text.as_slice())
 }
 
-/// Adds a chronicle of this text, or that there is no room.
-pub fn put_chronicle_text(alloc: Global, out: &mut String, text: &[u8]) -> Result<(), AllocError>
-    ensures { OnOk result (string_bytes out.new ≡ string_bytes out.old ++ chronicle_shown text.now) }
+/// A chronicle of this text.
+pub fn chronicle_section(alloc: Global, text: &[u8]) -> Result<Section, AllocError>
+    ensures { IfOk result (λ section. section ≡ chronicle_section text.now) }
 {
     let text = text_of(alloc, text)?;
-    put_heading(out, chronicle_heading())?;
-    put_fitted_lines(
-        alloc,
-        out,
-        ROOM_FOR_CHRONICLE,
-        text.as_str(),
-        chronicle_printer(),
-    )
+    let who = chronicle_printer();
+    let told = lines_told(alloc, ROOM_FOR_CHRONICLE, who, text.as_str())?;
+    roomed(alloc, chronicle_heading(), ROOM_FOR_CHRONICLE, who, told)
 }
 
 /// The text of a chronicle.
@@ -205,14 +213,6 @@ fn put_byte(out: &mut String, byte: u8) -> Result<(), AllocError>
     ensures { OnOk result (string_bytes out.new ≡ string_bytes out.old ++ encode_utf8 byte) }
 {
     out.push(char::from(byte))
-}
-
-/// The heading of the scenario.
-#[tactic(auto, unfolding(crate::specs::Account::scenario_heading))]
-fn scenario_heading() -> &'static str
-    ensures { result.now ≡ scenario_heading }
-{
-    "Story and scenario"
 }
 
 /// The heading of the picture.

@@ -7,7 +7,8 @@ pub fn campaign_pages_are_elements()
     ensures { CampaignPagesAreElements }
 {}
 
-/// No page is longer than 2,000,000 bytes, whatever the scenario's text, the schedule, the table and the chronicle.
+/// No page of a campaign within its limits is longer than 2,000,000 bytes, whatever the scenario's text, the schedule,
+/// the table and the letters.
 pub fn campaign_pages_are_short()
     ensures { CampaignPagesAreShort }
 {}

@@ -9,16 +9,19 @@ mod laws;
 mod listing;
 mod printers;
 mod room;
+mod scenario;
 mod schedule;
 mod sections;
+mod story;
 mod verdict;
 
-pub use accesses::put_listed;
-pub use account::{is_wide, page_text, put_chronicle_text, put_scenario, put_svg, title};
+pub use accesses::accesses_section;
+pub use account::{chronicle_section, is_wide, page_text, picture_section, title};
 pub use laws::{
     campaign_pages_are_elements, campaign_pages_are_short, folds_hide_nothing, names_are_read,
 };
-pub use room::put_fitted_lieutenants;
-pub use schedule::put_schedule;
-pub use sections::put_programs;
+pub use room::ROOM_FOR_SECTIONS;
+pub use scenario::scenario_section;
+pub use schedule::schedule_section;
+pub use sections::{lieutenants_roomed, programs_section};
 pub use verdict::{promise_words, put_verdict_told};

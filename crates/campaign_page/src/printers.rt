@@ -39,7 +39,8 @@ pub(crate) fn picture_printer() -> &'static str
 pub(crate) fn lieutenants_printer() -> &'static str
     ensures { result.now ≡ lieutenants_printer }
 {
-    "play, with --schedule as here, of a chronicle audit, tells with --explain why they decide so."
+    "byzlab play --explain, with --schedule as here, or byzlab audit --explain of the chronicle tells why they \
+     decide so."
 }
 
 /// Of the accesses.

@@ -1,49 +1,78 @@
 //! The schedule of a campaign.
-ghost use Rattle.std.specs.Prelude.{◌≡◌, ◌++◌, string_bytes, OnOk, option_map};
-ghost use Rattle.campaign_page.specs.Account.{recorded_words, schedule_heading, schedule_part, schedule_told, unscheduled_words};
+ghost use Rattle.std.specs.Prelude.{◌≡◌, ◌==◌, length, option_map, string_bytes, IfOk};
+ghost use Rattle.std.specs.List.{list_all};
+ghost use Rattle.page.specs.Page.{paragraph};
+ghost use Rattle.campaign_page.specs.Account.{behind_words, course_told, recorded_words, schedule_heading, schedule_section, schedule_told, unscheduled_words};
 
 use crate::printers::schedule_printer;
-use crate::room::{ROOM_FOR_SCHEDULE, put_fitted_lines};
+use crate::room::{ROOM_FOR_SCHEDULE, lines_told, roomed};
 use explore::schedule_text;
-use page::{put_heading, put_paragraph};
+use page::{Section, put_paragraph};
 use std::alloc::{AllocError, Global};
-use world::Schedule;
+use world::{Entries, Schedule};
 
-/// Adds the schedule by which the campaign was played, or that its course is a chronicle's.
+/// The schedule by which the campaign was played, or that its course is a chronicle's.
 ///
 /// # Errors
 ///
-/// No memory for the text.
-pub fn put_schedule(
-    alloc: Global,
-    out: &mut String,
-    schedule: Option<&Schedule>,
-) -> Result<(), AllocError>
-    ensures { OnOk result (string_bytes out.new ≡ string_bytes out.old
-        ++ schedule_part (option_map (λ s. s.now) schedule.entry)) }
+/// No memory for the text; so of every function here.
+pub fn schedule_section(alloc: Global, schedule: Option<&Schedule>) -> Result<Section, AllocError>
+    ensures { IfOk result (λ section. section ≡ schedule_section (option_map (λ s. s.now) schedule.entry)) }
 {
-    put_heading(out, schedule_heading())?;
+    let told = course_told(alloc, schedule)?;
+    roomed(
+        alloc,
+        schedule_heading(),
+        ROOM_FOR_SCHEDULE,
+        schedule_printer(),
+        told,
+    )
+}
+
+/// What is told of the campaign's course.
+fn course_told(alloc: Global, schedule: Option<&Schedule>) -> Result<String, AllocError>
+    ensures { IfOk result (λ told. string_bytes told ≡ course_told (option_map (λ s. s.now) schedule.entry)) }
+{
     match schedule {
-        None => put_paragraph(out, recorded_words()),
-        Some(schedule) => put_told(alloc, out, schedule),
+        None => said(alloc, recorded_words()),
+        Some(schedule) => schedule_told(alloc, schedule),
     }
 }
 
-/// Adds a schedule.
-fn put_told(alloc: Global, out: &mut String, schedule: &Schedule) -> Result<(), AllocError>
-    ensures { OnOk result (string_bytes out.new ≡ string_bytes out.old ++ schedule_told schedule.now) }
+/// What is told of a schedule.
+fn schedule_told(alloc: Global, schedule: &Schedule) -> Result<String, AllocError>
+    ensures { IfOk result (λ told. string_bytes told ≡ schedule_told schedule.now) }
 {
-    if schedule.lines.is_empty() {
-        return put_paragraph(out, unscheduled_words());
+    if is_silent(schedule) {
+        return said(alloc, unscheduled_words());
     }
     let text = schedule_text(alloc, schedule)?;
-    put_fitted_lines(
-        alloc,
-        out,
-        ROOM_FOR_SCHEDULE,
-        text.as_str(),
-        schedule_printer(),
-    )
+    let mut told = lines_told(alloc, ROOM_FOR_SCHEDULE, schedule_printer(), text.as_str())?;
+    put_paragraph(&mut told, behind_words())?;
+    Ok(told)
+}
+
+/// Whether no line of a schedule has an entry.
+fn is_silent(schedule: &Schedule) -> bool
+    ensures { result ≡ list_all (λ line. length line == 0) schedule.now }
+{
+    schedule.lines.iter().all(|line| is_empty(line))
+}
+
+/// Whether a line has no entry.
+fn is_empty(line: &Entries) -> bool
+    ensures { result ≡ (length line.now == 0) }
+{
+    line.repeats.is_empty()
+}
+
+/// A paragraph of these words.
+fn said(alloc: Global, words: &str) -> Result<String, AllocError>
+    ensures { IfOk result (λ told. string_bytes told ≡ paragraph words.now) }
+{
+    let mut told = String::new(alloc);
+    put_paragraph(&mut told, words)?;
+    Ok(told)
 }
 
 /// The heading of the schedule.
@@ -62,7 +91,16 @@ fn recorded_words() -> &'static str
     "As the chronicle tells: the accesses to the board are made in its order."
 }
 
-/// What is said where no schedule was named, or an empty one.
+/// What is said of a round behind its line.
+#[tactic(auto, unfolding(crate::specs::Account::behind_words))]
+fn behind_words() -> &'static str
+    ensures { result.now ≡ behind_words }
+{
+    "When a round's line is done, and in a round without one, the loyal generals who have not written do so, and \
+     then each traitor acts up to his end, by their numbers."
+}
+
+/// What is said where no schedule was named, or one without entries.
 #[tactic(auto, unfolding(crate::specs::Account::unscheduled_words))]
 fn unscheduled_words() -> &'static str
     ensures { result.now ≡ unscheduled_words }

@@ -1,64 +1,52 @@
 //! Sections with a part for each general.
-ghost use Rattle.std.specs.Prelude.{◌≡◌, ◌<◌, ◌++◌, option_map, string_bytes, IfOk, OnOk};
-ghost use Rattle.page.specs.Page.{heading};
-ghost use Rattle.campaign_page.specs.Account.{each_lieutenant, each_program, lieutenants_fitted, lieutenants_heading, no_programs, programs_heading, programs_told, lieutenant_part, lieutenant_words, lieutenants_part, explained_told, program_part, program_told, programs_part, traitor_words, why_part, elsewhere_words, general_name, view_of};
+ghost use Rattle.std.specs.Prelude.{◌≡◌, ◌<◌, ◌++◌, string_bytes, IfOk, OnOk};
+ghost use Rattle.campaign_page.specs.Account.{each_lieutenant, each_program, elsewhere_words, explained_told, general_name, lieutenant_part, lieutenant_words, lieutenants_heading, lieutenants_roomed, lieutenants_section, no_programs, program_part, program_told, programs_heading, programs_section, programs_shared, programs_told, traitor_words, view_of, why_part};
+ghost use Rattle.campaign_page.specs.Room.{room_for_sections};
 ghost use Rattle.label.specs.Labels.{on};
 ghost use Rattle.retold.specs.Retold.{traitors_of};
-ghost use Rattle.roster.specs.Scenario.{program_of};
 
 use crate::calls::explanation;
 use crate::listing::put_tree;
-use crate::printers::programs_printer;
+use crate::printers::{lieutenants_printer, programs_printer};
 use crate::room::{
-    ROOM_FOR_PROGRAMS, ROOM_FOR_UNITS, put_fitted, put_fitted_lieutenants, units_words,
+    ROOM_FOR_LIEUTENANTS, ROOM_FOR_PROGRAMS, ROOM_FOR_SECTIONS, ROOM_FOR_UNITS, put_fitted, roomed,
+    share, units_words,
 };
 use book::{Heard, decision, explain_one};
 use drawing::View;
 use insn::Program;
-use page::{put_begun_lines, put_fold_end, put_fold_start, put_heading, put_lines, put_paragraph};
+use page::{Section, put_begun_lines, put_fold_end, put_fold_start, put_lines, put_paragraph};
 use retold::traitors;
 use roster::Scenario;
 use std::alloc::{AllocError, Global};
 use world::Chronicle;
 
-/// Adds the programs of a campaign's traitors.
-pub(crate) fn put_programs_of(
-    alloc: Global,
-    out: &mut String,
-    chronicle: &Chronicle,
-) -> Result<(), AllocError>
-    ensures { OnOk result (string_bytes out.new ≡ string_bytes out.old ++ programs_part chronicle.now.scenario) }
-{
-    put_programs(alloc, out, chronicle.scenario())
-}
-
-/// Adds the traitors' programs, each with what the verifier knows of it.
+/// The traitors' programs, each with what the verifier knows of it.
 ///
 /// # Errors
 ///
 /// No memory for the text; so of every function here.
-pub fn put_programs(alloc: Global, out: &mut String, scenario: &Scenario) -> Result<(), AllocError>
-    ensures { OnOk result (string_bytes out.new ≡ string_bytes out.old ++ programs_part scenario.now) }
+pub fn programs_section(alloc: Global, scenario: &Scenario) -> Result<Section, AllocError>
+    ensures { IfOk result (λ section. section ≡ programs_section scenario.now) }
 {
-    let mut told = String::new(alloc);
-    put_all_programs(alloc, &mut told, scenario)?;
-    put_heading(out, programs_heading())?;
-    put_fitted(
-        alloc,
-        out,
-        ROOM_FOR_PROGRAMS,
-        told.as_str(),
-        programs_printer(),
-    )
+    let told = programs_told(alloc, scenario)?;
+    let instead = programs_shared(alloc, scenario, told.len())?;
+    Ok(Section {
+        title: programs_heading(),
+        told,
+        room: ROOM_FOR_PROGRAMS,
+        instead,
+    })
 }
 
-/// Adds that of each traitor, or that there is none.
-fn put_all_programs(alloc: Global, out: &mut String, scenario: &Scenario) -> Result<(), AllocError>
-    ensures { OnOk result (string_bytes out.new ≡ string_bytes out.old ++ programs_told (each_program scenario.now)) }
+/// What is told of each traitor's program, or that there is none.
+fn programs_told(alloc: Global, scenario: &Scenario) -> Result<String, AllocError>
+    ensures { IfOk result (λ told. string_bytes told ≡ programs_told (each_program room_for_sections scenario.now)) }
 {
-    let mut programs = String::new(alloc);
-    put_each_program(alloc, &mut programs, scenario)?;
-    put_programs_told(out, programs.as_str())
+    let programs = each_program(alloc, scenario, ROOM_FOR_SECTIONS)?;
+    let mut told = String::new(alloc);
+    put_programs_told(&mut told, programs.as_str())?;
+    Ok(told)
 }
 
 /// Adds these programs, or that there is none.
@@ -71,6 +59,25 @@ fn put_programs_told(out: &mut String, programs: &str) -> Result<(), AllocError>
     out.push_str(programs)
 }
 
+/// What stands in place of so many bytes, if there is no room for all: each program has its share.
+fn programs_shared(alloc: Global, scenario: &Scenario, bytes: usize) -> Result<String, AllocError>
+    ensures { IfOk result (λ told. string_bytes told ≡ programs_shared scenario.now bytes) }
+{
+    if bytes <= ROOM_FOR_PROGRAMS {
+        return Ok(String::new(alloc));
+    }
+    each_program(alloc, scenario, share(scenario.generals()))
+}
+
+/// The programs of the traitors, each in a room of its own.
+fn each_program(alloc: Global, scenario: &Scenario, room: usize) -> Result<String, AllocError>
+    ensures { IfOk result (λ told. string_bytes told ≡ each_program room scenario.now) }
+{
+    let mut told = String::new(alloc);
+    put_each_program(alloc, &mut told, scenario, room)?;
+    Ok(told)
+}
+
 /// What is said where there is no traitor.
 #[tactic(auto, unfolding(crate::specs::Account::no_programs))]
 fn no_programs() -> &'static str
@@ -80,12 +87,17 @@ fn no_programs() -> &'static str
 }
 
 /// Adds that of each traitor.
-fn put_each_program(alloc: Global, out: &mut String, scenario: &Scenario) -> Result<(), AllocError>
+fn put_each_program(
+    alloc: Global,
+    out: &mut String,
+    scenario: &Scenario,
+    room: usize,
+) -> Result<(), AllocError>
     ensures { OnOk result (string_bytes out.new ≡ string_bytes out.old
-        ++ each_program scenario.now) }
+        ++ each_program room scenario.now) }
 {
     for general in 0..scenario.generals() {
-        put_program_of(alloc, out, scenario, general)?;
+        put_program_of(alloc, out, scenario, room, general)?;
     }
     Ok(())
 }
@@ -95,14 +107,15 @@ fn put_program_of(
     alloc: Global,
     out: &mut String,
     scenario: &Scenario,
+    room: usize,
     general: u8,
 ) -> Result<(), AllocError>
     requires { general < scenario.now.generals }
-    ensures { OnOk result (string_bytes out.new ≡ string_bytes out.old ++ program_part scenario.now general) }
+    ensures { OnOk result (string_bytes out.new ≡ string_bytes out.old ++ program_part room scenario.now general) }
 {
     match scenario.seat(general).program() {
         None => Ok(()),
-        Some(verified) => put_program(alloc, out, general, verified.program()),
+        Some(verified) => put_program(alloc, out, room, general, verified.program()),
     }
 }
 
@@ -110,18 +123,29 @@ fn put_program_of(
 fn put_program(
     alloc: Global,
     out: &mut String,
+    room: usize,
     general: u8,
     program: &Program,
 ) -> Result<(), AllocError>
-    ensures { OnOk result (string_bytes out.new ≡ string_bytes out.old ++ program_told general program.now) }
+    ensures { OnOk result (string_bytes out.new ≡ string_bytes out.old ++ program_told room general program.now) }
 {
     let name = general_name(alloc, general)?;
+    let told = explained_told(alloc, program)?;
     put_fold_start(out, name.as_str())?;
-    put_explained(alloc, out, program)?;
+    put_fitted(alloc, out, room, programs_printer(), told.as_str())?;
     put_fold_end(out)
 }
 
-/// Adds what the verifier knows of a program, or how many units it has, if there is no room.
+/// What the verifier knows of a program, or how many units it has, if these are too many.
+fn explained_told(alloc: Global, program: &Program) -> Result<String, AllocError>
+    ensures { IfOk result (λ told. string_bytes told ≡ explained_told program.now) }
+{
+    let mut told = String::new(alloc);
+    put_explained(alloc, &mut told, program)?;
+    Ok(told)
+}
+
+/// Adds that.
 fn put_explained(alloc: Global, out: &mut String, program: &Program) -> Result<(), AllocError>
     ensures { OnOk result (string_bytes out.new ≡ string_bytes out.old ++ explained_told program.now) }
 {
@@ -141,21 +165,36 @@ fn general_name(alloc: Global, general: u8) -> Result<String, AllocError>
     format!(in alloc; "General {general}")
 }
 
-/// Adds what each lieutenant was told, and why he decides so.
-pub(crate) fn put_lieutenants<H: Heard>(
+/// What each lieutenant was told, and why he decides so.
+pub(crate) fn lieutenants_section<H: Heard>(
     alloc: Global,
-    out: &mut String,
     table: &H,
     chronicle: &Chronicle,
-) -> Result<(), AllocError>
-    ensures { OnOk result (string_bytes out.new ≡ string_bytes out.old
-        ++ lieutenants_part (H.seen table.now) (traitors_of chronicle.now.scenario) (view_of chronicle.now.scenario)) }
+) -> Result<Section, AllocError>
+    ensures { IfOk result (λ section. section ≡ lieutenants_section (H.seen table.now) chronicle.now.scenario) }
 {
     let told = lieutenants(alloc, table, chronicle)?;
-    put_lieutenants_told(alloc, out, told.as_str())
+    lieutenants_roomed(alloc, lieutenants_heading(), told)
 }
 
-/// What each lieutenant was told, and why he decides so.
+/// Lieutenants of whom this is told, under a title.
+pub fn lieutenants_roomed(
+    alloc: Global,
+    title: &'static str,
+    told: String,
+) -> Result<Section, AllocError>
+    ensures { IfOk result (λ section. section ≡ lieutenants_roomed title.now (string_bytes told)) }
+{
+    roomed(
+        alloc,
+        title,
+        ROOM_FOR_LIEUTENANTS,
+        lieutenants_printer(),
+        told,
+    )
+}
+
+/// The parts of each lieutenant.
 fn lieutenants<H: Heard>(
     alloc: Global,
     table: &H,
@@ -169,15 +208,6 @@ fn lieutenants<H: Heard>(
     let mut told = String::new(alloc);
     put_each_lieutenant(alloc, &mut told, table, traitors.as_slice(), view)?;
     Ok(told)
-}
-
-/// Adds that, if there is room.
-fn put_lieutenants_told(alloc: Global, out: &mut String, told: &str) -> Result<(), AllocError>
-    ensures { OnOk result (string_bytes out.new ≡ string_bytes out.old
-        ++ (heading lieutenants_heading ++ lieutenants_fitted told.now)) }
-{
-    put_heading(out, lieutenants_heading())?;
-    put_fitted_lieutenants(alloc, out, told)
 }
 
 /// Adds that of each lieutenant.
@@ -264,8 +294,8 @@ fn elsewhere_words(alloc: Global, general: u8) -> Result<String, AllocError>
     ensures { IfOk result (λ words. string_bytes words ≡ elsewhere_words general) }
 {
     format!(in alloc;
-        "Of five rounds a page has no room for the lists by which he decides so: play, with --schedule as here, of a \
-         chronicle audit, tells them with --explain --of {general}."
+        "Of five rounds a page has no room for the lists by which he decides so: byzlab play, with --schedule as \
+         here, or byzlab audit of the chronicle tells them with --explain --of {general}."
     )
 }
 

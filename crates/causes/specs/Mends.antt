@@ -1,6 +1,7 @@
 -- A program with an instruction put before another or in its place, or a sum in the pointer's register, and how far the
 -- verifier comes in it (own).
-use Rattle.std.specs.Prelude.{ℕ, ℤ, pos, ◌+◌, ◌+ℤ◌, ◌==◌, ◌&&◌, nat_lt, nat_le, int_lt, if◌then◌else◌, List, [], ◌∷◌, ◌++◌, Option, Some, None, length}
+use Rattle.std.specs.Prelude.{ℕ, ℤ, pos, ◌≡◌, ◌≢◌, ◌+◌, ◌+ℤ◌, ◌==◌, ◌&&◌, nat_lt, nat_le, int_lt, if◌then◌else◌, List, [], ◌∷◌, ◌++◌, Option, Some, None, Result, Ok, Err, length}
+use Rattle.std.specs.declared.alloc.AllocError.{AllocError}
 use Rattle.word.specs.declared.Width.TheVariants.{W64}
 use Rattle.word.specs.declared.Operation.{Operation}
 use Rattle.word.specs.declared.Operation.TheVariants.{Add, And, Move}
@@ -70,6 +71,11 @@ abbrev pub comes : ℕ → Option VerifyError → Trial
 comes unit None = Accepted
 comes unit (Some (At reason place)) = if nat_lt unit place then Passes else Refused
 comes unit (Some Memory) = Refused
+
+-- the same by the fault that the verifier tells, or want of memory, where memory was refused alone
+abbrev pub ComesBy : ℕ → VerifyError → Result Trial AllocError → Type 0
+ComesBy unit fault (Ok trial) = (fault ≢ Memory) × (trial ≡ comes unit (Some fault))
+ComesBy unit fault (Err _) = fault ≡ Memory
 
 -- of a program with the edit, that has not more units than a program may have
 abbrev pub tried_with : List Insn → ℕ → Trial

@@ -21,5 +21,5 @@ pub use left::left_by;
 pub use mark::Mark;
 pub use marking::{cell_marks, known_by, marks};
 pub use mends::{Edit, Trial, operation_of, tried};
-pub use register::{numbered, result_of};
+pub use register::result_of;
 pub use subject::Subject;

@@ -2,7 +2,7 @@
 ghost use Rattle.std.specs.Prelude.{◌≡◌, ◌≤◌, ◌<◌, ◌+◌, ◌++◌, ◌∷◌, [], ◌&&◌, ◌+ℤ◌, ◌<ℤ◌, pos, int_lt, length, IfOk, OnOk, IsTrue};
 ghost use Rattle.insn.specs.Program.{slots_of, most_units};
 ghost use Rattle.verify.specs.Judgement.{judged};
-ghost use Rattle.causes.specs.Mends.{grown, longer, stretched, wide, masked, put_at, passed, edited, mended, comes, tried};
+ghost use Rattle.causes.specs.Mends.{grown, longer, stretched, wide, masked, put_at, passed, edited, mended, comes, tried, ComesBy};
 
 use insn::{Insn, Operand, Program, Reg};
 use std::alloc::{AllocError, Global};
@@ -246,17 +246,25 @@ fn units_of(insns: &[Insn]) -> usize
     units
 }
 
+/// How far the verifier comes in a program that it refuses so.
+fn come_by(fault: VerifyError, unit: usize) -> Result<Trial, AllocError>
+    ensures { ComesBy unit fault result }
+{
+    match fault {
+        VerifyError::Memory => Err(AllocError),
+        VerifyError::At(_, place) if unit < place => Ok(Trial::Passes),
+        VerifyError::At(_, _) => Ok(Trial::Refused),
+    }
+}
+
 /// How far the verifier comes in a program.
+#[tactic(auto, using(crate::proofs::ComingLemmas::came))]
 fn come(alloc: Global, program: Program, unit: usize) -> Result<Trial, AllocError>
     ensures { IfOk result (λ trial. trial ≡ comes unit (judged program)) }
 {
     match verify(alloc, program) {
         Ok(_verified) => Ok(Trial::Accepted),
-        Err(refused) => match refused.fault {
-            VerifyError::Memory => Err(AllocError),
-            VerifyError::At(_, place) if unit < place => Ok(Trial::Passes),
-            VerifyError::At(_, _) => Ok(Trial::Refused),
-        },
+        Err(refused) => come_by(refused.fault, unit),
     }
 }
 

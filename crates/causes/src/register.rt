@@ -1,21 +1,11 @@
 //! Registers by number, and the one that takes a result.
-ghost use Rattle.std.specs.Prelude.{◌≡◌, ◌≤◌, ◌<◌};
+ghost use Rattle.std.specs.Prelude.{◌≡◌, ◌<◌};
 ghost use Rattle.verify.specs.Registers.{known_at};
 ghost use Rattle.causes.specs.Left.{result_of};
 
 use absval::AbsVal;
+use helper::reads::numbered;
 use insn::{Insn, Reg};
-
-/// The register of a number.
-pub fn numbered(number: u8) -> Reg
-    requires { number ≤ 10 }
-    ensures { result ≡ number }
-{
-    match Reg::new(number) {
-        Some(r) => r,
-        None => unreachable!(),
-    }
-}
 
 /// What is known of the register of a number.
 pub(crate) fn known_at(registers: &[AbsVal; 11], number: usize) -> AbsVal

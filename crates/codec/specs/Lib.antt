@@ -4,4 +4,4 @@ pub mod Reading
 pub mod Program
 pub mod Laws
 pub mod Opcodes
-pub mod Telling
+pub mod ErrorText

@@ -28,7 +28,7 @@ pub enum Fault {
 
 impl fmt::Display for Fault {
     ghost use Rattle.std.specs.Prelude.{Some};
-    ghost use Rattle.codec.specs.Telling.{code_of};
+    ghost use Rattle.codec.specs.ErrorText.{code_of};
 
     ghost output = { λ fault. Some (code_of fault) };
 
@@ -58,7 +58,7 @@ pub enum CodecError {
 
 impl fmt::Display for CodecError {
     ghost use Rattle.std.specs.Prelude.{Some};
-    ghost use Rattle.codec.specs.Telling.{told};
+    ghost use Rattle.codec.specs.ErrorText.{told};
 
     ghost output = { λ error. Some (told error) };
 

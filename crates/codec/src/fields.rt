@@ -13,7 +13,7 @@ use insn::Reg;
 /// byte   0        1            2  3     4  5  6  7
 ///        opcode   src:4 dst:4  offset   imm
 /// ```
-#[derive(Clone, Copy, Debug, PartialEq, Eq)]
+#[derive(Clone, Copy)]
 pub struct Fields {
     pub opcode: u8,
     pub dst: u8,

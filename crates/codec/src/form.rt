@@ -5,14 +5,14 @@ use insn::Size;
 use word::{ByteOrder, Condition, Narrow, Operation, Width};
 
 /// The operations whose offset chooses between unsigned and signed (RFC 9669, section 4.1).
-#[derive(Clone, Copy, Debug, PartialEq, Eq)]
+#[derive(Clone, Copy)]
 pub enum Division {
     Quotient,
     Remainder,
 }
 
 /// What an opcode stands for.
-#[derive(Clone, Copy, Debug, PartialEq, Eq)]
+#[derive(Clone, Copy)]
 pub enum Form {
     Immediate(Width, Operation),
     Register(Width, Operation),

@@ -4,7 +4,7 @@ use Rattle.std.specs.Prelude.{insert, count_by, ◌==◌}
 use Rattle.std.proofs.lemmas.List.{take-map, take_all, drop-map}
 use Rattle.std.proofs.lemmas.List.Sums.{sum_by-cons, sum_by-append}
 use Rattle.combine.specs.Rule.{is_most}
-use Rattle.combine.specs.Told.{order_or_retreat}
+use Rattle.combine.specs.Orders.{order_or_retreat}
 
 -- both parts, with the own order between them
 pub joined : {A : Type 0} (g : A → ℕ) (cs ys : List A) (place own i : ℕ) (orders : List ℕ) → orders ≡ map g (take place cs) ++ own ∷ map g (take i ys) → ys ≡ drop place cs → length ys ≤ i → orders ≡ insert (map g cs) place own

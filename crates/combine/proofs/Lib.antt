@@ -1,5 +1,6 @@
+pub mod Found
+pub mod Joining
+pub mod Most
+pub mod RuleLaws
 pub mod SortedMiddle
 pub mod Voting
-pub mod Joining
-pub mod Found
-pub mod NameLaws

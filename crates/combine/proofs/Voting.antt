@@ -1,11 +1,9 @@
 -- The vote of Boyer and Moore: what a candidate and its lead say of the list so far.
-use Rattle.std.proofs.Common.{ℕ, ◌+◌, ◌-◌, ◌*◌, ◌<◌, ◌≤◌, ◌≡◌, ◌≢◌, Bool, true, false, cond, List, [], ◌∷◌, ◌++◌, length, refl, sym, ap, ◌∙◌, arith, inl, inr, Some, None, ◌⊎◌}
-use Rattle.std.specs.Prelude.{count_by, find, ◌==◌}
-use Rattle.std.proofs.lemmas.Bool.{cases_Bool, cases_eq, cond-true, cond-false, eq-eqb, ne_eqb, ltb-true, true≢false}
+use Rattle.std.proofs.Common.{ℕ, ◌+◌, ◌-◌, ◌*◌, ◌<◌, ◌≤◌, ◌≡◌, ◌≢◌, cond, List, [], ◌∷◌, ◌++◌, length, refl, sym, ◌∙◌, arith, inl, inr, ◌⊎◌}
+use Rattle.std.specs.Prelude.{count_by, ◌==◌}
+use Rattle.std.proofs.lemmas.Bool.{cases_eq, cond-true, cond-false, eq-eqb, ne_eqb}
 use Rattle.std.proofs.lemmas.List.{length_push}
 use Rattle.std.proofs.lemmas.List.Sums.{sum_by-append}
-use Rattle.combine.specs.Rule.{majority, is_most, NoMajorityIsRetreat}
-use Rattle.combine.specs.Laws.{majority_is_rule}
 
 -- no other can be in more places than its lead leaves, and it is in no more than that
 pub record Leads (xs : List ℕ) (candidate lead : ℕ) : Type 0 where
@@ -71,28 +69,3 @@ leads-down xs candidate lead x next l led ne =
       | inl new ↦ absurd (ne (sym new.1))
       | inr old ↦ (let h = old.0 in omega arith, rw old.1 (leads-other xs candidate lead x l (λ e. ne (e ∙ sym old.1)) old.0))
     ]
-
--- the vote decides
-pub voted : (xs : List ℕ) (candidate : ℕ) → is_most xs candidate ≡ true → candidate ≡ majority xs
-voted xs candidate it = sym (majority_is_rule xs candidate (ltb-true (length xs) (2 * count_by (λ x. x == candidate) xs) it))
-
-none_found : (t : ℕ → Bool) (xs : List ℕ) → ((x : ℕ) → t x ≡ true → ⊥) → find t xs ≡ None
-none_found t [] fails = refl
-none_found t (x ∷ xs) fails =
-    elim (cases_Bool (t x)) [
-      | inl it ↦ absurd (fails x it)
-      | inr it ↦ cond-false (t x) (Some x) (find t xs) it ∙ none_found t xs fails
-    ]
-
-pub unvoted : (xs : List ℕ) (candidate : ℕ) → ((v : ℕ) → length xs < 2 * count_by (λ x. x == v) xs → candidate ≡ v) → is_most xs candidate ≡ false → 0 ≡ majority xs
-unfolding majority
-unvoted xs candidate only fails =
-    rw (none_found (is_most xs) xs (λ v it. refuted v it (only v (ltb-true (length xs) (2 * count_by (λ x. x == v) xs) it)))) refl
-  where
-    refuted : (v : ℕ) → is_most xs v ≡ true → candidate ≡ v → ⊥
-    refuted v it e = true≢false (sym it ∙ (ap (is_most xs) (sym e) ∙ fails))
-
--- where no order is in more than half of the places, none is found
-pub retreat : NoMajorityIsRetreat
-unfolding majority
-retreat xs none = rw (none_found (is_most xs) xs (λ v it. let most : length xs < 2 * count_by (λ x. x == v) xs = ltb-true (length xs) (2 * count_by (λ x. x == v) xs) it in let few : 2 * count_by (λ x. x == v) xs ≤ length xs = none v in omega arith)) refl

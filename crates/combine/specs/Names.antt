@@ -1,22 +1,13 @@
 -- The words that name rules.
-use Rattle.std.specs.Prelude.{ℕ, ◌≡◌, ◌↔◌, ◌&&◌, nat_le, Bool, true, false, if◌then◌else◌, List, [], ◌∷◌, bytes_eq, codes, count_by, Option, None, Some}
+use Rattle.std.specs.Prelude.{ℕ, ◌≡◌, ◌↔◌, ◌&&◌, nat_le, Bool, true, false, List, bytes_eq, codes, count_by, find, Option, Some}
 use Rattle.std.specs.List.{join_by, list_all}
 use Rattle.combine.specs.declared.chosen.Rule.{Rule}
-use Rattle.combine.specs.declared.chosen.Rule.TheVariants.{Majority, Median}
-
--- the word of a rule
-abbrev pub rule_name : Rule → List ℕ
-rule_name Majority = codes "majority"
-rule_name Median = codes "median"
+use Rattle.combine.specs.declared.chosen.Rule.TheVariants.{Majority}
+use Rattle.combine.specs.Rule.{every_rule, rule_name}
 
 -- the rule of a word
 abbrev pub rule_named : List ℕ → Option Rule
-rule_named word = if bytes_eq word (codes "majority") then Some Majority
-    else (if bytes_eq word (codes "median") then Some Median else None)
-
--- all rules, in the order in which their words are listed
-abbrev pub every_rule : List Rule
-every_rule = Majority ∷ Median ∷ []
+rule_named word = find (λ rule. bytes_eq (rule_name rule) word) every_rule
 
 -- all words, as a sentence lists them
 abbrev pub rule_names : List ℕ

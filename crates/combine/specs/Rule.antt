@@ -1,6 +1,11 @@
--- Rules of combination (TOPLAS 1982, section 3).
-use Rattle.std.specs.Prelude.{ℕ, ◌*◌, ◌/◌, ◌<◌, ◌≤◌, ◌≡◌, ◌==◌, nat_lt, nat_le, Bool, ◌&&◌, List, length, find, count_by, unwrap_or, slice_index}
+-- Rules of combination (TOPLAS 1982, section 3). A rule is a line of each table below.
+use Rattle.std.specs.Prelude.{ℕ, ◌*◌, ◌/◌, ◌<◌, ◌≤◌, ◌≡◌, ◌==◌, nat_lt, nat_le, Bool, ◌&&◌, List, [], ◌∷◌, length, codes, find, count_by, unwrap_or, slice_index}
 use Rattle.std.specs.List.Sorted.{IsPermutation, IsNonDecreasing}
+use Rattle.combine.specs.Outcome.{agreed_or, outcome_order}
+use Rattle.combine.specs.declared.chosen.Rule.{Rule}
+use Rattle.combine.specs.declared.chosen.Rule.TheVariants.{Majority, Median}
+use Rattle.combine.specs.declared.outcome.Outcome.{Outcome}
+use Rattle.combine.specs.declared.outcome.Outcome.TheVariants.{Middle}
 
 -- the order stands in more than half of the places
 abbrev pub is_most : List ℕ → ℕ → Bool
@@ -19,6 +24,25 @@ is_middle xs v =
 unfoldable pub median : List ℕ → ℕ
 median xs = unwrap_or (find (is_middle xs) xs) 0
 
+-- all rules, in the order in which their words are listed
+abbrev pub every_rule : List Rule
+every_rule = Majority ∷ Median ∷ []
+
+-- the word of a rule
+abbrev pub rule_name : Rule → List ℕ
+rule_name Majority = codes "majority"
+rule_name Median = codes "median"
+
+-- the order that a list comes to by a rule
+abbrev pub combined_by : Rule → List ℕ → ℕ
+combined_by Majority = majority
+combined_by Median = median
+
+-- and how
+abbrev pub outcome_of : Rule → List ℕ → Outcome
+outcome_of Majority orders = agreed_or 0 (find (is_most orders) orders)
+outcome_of Median orders = Middle (median orders)
+
 -- an order in more than half of the places is the result
 abbrev pub IsMajorityRule : (List ℕ → ℕ) → Type 0
 IsMajorityRule f = (xs : List ℕ) (v : ℕ) → length xs < 2 * count_by (λ x. x == v) xs → f xs ≡ v
@@ -29,4 +53,9 @@ NoMajorityIsRetreat = (xs : List ℕ) → ((v : ℕ) → 2 * count_by (λ x. x =
 
 -- the median is the middle of the sorted list
 abbrev pub MedianIsMiddle : Type 0
-MedianIsMiddle = (xs ys : List ℕ) → IsPermutation xs ys → IsNonDecreasing ys → 0 < length xs → median xs ≡ slice_index ys (length xs / 2)
+MedianIsMiddle = (xs ys : List ℕ) → IsPermutation xs ys → IsNonDecreasing ys → 0 < length xs →
+    median xs ≡ slice_index ys (length xs / 2)
+
+-- what a list comes to by a rule has the order that the rule combines it to
+abbrev pub OutcomesCombine : Type 0
+OutcomesCombine = (rule : Rule) (orders : List ℕ) → outcome_order (outcome_of rule orders) ≡ combined_by rule orders

@@ -1,12 +1,17 @@
 ghost use Rattle.std.specs.Prelude.{◌≡◌};
-ghost use Rattle.combine.specs.Chosen.{combined_by, chosen_is_rule};
-ghost use Rattle.combine.specs.Names.{is_default, rule_name, rule_named, rule_names};
-ghost use Rattle.combine.specs.Outcome.{outcome_order, outcome_of};
+ghost use Rattle.combine.specs.Names.{is_default, rule_named, rule_names};
+ghost use Rattle.combine.specs.Outcome.{outcome_order};
+ghost use Rattle.combine.specs.Rule.{combined_by, outcome_of, rule_name};
+ghost use Rattle.combine.specs.Laws.{chosen_is_rule};
 
-use crate::majority::Majority;
-use crate::median::Median;
+mod majority;
+mod median;
+
 use crate::outcome::{Outcome, by_most};
 use crate::rule::Combine;
+pub use majority::Majority;
+pub(crate) use majority::most;
+pub use median::Median;
 
 /// The rule of a campaign.
 #[derive(Clone, Copy, Debug, PartialEq, Eq)]
@@ -38,6 +43,9 @@ impl Combine for Rule {
 }
 
 impl Rule {
+    /// All rules, in the order in which their words are listed.
+    pub const ALL: [Rule; 2] = [Rule::Majority, Rule::Median];
+
     /// The rule where none is named.
     pub const DEFAULT: Rule = Rule::Majority;
 
@@ -51,19 +59,6 @@ impl Rule {
         }
     }
 
-    /// The rule of a word, if it is one's.
-    pub fn named(word: &[u8]) -> Option<Rule>
-        ensures { result ≡ rule_named word.now }
-    {
-        if word == b"majority".as_slice() {
-            Some(Rule::Majority)
-        } else if word == b"median".as_slice() {
-            Some(Rule::Median)
-        } else {
-            None
-        }
-    }
-
     /// The words of all rules, as a sentence lists them.
     pub fn names() -> &'static str
         ensures { result.now ≡ rule_names }
@@ -71,22 +66,32 @@ impl Rule {
         "majority or median"
     }
 
+    /// What a list comes to by the rule.
+    #[tactic(auto, using(crate::proofs::Most::agreed_order), unfolding(crate::specs::Rule::majority))]
+    pub fn outcome(self, orders: &[u32]) -> Outcome
+        ensures value { result ≡ outcome_of self orders.now }
+        ensures order { outcome_order result ≡ combined_by self orders.now }
+    {
+        match self {
+            Rule::Majority => by_most(orders, 0),
+            Rule::Median => Outcome::Middle(Median.combine(orders)),
+        }
+    }
+
+    /// The rule of a word, if it is one's.
+    pub fn named(word: &[u8]) -> Option<Rule>
+        ensures { result ≡ rule_named word.now }
+    {
+        Rule::ALL
+            .iter()
+            .copied()
+            .find(|rule| rule.name().as_bytes() == word)
+    }
+
     /// Whether it is the rule where none is named.
     pub fn is_default(self) -> bool
         ensures { result ≡ is_default self }
     {
         matches!(self, Rule::Majority)
-    }
-
-    /// What a list comes to by the rule.
-    pub fn outcome(self, orders: &[u32]) -> Outcome
-        ensures value { result ≡ outcome_of self orders.now }
-        ensures order { outcome_order result ≡ combined_by self orders.now }
-    {
-        let order = self.combine(orders);
-        match self {
-            Rule::Majority => by_most(orders, order),
-            Rule::Median => Outcome::Middle(order),
-        }
     }
 }

@@ -1,7 +1,6 @@
 //! Laws of the rules: each function does nothing, and its contract is the law.
 ghost use Rattle.combine.specs.Names.{NamesAreWords};
-ghost use Rattle.combine.specs.Outcome.{OutcomesCombine};
-ghost use Rattle.combine.specs.Rule.{MedianIsMiddle, NoMajorityIsRetreat};
+ghost use Rattle.combine.specs.Rule.{MedianIsMiddle, NoMajorityIsRetreat, OutcomesCombine};
 
 /// Where no order stands in more than half of the places, the majority is RETREAT, which is 0: a tie
 /// is no majority.

@@ -3,15 +3,11 @@
 
 mod chosen;
 mod laws;
-mod majority;
-mod median;
+mod orders;
 mod outcome;
 mod rule;
-mod told;
 
-pub use chosen::Rule;
+pub use chosen::{Majority, Median, Rule};
 pub use laws::{median_is_middle, names_are_words, no_majority_is_retreat, outcomes_combine};
-pub use majority::Majority;
-pub use median::Median;
 pub use outcome::Outcome;
 pub use rule::Combine;

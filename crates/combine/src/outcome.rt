@@ -1,9 +1,9 @@
 //! What a list of orders comes to.
 ghost use Rattle.std.specs.Prelude.{◌≡◌, find};
 ghost use Rattle.combine.specs.Outcome.{agreed_or, outcome_order, outcome_head};
-ghost use Rattle.combine.specs.Rule.{is_most, majority};
+ghost use Rattle.combine.specs.Rule.{is_most};
 
-use crate::majority::is_in_most;
+use crate::chosen::most;
 
 /// What a list of orders comes to: its order, and how.
 #[derive(Clone, Copy, Debug, PartialEq, Eq, Drop)]
@@ -38,14 +38,12 @@ impl Outcome {
     }
 }
 
-/// What a list comes to whose majority is this order.
-pub(crate) fn by_most(orders: &[u32], order: u32) -> Outcome
-    requires { order ≡ majority orders.now }
-    ensures { result ≡ agreed_or 0 (find (is_most orders.now) orders.now) }
+/// The order in more than half of the places, or that none is and it is the other one.
+pub(crate) fn by_most(orders: &[u32], other: u32) -> Outcome
+    ensures { result ≡ agreed_or other (find (is_most orders.now) orders.now) }
 {
-    if is_in_most(orders, order) {
-        Outcome::Agreed(order)
-    } else {
-        Outcome::Divided(order)
+    match most(orders) {
+        Some(order) => Outcome::Agreed(order),
+        None => Outcome::Divided(other),
     }
 }

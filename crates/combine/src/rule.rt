@@ -1,8 +1,8 @@
 ghost use Rattle.std.specs.Prelude.{◌≡◌, ◌<◌, ◌≤◌, ℕ, List, length};
 ghost use Rattle.combine.specs.Rule.{IsMajorityRule};
-ghost use Rattle.combine.specs.Told.{with_own};
+ghost use Rattle.combine.specs.Orders.{with_own};
 
-use crate::told::orders_of;
+use crate::orders::orders_of;
 
 /// A rule of combination: its result depends on the rule and the list alone.
 pub trait Combine {

@@ -17,7 +17,7 @@ use Rattle.clap.proofs.OnLiterals.{clap_on_literals}
 use Rattle.command_line.specs.Asked.{spelt, told_in}
 use Rattle.command_line.specs.Lab.{app_before, app_with, lab_app, shape, task_met}
 use Rattle.command_line.specs.Met.{has_places}
-use Rattle.command_line.specs.Told.{Told, has}
+use Rattle.command_line.specs.Tasks.{Told, has}
 use Rattle.command_line.specs.Usage.{Look, Usage, end_of_flags, long, look_of, plain, short, taken_in, value_at}
 use Rattle.command_line.specs.Usages.{usages}
 use Rattle.command_line.proofs.FlagLemmas.{none_long_fails, none_short_fails, version_long_fails, version_short_fails}

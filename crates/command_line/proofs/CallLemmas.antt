@@ -1,14 +1,16 @@
 -- What a call of `clap` tells of the rule.
-use Rattle.std.proofs.Common.{Result, Ok, Err, IfOk, IfErr, IsSome, IsSomeAnd, true, false, ◌≡◌, ◌∙◌, ◌⊎◌, inl, inr, List, [], Option, Some, None, ap, refl, subst, sym}
-use Rattle.clap.specs.Words.{App, IsAmong, Row, Text, fault_of, is_simple, is_simple_and_free, subcommand_of}
+use Rattle.std.proofs.Common.{Result, Ok, Err, IfOk, IfErr, IsSome, IsSomeAnd, true, false, ◌≡◌, ◌≢◌, ◌∙◌, ◌⊎◌, inl, inr, List, [], Option, Some, None, ap, refl, subst, sym}
+use Rattle.clap.specs.Words.{App, IsAmong, Row, Text, fault_of, kind_of, is_simple, is_simple_and_free, subcommand_of}
+use Rattle.clap.specs.declared.error.Error.{Error}
 use Rattle.clap.specs.declared.error.kind.ErrorKind.{ErrorKind}
 use Rattle.clap.specs.declared.error.kind.ErrorKind.TheVariants.{OutOfMemory}
 use Rattle.clap.proofs.OnLiterals.{clap_on_literals}
 use Rattle.command_line.specs.Asked.{asked, is_meant, spelt}
 use Rattle.command_line.specs.Lab.{lab_app, task_met}
 use Rattle.command_line.specs.Met.{has_places}
-use Rattle.command_line.specs.Told.{Asks, IfMisuse, IfRefused, IsErrorOf, IsMisused, Told}
+use Rattle.command_line.specs.Tasks.{Asks, IfMisuse, IfRefused, IfWords, IsErrorOf, IsMisused, IsToldBy, Told}
 use Rattle.command_line.specs.declared.tasks.Request.{Request}
+use Rattle.command_line.specs.declared.errors.Misuse.{Misuse as MisuseOf}
 use Rattle.command_line.specs.declared.errors.TaskError.{TaskError}
 use Rattle.command_line.specs.declared.errors.TaskError.TheVariants.{Words, Misuse, Memory}
 use Rattle.command_line.proofs.AskedLemmas.{LabAgrees, rule_agrees}
@@ -72,6 +74,36 @@ pub none_found : (app : App) (words : List Text) (k : ErrorKind) → app ≡ lab
     → (k ≡ OutOfMemory → ⊥) → asked words ≡ None
 none_found app words k lab fails apart =
     let none : spelt words ≡ None = none_by words (spelt words) k (kind_among app words k lab fails apart) (rule_agrees words) in rw none refl
+
+-- ---- what is told of words that `clap` refused so
+
+pub told_unasked : (app : App) (words : List Text) (refusal : Error) (error : TaskError) → IsToldBy refusal error
+    → app ≡ lab_app → (is_simple_and_free app ≡ true → (kind_of refusal ≡ OutOfMemory) ⊎ IsAmong (kind_of refusal) (fault_of app words))
+    → IfRefused error (asked words ≡ None)
+told_unasked app words refusal (Words own) told lab fails = none_found app words (kind_of refusal) lab fails told.1
+told_unasked app words refusal (Misuse misuse) told lab fails = absurd told
+told_unasked app words refusal Memory told lab fails = tt
+
+pub told_among : (app : App) (words : List Text) (refusal : Error) (error : TaskError) → IsToldBy refusal error
+    → app ≡ lab_app → (is_simple_and_free app ≡ true → (kind_of refusal ≡ OutOfMemory) ⊎ IsAmong (kind_of refusal) (fault_of app words))
+    → IfWords error (λ own. IsAmong (kind_of own) (fault_of lab_app words))
+told_among app words refusal (Words own) told lab fails =
+    subst (λ (e : Error). IsAmong (kind_of e) (fault_of lab_app words)) (sym told.0)
+    (kind_among app words (kind_of refusal) lab fails told.1)
+told_among app words refusal (Misuse misuse) told lab fails = tt
+told_among app words refusal Memory told lab fails = tt
+
+pub told_not_memory : (refusal : Error) (error : TaskError) → IsToldBy refusal error
+    → IfWords error (λ own. kind_of own ≢ OutOfMemory)
+told_not_memory refusal (Words own) told = subst (λ (e : Error). kind_of e ≢ OutOfMemory) (sym told.0) told.1
+told_not_memory refusal (Misuse misuse) told = tt
+told_not_memory refusal Memory told = tt
+
+pub told_no_misuse : (P : MisuseOf → Type 0) (refusal : Error) (error : TaskError) → IsToldBy refusal error
+    → IfMisuse error P
+told_no_misuse P refusal (Words own) told = tt
+told_no_misuse P refusal (Misuse misuse) told = absurd told
+told_no_misuse P refusal Memory told = tt
 
 -- ---- where `clap` took the words
 

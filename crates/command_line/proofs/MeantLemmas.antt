@@ -6,7 +6,7 @@ use Rattle.text.specs.Options.{◌>>=◌}
 use Rattle.clap.specs.Walk.{Text}
 use Rattle.command_line.specs.Asked.{has_filling, excludes, has_notation, has_tree, has_turns, if_of, is_meant, reads, wants}
 use Rattle.command_line.specs.Generals.{count_in, depth_in, general_in, generals_in, order_in, seed_in}
-use Rattle.command_line.specs.Told.{AreExplained, AreTurns, IsCourse, IsDrawing, IsFilling, IsMisused, IsNotation, NamesCount, NamesGeneral, NamesSeed, Says, Told, are_two, campaigns, coursed, has, is_of, levels_in, named, is_text, of_one, of_traitors, programs, word_of}
+use Rattle.command_line.specs.Tasks.{AreExplained, AreTurns, IsCourse, IsDrawing, IsFilling, IsMisused, IsNotation, NamesCount, NamesGeneral, NamesSeed, Says, Told, are_two, campaigns, coursed, has, is_of, levels_in, named, is_text, of_one, of_traitors, programs, word_of}
 use Rattle.command_line.specs.declared.tasks.Course.{Course}
 use Rattle.command_line.specs.declared.tasks.Course.TheVariants.{Scheduled, Recorded}
 use Rattle.command_line.specs.declared.tasks.Drawing.{Drawing}

@@ -13,7 +13,7 @@ use Rattle.clap.specs.Words.{first_value}
 use Rattle.clap.proofs.WalkLemmas.{find_row}
 use Rattle.command_line.specs.Lab.{given, given_value, is_given}
 use Rattle.command_line.specs.Met.{has_places}
-use Rattle.command_line.specs.Told.{Told}
+use Rattle.command_line.specs.Tasks.{Told}
 
 first_text : (vs : List (Bor Text)) → option_map (λ s. s.now) (slice_get vs 0) ≡ slice_get (texts vs) 0
 first_text [] = refl

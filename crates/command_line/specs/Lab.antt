@@ -7,7 +7,7 @@ use Rattle.clap.specs.declared.parser.matches.ValueSource.{ValueSource}
 use Rattle.clap.specs.declared.parser.matches.ValueSource.TheVariants.{CommandLine, DefaultValue}
 use Rattle.clap.specs.Words.{App, Row, Rule, Shape, new_app, new_rule}
 use Rattle.clap.specs.Simple.{new_shape}
-use Rattle.command_line.specs.Told.{Told}
+use Rattle.command_line.specs.Tasks.{Told}
 use Rattle.command_line.specs.Usage.{Flag, Text, Usage, letter, option, switch}
 use Rattle.command_line.specs.Usages.{usages}
 
@@ -36,7 +36,8 @@ lab_version = codes "1.0.0, proved with Rattle, logic dac8208d650f15bf"
 
 -- the program, once it says what it is
 abbrev pub described : App → App
-described app = record app { top = record app.top { no_binary_name = true; subcommand_required = true; has_version = true } }
+described app =
+    record app { top = record app.top { no_binary_name = true; subcommand_required = true; has_version = true } }
 
 abbrev pub app_before : App
 app_before = described (new_app (codes "byzlab"))

@@ -1,10 +1,10 @@
 pub mod Asked
+pub mod ErrorText
 pub mod Generals
 pub mod Lab
 pub mod Met
 pub mod Several
 pub mod Subcommand
-pub mod Telling
-pub mod Told
+pub mod Tasks
 pub mod Usage
 pub mod Usages

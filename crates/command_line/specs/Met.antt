@@ -4,7 +4,7 @@ use Rattle.std.specs.List.{list_all}
 use Rattle.std.specs.Option.{option_map_or}
 use Rattle.clap.specs.Words.{found_of, rows_of}
 use Rattle.command_line.specs.Lab.{told_of}
-use Rattle.command_line.specs.Told.{Told, has}
+use Rattle.command_line.specs.Tasks.{Told, has}
 use Rattle.command_line.specs.Usages.{usage_named}
 use Rattle.command_line.specs.declared.met.Met.{Met}
 

@@ -53,7 +53,7 @@ pub enum Misuse {
 }
 
 impl fmt::Display for TaskError {
-    ghost use Rattle.command_line.specs.Telling.{error_text};
+    ghost use Rattle.command_line.specs.ErrorText.{error_text};
 
     ghost output = { error_text };
 
@@ -69,7 +69,7 @@ impl fmt::Display for TaskError {
 impl error::Error for TaskError {}
 
 impl fmt::Display for Misuse {
-    ghost use Rattle.command_line.specs.Telling.{misuse_text};
+    ghost use Rattle.command_line.specs.ErrorText.{misuse_text};
 
     ghost output = { misuse_text };
 

@@ -1,9 +1,9 @@
-ghost use Rattle.std.specs.Prelude.{◌≡◌, if◌then◌else◌, IfOk, IfErr, IsSome, None, Some, [], ◌∷◌, codes, is_some, option_map, string_bytes, true};
+ghost use Rattle.std.specs.Prelude.{◌≡◌, ◌≢◌, if◌then◌else◌, IfOk, IfErr, IsSome, None, Some, [], ◌∷◌, codes, is_some, option_map, string_bytes, true};
 ghost use Rattle.clap.specs.Words.{subcommand_rows_of};
 ghost use Rattle.command_line.specs.Lab.{is_given, task_met};
-ghost use Rattle.command_line.specs.Told.{IsDrawing, levels_in, named};
+ghost use Rattle.command_line.specs.Tasks.{IsDrawing, levels_in, named};
 ghost use Rattle.command_line.specs.Met.{has_places, told_by};
-ghost use Rattle.command_line.specs.Told.{AreExplained, AreTurns, Asks, IsCourse, IsErrorOf, IsFilling, IsNotation, NamesCount, NamesGeneral, NamesSeed, Says, campaigns, coursed, has, is_of, is_raw, is_table, programs, word_of};
+ghost use Rattle.command_line.specs.Tasks.{AreExplained, AreTurns, Asks, IsCourse, IsErrorOf, IsFilling, IsNotation, NamesCount, NamesGeneral, NamesSeed, Says, campaigns, coursed, has, is_of, is_raw, is_table, programs, word_of};
 
 use crate::errors::{Misuse, TaskError};
 use crate::generals::{GeneralsError, count, depth, general, generals, order, seed};
@@ -401,6 +401,7 @@ impl<'m, 'a> Met<'m, 'a> {
         requires { is_of (codes "tree" ∷ []) (told_by self) ≡ true }
         ensures drawing { IfOk result (IsDrawing (told_by self.entry)) }
         ensures refused { IfErr result (IsErrorOf (told_by self.entry)) }
+        ensures memory { IfErr result (λ error. error ≢ TaskError.Memory) }
     {
         let is_ascii = self.has("ascii");
         let is_text = self.has("text") || is_ascii;

@@ -2,14 +2,25 @@ ghost use Rattle.std.specs.Prelude.{◌≡◌, ◌≢◌, IfOk, IfErr, IsSomeAnd
 ghost use Rattle.clap.specs.Words.{IsAmong, fault_of, kind_of};
 ghost use Rattle.command_line.specs.Asked.{asked, spelt, words_of};
 ghost use Rattle.command_line.specs.Lab.{lab_app};
-ghost use Rattle.command_line.specs.Told.{Asks, IfMisuse, IfRefused, IfWords, IsMisused};
+ghost use Rattle.command_line.specs.Tasks.{Asks, IfMisuse, IfRefused, IfWords, IsMisused, IsToldBy};
 
 use crate::command::lab_command;
 use crate::errors::TaskError;
 use crate::met::Met;
 use crate::tasks::Request;
+use clap::Error;
 use clap::error::ErrorKind;
 use std::alloc::Global;
+
+/// What is told of words that `clap` refused so.
+fn refused(error: Error) -> TaskError
+    ensures { IsToldBy error result }
+{
+    if error.kind() == ErrorKind::OutOfMemory {
+        return TaskError::Memory;
+    }
+    TaskError::Words(error)
+}
 
 /// Reads the words behind the program's name.
 pub fn request(alloc: Global, words: &[&str]) -> Result<Request, TaskError>
@@ -27,11 +38,6 @@ pub fn request(alloc: Global, words: &[&str]) -> Result<Request, TaskError>
     let lab = lab_command(alloc)?;
     match lab.try_get_matches_from(words) {
         Ok(matches) => Met::of(&matches).request(alloc),
-        Err(error) => {
-            if error.kind() == ErrorKind::OutOfMemory {
-                return Err(TaskError::Memory);
-            }
-            Err(TaskError::Words(error))
-        }
+        Err(error) => Err(refused(error)),
     }
 }

@@ -203,7 +203,7 @@ pub enum Lieutenants {
 
 impl Course {
     ghost use Rattle.std.specs.Prelude.{◌≡◌, option_map};
-    ghost use Rattle.command_line.specs.Told.{course_file};
+    ghost use Rattle.command_line.specs.Tasks.{course_file};
 
     /// The name of the file that tells the course, where there is one.
     fn file(&self) -> Option<&str>
@@ -218,7 +218,7 @@ impl Course {
 
 impl Turns {
     ghost use Rattle.std.specs.Prelude.{◌≡◌, option_map};
-    ghost use Rattle.command_line.specs.Told.{seed_target, turns_file, turns_seed};
+    ghost use Rattle.command_line.specs.Tasks.{seed_target, turns_file, turns_seed};
 
     /// The name of the file that the schedule stands in, where there is one.
     fn file(&self) -> Option<&str>
@@ -253,7 +253,7 @@ impl Turns {
 
 impl Accesses {
     ghost use Rattle.std.specs.Prelude.{◌≡◌, option_map};
-    ghost use Rattle.command_line.specs.Told.{accesses_file};
+    ghost use Rattle.command_line.specs.Tasks.{accesses_file};
 
     /// The name of the file that tells the accesses, where there is one.
     fn file(&self) -> Option<&str>
@@ -268,7 +268,7 @@ impl Accesses {
 
 impl Task {
     ghost use Rattle.std.specs.Prelude.{◌≡◌, option_map};
-    ghost use Rattle.command_line.specs.Told.{file_of, folder_of, schedule_target_of, second_of, seed_of, target_of};
+    ghost use Rattle.command_line.specs.Tasks.{file_of, folder_of, schedule_target_of, second_of, seed_of, target_of};
 
     /// The name of the only file, or of the first; none where the task reads no file.
     pub fn file(&self) -> Option<&str>

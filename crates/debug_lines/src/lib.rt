@@ -7,11 +7,11 @@ mod header;
 mod names;
 mod number;
 mod origin;
+mod placing;
 mod registers;
 mod rows;
 mod source;
 mod step;
 mod tables;
-mod telling;
 
-pub use telling::{entry_places, places};
+pub use placing::{entry_places, places};

@@ -1,4 +1,5 @@
--- A label as its ranks tell it (own).
+-- How code holds a label of the round that it tells: by its ranks (own).
+-- No claim rests on this.
 use Rattle.std.specs.Prelude.{ℕ, zero, suc, ◌-◌, ◌*◌, ◌<◌, ◌≡◌, false, List, length, slice_get, slice_index, slice_index_or, Some}
 use Rattle.label.specs.Labels.{on, labels}
 use Rattle.label.specs.Oral.{IsLabel}

@@ -2,10 +2,11 @@
 use Rattle.std.specs.Prelude.{ℕ, ◌≡◌, ◌⊎◌, List, Option, IfSome, codes}
 use Rattle.std.specs.Io.KnownBytes.{Appends}
 use Rattle.command_line.specs.declared.tasks.Request.{Request}
-use Rattle.lab.specs.Faults.{Prevents, fault_text, status_of}
+use Rattle.lab.specs.Faults.{Prevents}
+use Rattle.faults.specs.Faults.{fault_text, status_of}
 use Rattle.label.specs.declared.shape.Shape.{Shape}
 use Rattle.lab.specs.Serving.{Files, IsPlacedAnswer, Tells}
-use Rattle.lab.specs.declared.failure.Failure.{Failure}
+use Rattle.faults.specs.declared.failure.Failure.{Failure}
 use Rattle.streams.specs.Writing.{AppendsFront}
 use Rattle.desk.specs.Printing.{answer_as, refusal_as}
 

@@ -14,8 +14,11 @@ use Rattle.diagram.specs.declared.telling.Telling.{Telling}
 use Rattle.diagram.specs.Facts.{strokes_of, telling_at, tellings_below, tellings_by, tellings_of}
 use Rattle.diagram.specs.Laws.{RowsAreExact, StrokesAreExact, drawn_in, has_lied, has_lied_as, is_of, labels_told, list_in, told_by}
 use Rattle.diagram.specs.Left.{is_past}
-use Rattle.diagram.specs.Lists.{arranged, firsts, has_row, is_in, is_lie, is_lie_to, is_same, is_to, labels_of, list_behind, list_of, list_to, lists_of, lists_to, most_rows, stroke_of, strokes_from, with_rows}
-use Rattle.diagram.proofs.ArrangedLemmas.{all_filter, all_firsts, any_arranged, count_arranged, count_within_told, is_lie_of, liar_before, no_honest_before, told_once}
+use Rattle.diagram.specs.Lists.{has_row, is_in, is_lie, is_lie_to, is_same, is_to, labels_of, list_behind, list_of, list_to, lists_of, lists_to, stroke_of, strokes_from, teller, with_rows}
+use Rattle.diagram.specs.Order.{arranged, firsts, most_rows}
+use Rattle.diagram.proofs.LiesLemmas.{is_lie_of, liar_before, no_honest_before}
+use Rattle.diagram.proofs.OnceLemmas.{count_within_told, told_once}
+use Rattle.diagram.proofs.OrderLemmas.{all_filter, all_firsts, any_arranged, count_arranged}
 use Rattle.diagram.proofs.RowLemmas.{IsWithin, all_range, all_strokes, any_stroke, count_strokes, count_within, drop_strokes, filters_swap, first_rows, his_list, rows_are, take_strokes}
 
 -- ---- what is told at all
@@ -58,34 +61,34 @@ listed : (t : MessageTable) (order round p : ℕ) → p < t.generals → p ≢ t
 unfolding strokes_of
 listed t order round p inside lieutenant = his_list t.generals t.commander (t.bound + 1) p round (tellings_of t order) inside lieutenant (within_all t order p)
 
-drawn_first : (t : MessageTable) (order round p : ℕ) → p < t.generals → p ≢ t.commander → drawn_in t order round p ≡ strokes_from p (numbers (tellings_of t order p)) 0 (take most_rows (arranged (things (tellings_of t order p) round)))
+drawn_first : (t : MessageTable) (order round p : ℕ) → p < t.generals → p ≢ t.commander → drawn_in t order round p ≡ strokes_from p (numbers (tellings_of t order p)) 0 (take most_rows (arranged is_lie teller (things (tellings_of t order p) round)))
 drawn_first t order round p inside lieutenant =
     filters_swap (is_to round p) has_row (strokes_of t order)
     ∙ (ap (filter has_row) (listed t order round p inside lieutenant)
-    ∙ first_rows p (numbers (tellings_of t order p)) 0 most_rows (arranged (things (tellings_of t order p) round)) refl)
+    ∙ first_rows p (numbers (tellings_of t order p)) 0 most_rows (arranged is_lie teller (things (tellings_of t order p) round)) refl)
 
 first_drawn : (t : MessageTable) (order round p : ℕ) → p < t.generals → p ≢ t.commander → drawn_in t order round p ≡ take most_rows (list_in t order round p)
 first_drawn t order round p inside lieutenant =
     drawn_first t order round p inside lieutenant
-    ∙ (sym (take_strokes p (numbers (tellings_of t order p)) 0 most_rows (arranged (things (tellings_of t order p) round)))
+    ∙ (sym (take_strokes p (numbers (tellings_of t order p)) 0 most_rows (arranged is_lie teller (things (tellings_of t order p) round)))
     ∙ sym (ap (take most_rows) (listed t order round p inside lieutenant)))
 
 rows_numbered : (t : MessageTable) (order round p : ℕ) → p < t.generals → p ≢ t.commander → map (λ (x : Stroke). x.row) (list_in t order round p) ≡ range_with_len 0 (length (list_in t order round p))
 rows_numbered t order round p inside lieutenant =
     let e = listed t order round p inside lieutenant in
     ap (map (λ (x : Stroke). x.row)) e
-    ∙ (rows_are p (numbers (tellings_of t order p)) 0 (arranged (things (tellings_of t order p) round)) ∙ sym (ap (λ (xs : List Stroke). range_with_len 0 (length xs)) e))
+    ∙ (rows_are p (numbers (tellings_of t order p)) 0 (arranged is_lie teller (things (tellings_of t order p) round)) ∙ sym (ap (λ (xs : List Stroke). range_with_len 0 (length xs)) e))
 
 only_lies : (t : MessageTable) (order round p : ℕ) → p < t.generals → p ≢ t.commander → list_any has_lied (drop most_rows (list_in t order round p)) ≡ true
     → AllByRecursion (λ (x : Stroke). x.differs ≡ true) (drawn_in t order round p)
 only_lies t order round p inside lieutenant left =
     let T : List Telling = tellings_of t order p in
-    let rows : List Telling = arranged (things T round) in
+    let rows : List Telling = arranged is_lie teller (things T round) in
     let here : list_any is_lie (drop most_rows rows) ≡ true =
     sym (any_stroke has_lied is_lie p (numbers T) (0 + most_rows) (drop most_rows rows) (λ x i. refl))
     ∙ (sym (ap (list_any has_lied) (drop_strokes p (numbers T) 0 most_rows rows)) ∙ (sym (ap (λ xs. list_any has_lied (drop most_rows xs)) (listed t order round p inside lieutenant)) ∙ left)) in
     subst (AllByRecursion (λ (x : Stroke). x.differs ≡ true)) (sym (drawn_first t order round p inside lieutenant))
-    (all_strokes (λ (x : Stroke). x.differs ≡ true) (λ (x : Telling). x.differs ≡ true) p (numbers T) 0 (take most_rows rows) (λ x i e. e) (no_honest_before (things T round) here))
+    (all_strokes (λ (x : Stroke). x.differs ≡ true) (λ (x : Telling). x.differs ≡ true) p (numbers T) 0 (take most_rows rows) (λ x i e. e) (no_honest_before is_lie teller (things T round) here))
 
 each_liar : (t : MessageTable) (order round p j : ℕ) → p < t.generals → p ≢ t.commander → t.commander < t.generals → t.generals ≤ most_rows
     → list_any (has_lied_as j) (list_in t order round p) ≡ true → list_any (has_lied_as j) (drawn_in t order round p) ≡ true
@@ -94,10 +97,10 @@ each_liar t order round p j inside lieutenant present few there =
     let list : List Telling = things T round in
     let below : AllByRecursion (λ (x : Telling). x.teller < t.generals) list =
     all_filter (λ (x : Telling). x.teller < t.generals) (is_in round) (firsts is_same [] T) (all_firsts (λ (x : Telling). x.teller < t.generals) is_same [] T (tellers_all t order p present)) in
-    let some : list_any (is_lie_of j) (arranged list) ≡ true =
-    sym (any_stroke (has_lied_as j) (is_lie_of j) p (numbers T) 0 (arranged list) (λ x i. refl)) ∙ (sym (ap (list_any (has_lied_as j)) (listed t order round p inside lieutenant)) ∙ there) in
+    let some : list_any (is_lie_of is_lie teller j) (arranged is_lie teller list) ≡ true =
+    sym (any_stroke (has_lied_as j) (is_lie_of is_lie teller j) p (numbers T) 0 (arranged is_lie teller list) (λ x i. refl)) ∙ (sym (ap (list_any (has_lied_as j)) (listed t order round p inside lieutenant)) ∙ there) in
     ap (list_any (has_lied_as j)) (drawn_first t order round p inside lieutenant)
-    ∙ (any_stroke (has_lied_as j) (is_lie_of j) p (numbers T) 0 (take most_rows (arranged list)) (λ x i. refl) ∙ liar_before t.generals j list few below (any_arranged (is_lie_of j) list some))
+    ∙ (any_stroke (has_lied_as j) (is_lie_of is_lie teller j) p (numbers T) 0 (take most_rows (arranged is_lie teller list)) (λ x i. refl) ∙ liar_before is_lie teller t.generals j list few below (any_arranged (is_lie_of is_lie teller j) is_lie teller list some))
 
 -- ---- one stroke for each thing
 
@@ -108,8 +111,8 @@ once t order p q inside lieutenant =
     let once_each : List Telling = firsts is_same [] T in
     count_within (is_of p q) (is_to q.round p) (strokes_of t order) (λ st e. its_list st e)
     ∙ (ap (count_by (is_of p q)) (listed t order q.round p inside lieutenant)
-    ∙ (count_strokes (is_of p q) (is_same q) p (numbers T) 0 (arranged (things T q.round)) (λ x i. ap (λ b. b && is_same q x) (eq-eqb p p refl))
-    ∙ (count_arranged (is_same q) (things T q.round) ∙ (sym (count_within_told (is_same q) (is_in q.round) once_each (λ x e. its_round x e)) ∙ told_once q T))))
+    ∙ (count_strokes (is_of p q) (is_same q) p (numbers T) 0 (arranged is_lie teller (things T q.round)) (λ x i. ap (λ b. b && is_same q x) (eq-eqb p p refl))
+    ∙ (count_arranged (is_same q) is_lie teller (things T q.round) ∙ (sym (count_within_told (is_same q) (is_in q.round) once_each (λ x e. its_round x e)) ∙ told_once q T))))
   where
     its_round : (x : Telling) → is_same q x ≡ true → is_in q.round x ≡ true
     its_round x e =
@@ -136,15 +139,15 @@ all_wide t order =
     all_range (IsWide t order) (lists_to t.commander (t.bound + 1) (tellings_of t order)) t.generals
     (λ p l. cond_both (p == t.commander) [] (lists_of p (tellings_of t order p) (t.bound + 1)) (AllByRecursion (IsWide t order)) (λ e. tt)
     (λ e. all_range (IsWide t order) (list_behind p (tellings_of t order p)) (t.bound + 1)
-    (λ k m. all_strokes (IsWide t order) (λ (x : Telling). Unit {0}) p (numbers (tellings_of t order p)) 0 (arranged (things (tellings_of t order p) (k + 1))) (λ x i u. refl)
-    (all_of (arranged (things (tellings_of t order p) (k + 1)))))))
+    (λ k m. all_strokes (IsWide t order) (λ (x : Telling). Unit {0}) p (numbers (tellings_of t order p)) 0 (arranged is_lie teller (things (tellings_of t order p) (k + 1))) (λ x i u. refl)
+    (all_of (arranged is_lie teller (things (tellings_of t order p) (k + 1)))))))
 
 -- ---- none is lost
 
 head_count : (f : Stroke → Bool) (x : Stroke) (xs : List Stroke) → count_by f (x ∷ xs) ≡ cond {A = ℕ} (f x) 1 0 + count_by f xs
 head_count f x xs = sum_by-cons (λ y. cond (f y) 1 0) x xs
 
-kept : (f : Stroke → Bool) (strokes : List Stroke) → count_by f (with_rows strokes) + count_by (λ x. is_past x && f x) strokes ≡ count_by f strokes
+pub kept : (f : Stroke → Bool) (strokes : List Stroke) → count_by f (with_rows strokes) + count_by (λ x. is_past x && f x) strokes ≡ count_by f strokes
 kept f [] = refl
 kept f (x ∷ xs) =
     let rest = kept f xs in

@@ -1,7 +1,9 @@
 pub mod Sameness
 pub mod TallyLemmas
+pub mod OrderLemmas
+pub mod LiesLemmas
 pub mod ListLemmas
-pub mod ArrangedLemmas
+pub mod OnceLemmas
 pub mod RowLemmas
 pub mod ExactLaws
 pub mod FoldLemmas

@@ -23,9 +23,10 @@ use Rattle.diagram.specs.declared.stroke.Stroke.{Stroke}
 use Rattle.diagram.specs.declared.telling.Telling.{Telling}
 use Rattle.diagram.specs.Facts.{strokes_of, telling_at, tellings_below, tellings_by, tellings_of}
 use Rattle.diagram.specs.Laws.{BlamesTraitors, IsDrawnHonest, OnlyTraitorsDiffer}
-use Rattle.diagram.specs.Lists.{arranged, firsts, is_in, is_same, labels_of, list_behind, lists_of, lists_to}
+use Rattle.diagram.specs.Lists.{is_in, is_lie, is_same, labels_of, list_behind, lists_of, lists_to, teller}
+use Rattle.diagram.specs.Order.{arranged, firsts}
 use Rattle.diagram.specs.Words.{kind_of}
-use Rattle.diagram.proofs.ArrangedLemmas.{all_arranged, all_filter, all_firsts}
+use Rattle.diagram.proofs.OrderLemmas.{all_arranged, all_filter, all_firsts}
 use Rattle.diagram.proofs.RowLemmas.{all_range, all_strokes}
 
 -- who tells what he took does not differ
@@ -96,8 +97,8 @@ module _ (M : Messages) (order : ℕ) (traitor : ℕ → Bool) (t : MessageTable
   list_plain p k general lieutenant =
       let T : List Telling = tellings_of t order p in
       let list : List Telling = filter (is_in (k + 1)) (firsts is_same [] T) in
-      all_strokes (IsPlain traitor) (IsHonest traitor) p (labels_of T) 0 (arranged list) (λ x i h. h)
-      (all_arranged (IsHonest traitor) list (all_filter (IsHonest traitor) (is_in (k + 1)) (firsts is_same [] T) (all_firsts (IsHonest traitor) is_same [] T (all_told p general lieutenant))))
+      all_strokes (IsPlain traitor) (IsHonest traitor) p (labels_of T) 0 (arranged is_lie teller list) (λ x i h. h)
+      (all_arranged (IsHonest traitor) is_lie teller list (all_filter (IsHonest traitor) (is_in (k + 1)) (firsts is_same [] T) (all_firsts (IsHonest traitor) is_same [] T (all_told p general lieutenant))))
 
   all_plain : AllByRecursion (IsPlain traitor) (strokes_of t order)
   unfolding strokes_of

@@ -10,8 +10,9 @@ use Rattle.label.proofs.Places.{all-append}
 use Rattle.label.proofs.Ranks.{range_push}
 use Rattle.diagram.specs.declared.stroke.Stroke.{Stroke}
 use Rattle.diagram.specs.declared.telling.Telling.{Telling}
-use Rattle.diagram.specs.Lists.{all_lists, arranged, firsts, has_row, is_in, is_lie, is_same, is_to, labels_of, list_behind, list_of, list_to, lists_of, lists_to, most_rows, stroke_of, strokes_from, with_rows}
-use Rattle.diagram.proofs.ArrangedLemmas.{all_arranged, all_firsts, all_passed}
+use Rattle.diagram.specs.Lists.{all_lists, has_row, is_in, is_lie, is_same, is_to, labels_of, list_behind, list_of, list_to, lists_of, lists_to, stroke_of, strokes_from, teller, with_rows}
+use Rattle.diagram.specs.Order.{arranged, firsts, most_rows}
+use Rattle.diagram.proofs.OrderLemmas.{all_arranged, all_firsts, all_passed}
 
 -- ---- one of many lists
 
@@ -76,16 +77,16 @@ module _ (p r : ℕ) (T : List Telling) where
   other_round : (k : ℕ) → k + 1 ≢ r → filter (is_to r p) (list_behind p T k) ≡ []
   other_round k apart =
       none_kept (is_to r p) (list_behind p T k)
-      (all_strokes (λ st. is_to r p st ≡ false) (λ x. is_in (k + 1) x ≡ true) p (labels_of T) 0 (arranged (filter (is_in (k + 1)) (firsts is_same [] T)))
+      (all_strokes (λ st. is_to r p st ≡ false) (λ x. is_in (k + 1) x ≡ true) p (labels_of T) 0 (arranged is_lie teller (filter (is_in (k + 1)) (firsts is_same [] T)))
       (λ x i e. and_left (x.round == r) (p == p) (ne_eqb x.round r (λ f. apart (sym (eqb-true x.round (k + 1) e) ∙ f))))
-      (all_arranged (λ x. is_in (k + 1) x ≡ true) (filter (is_in (k + 1)) (firsts is_same [] T)) (all_passed (is_in (k + 1)) (firsts is_same [] T))))
+      (all_arranged (λ x. is_in (k + 1) x ≡ true) is_lie teller (filter (is_in (k + 1)) (firsts is_same [] T)) (all_passed (is_in (k + 1)) (firsts is_same [] T))))
 
   own_round : (k : ℕ) → k + 1 ≡ r → filter (is_to r p) (list_behind p T k) ≡ list_of p T r
   own_round k e =
       all_kept (is_to r p) (list_behind p T k)
-      (all_strokes (λ st. is_to r p st ≡ true) (λ x. is_in (k + 1) x ≡ true) p (labels_of T) 0 (arranged (filter (is_in (k + 1)) (firsts is_same [] T)))
+      (all_strokes (λ st. is_to r p st ≡ true) (λ x. is_in (k + 1) x ≡ true) p (labels_of T) 0 (arranged is_lie teller (filter (is_in (k + 1)) (firsts is_same [] T)))
       (λ x i f. and_from (x.round == r) (p == p) (eq-eqb x.round r (eqb-true x.round (k + 1) f ∙ e)) (eq-eqb p p refl))
-      (all_arranged (λ x. is_in (k + 1) x ≡ true) (filter (is_in (k + 1)) (firsts is_same [] T)) (all_passed (is_in (k + 1)) (firsts is_same [] T))))
+      (all_arranged (λ x. is_in (k + 1) x ≡ true) is_lie teller (filter (is_in (k + 1)) (firsts is_same [] T)) (all_passed (is_in (k + 1)) (firsts is_same [] T))))
       ∙ ap (list_of p T) e
 
 -- those to another
@@ -115,7 +116,7 @@ no_list p r rounds T a out =
     let his : List Telling = firsts is_same [] T in
     let none : filter (is_in r) his ≡ [] =
     none_in r his (weaken (IsWithin rounds) (λ x. is_in r x ≡ false) his (λ x w. ne_eqb x.round r (out x w)) (all_firsts (IsWithin rounds) is_same [] T a)) in
-    ap (λ xs. strokes_from p (labels_of T) 0 (arranged xs)) none
+    ap (λ xs. strokes_from p (labels_of T) 0 (arranged is_lie teller xs)) none
 
 pub lists_hold : (p r rounds : ℕ) (T : List Telling) → AllByRecursion (IsWithin rounds) T → list_to r p (lists_of p T rounds) ≡ list_of p T r
 lists_hold p zero rounds T a =
@@ -141,7 +142,7 @@ his_list n c rounds p r T inside lieutenant a =
     ∙ (one_of g p n inside
     (λ q apart. cond_both (q == c) [] (lists_of q (T q) rounds) (λ xs. filter (is_to r p) xs ≡ []) (λ e. refl)
     (λ e. filter_flat (is_to r p) (list_behind q (T q)) (range_with_len 0 rounds)
-    ∙ none_of (λ k. filter (is_to r p) (list_behind q (T q) k)) rounds (λ k l. other_receiver p r q (labels_of (T q)) 0 (arranged (filter (is_in (k + 1)) (firsts is_same [] (T q)))) apart)))
+    ∙ none_of (λ k. filter (is_to r p) (list_behind q (T q) k)) rounds (λ k l. other_receiver p r q (labels_of (T q)) 0 (arranged is_lie teller (filter (is_in (k + 1)) (firsts is_same [] (T q)))) apart)))
     ∙ (ap (filter (is_to r p)) (cond-false (p == c) [] (lists_of p (T p) rounds) (ne_eqb p c lieutenant)) ∙ lists_hold p r rounds (T p) a))
 
 -- ---- rows of a list
@@ -203,11 +204,11 @@ count_strokes f g p labels row (x ∷ xs) h =
     omega arith
 
 -- what passes both tests
-pub filters_swap : (f g : Stroke → Bool) (xs : List Stroke) → filter f (filter g xs) ≡ filter g (filter f xs)
+pub filters_swap : {A : Type 0} (f g : A → Bool) (xs : List A) → filter f (filter g xs) ≡ filter g (filter f xs)
 filters_swap f g [] = refl
-filters_swap f g (x ∷ xs) = by_case (f x) (g x) refl refl (filters_swap f g xs)
+filters_swap {A} f g (x ∷ xs) = by_case (f x) (g x) refl refl (filters_swap f g xs)
   where
-    kept : (h : Stroke → Bool) (ys : List Stroke) (b : Bool) → h x ≡ b → filter h (x ∷ ys) ≡ (if b then x ∷ filter h ys else filter h ys)
+    kept : (h : A → Bool) (ys : List A) (b : Bool) → h x ≡ b → filter h (x ∷ ys) ≡ (if b then x ∷ filter h ys else filter h ys)
     kept h ys b e = ap (λ c. if c then x ∷ filter h ys else filter h ys) e
 
     by_case : (a b : Bool) → f x ≡ a → g x ≡ b → filter f (filter g xs) ≡ filter g (filter f xs) → filter f (if b then x ∷ filter g xs else filter g xs) ≡ filter g (if a then x ∷ filter f xs else filter f xs)

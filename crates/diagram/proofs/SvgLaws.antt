@@ -22,7 +22,8 @@ use Rattle.diagram.specs.Laws.{DiagramsAreElements}
 use Rattle.diagram.specs.Legend.{differs_meaning, foot_height, legend, legend_of, marks_of, meaning_at, meaning_if, missing_meaning, one_if, rows, shape_if, shape_key, shape_meanings, stroke_meanings, stroke_rows, told_meaning, wide_meaning}
 use Rattle.diagram.specs.Layout.{access_top, board, column, fan_top, height, rows_top, top_of, width}
 use Rattle.diagram.specs.Left.{cut_words, is_cut, is_left, is_left_lie, left_in_full, left_words, more_at, more_of, more_told, more_top, mores, mores_in}
-use Rattle.diagram.specs.Lists.{most_rows, with_rows}
+use Rattle.diagram.specs.Lists.{with_rows}
+use Rattle.diagram.specs.Order.{most_rows}
 use Rattle.diagram.specs.Shapes.{group_at, group_start, line, mark, said_if, shape_of, sort_of, stroke_at, stroke_open, stroke_way, text_at, text_start, title}
 use Rattle.diagram.specs.Svg.{board_head, box_words, campaign_words, description, general_head, head, head_of, heads, key_end, key_start, look, picture, start, stroke_key, svg_text}
 use Rattle.diagram.specs.Words.{access_words, answer_words, asked_words, copied_words, copy_words, differs_words, from_words, general_words, in_full, is_copy, kind, kind_of, labels_words, order_words, outline, outline_of, role_words, row_words, shown_words, stroke_words, swap_words, tells_words, word_words}
@@ -413,25 +414,25 @@ band_content n strokes accesses wide before =
 left_text : (left lies : ℕ) → IsText (left_words left lies)
 unfolding left_words
 left_text left lies =
-    many (codes "and ") (decimal left ++ (codes " more rows, " ++ (decimal lies ++ codes " dishonest"))) (bare_text (codes "and ") refl)
-    (many (decimal left) (codes " more rows, " ++ (decimal lies ++ codes " dishonest")) (decimal_text left)
-    (many (codes " more rows, ") (decimal lies ++ codes " dishonest") (bare_text (codes " more rows, ") refl)
+    many (codes "and ") (decimal left ++ (codes " more, " ++ (decimal lies ++ codes " dishonest"))) (bare_text (codes "and ") refl)
+    (many (decimal left) (codes " more, " ++ (decimal lies ++ codes " dishonest")) (decimal_text left)
+    (many (codes " more, ") (decimal lies ++ codes " dishonest") (bare_text (codes " more, ") refl)
     (many (decimal lies) (codes " dishonest") (decimal_text lies) (bare_text (codes " dishonest") refl))))
 
 left_full_text : (p round left lies : ℕ) → IsText (left_in_full p round left lies)
 unfolding left_in_full
 left_full_text p round left lies =
-    let last : List ℕ = codes " of them an honest relay would tell something else" in
-    let four : List ℕ = codes ", which are not drawn: in " ++ (decimal lies ++ last) in
-    let three : List ℕ = codes " more rows in round " ++ (decimal round ++ four) in
+    let last : List ℕ = codes " of them a loyal general would do otherwise" in
+    let four : List ℕ = codes ", not drawn: in " ++ (decimal lies ++ last) in
+    let three : List ℕ = codes " more in round " ++ (decimal round ++ four) in
     let two : List ℕ = codes " has " ++ (decimal left ++ three) in
     many (codes "general ") (decimal p ++ two) (bare_text (codes "general ") refl)
     (many (decimal p) two (decimal_text p)
     (many (codes " has ") (decimal left ++ three) (bare_text (codes " has ") refl)
     (many (decimal left) three (decimal_text left)
-    (many (codes " more rows in round ") (decimal round ++ four) (bare_text (codes " more rows in round ") refl)
+    (many (codes " more in round ") (decimal round ++ four) (bare_text (codes " more in round ") refl)
     (many (decimal round) four (decimal_text round)
-    (many (codes ", which are not drawn: in ") (decimal lies ++ last) (bare_text (codes ", which are not drawn: in ") refl)
+    (many (codes ", not drawn: in ") (decimal lies ++ last) (bare_text (codes ", not drawn: in ") refl)
     (many (decimal lies) last (decimal_text lies) (bare_text last refl))))))))
 
 more_content : (top round p left lies : ℕ) → IsContent (more_at top round p left lies)
@@ -442,7 +443,7 @@ more_content top round p left lies =
     (λ _. group_content (column p) top (title full ++ text_at (codes "small") 12 4 below)
     (joined (title full) (text_at (codes "small") 12 4 below) (title_content full (left_full_text p round left lies)) (text_content (codes "small") 12 4 below small (left_text left lies))))
 
-mores_content : (n : ℕ) (strokes drawn : List Stroke) (accesses : List Access) (rounds : ℕ) → IsContent (mores n strokes drawn accesses rounds)
+pub mores_content : (n : ℕ) (strokes drawn : List Stroke) (accesses : List Access) (rounds : ℕ) → IsContent (mores n strokes drawn accesses rounds)
 mores_content n strokes drawn accesses rounds =
     all (mores_in n strokes drawn accesses) (range_with_len 0 rounds)
     (λ before. all (more_of strokes (more_top n drawn accesses before) (before + 1)) (range_with_len 0 n)
@@ -576,11 +577,11 @@ shape_key_text marks =
     let three : List ℕ = codes " Circle at a name: a loyal general." in
     three_texts marks.point marks.square marks.loyal one two three (bare_text one refl) (bare_text two refl) (bare_text three refl)
 
-cut_text : IsText cut_words
+pub cut_text : IsText cut_words
 unfolding cut_words
 cut_text =
-    let first : List ℕ = codes " rows, of orders and of silence. A longer one begins with the first row of each teller in which an " in
-    let second : List ℕ = codes "honest relay would tell something else, then come the others of this kind, then the rest; below it stands how " in
+    let first : List ℕ = codes " rows, of orders and of silence. A longer one begins with the first row of each general in which a " in
+    let second : List ℕ = codes "loyal one would do otherwise, then come the others of this kind, then the rest; below it stands how " in
     let third : List ℕ = codes "many are not drawn." in
     many (codes " A list has at most ") (decimal most_rows ++ (first ++ (second ++ third))) (bare_text (codes " A list has at most ") refl)
     (many (decimal most_rows) (first ++ (second ++ third)) (decimal_text most_rows)
@@ -665,7 +666,7 @@ heads_content s accesses =
 abbrev pub attributes : List ℕ → List ℕ → List ℕ
 attributes w h =
     attribute (codes "xmlns") (codes "http://www.w3.org/2000/svg")
-    ++ (attribute (codes "role") (codes "img") ++ (attribute (codes "width") w ++ (attribute (codes "height") h ++ (attribute (codes "viewBox") (codes "0 0 " ++ (w ++ (codes " " ++ h))) ++ []))))
+    ++ (attribute (codes "role") (codes "graphics-document document") ++ (attribute (codes "width") w ++ (attribute (codes "height") h ++ (attribute (codes "viewBox") (codes "0 0 " ++ (w ++ (codes " " ++ h))) ++ []))))
 
 box_parts : (p1 w q p2 h p3 o b g : List ℕ)
     → p1 ++ (w ++ ((q ++ p2) ++ (h ++ ((q ++ p3 ++ o) ++ (w ++ (b ++ (h ++ (q ++ g))))))))
@@ -686,7 +687,7 @@ pub picture_is : (w h : ℕ) (inside : List ℕ) → picture w h inside ≡ elem
 unfolding start box_words
 picture_is w h inside =
     ap (λ xs. start ++ xs ++ inside ++ codes "</svg>\n") (box_whole (decimal w) (decimal h))
-    ∙ (tag_parts (codes "<svg" ++ attribute (codes "xmlns") (codes "http://www.w3.org/2000/svg")) (attribute (codes "role") (codes "img")) (attribute (codes "width") (decimal w)) (attribute (codes "height") (decimal h))
+    ∙ (tag_parts (codes "<svg" ++ attribute (codes "xmlns") (codes "http://www.w3.org/2000/svg")) (attribute (codes "role") (codes "graphics-document document")) (attribute (codes "width") (decimal w)) (attribute (codes "height") (decimal h))
     (attribute (codes "viewBox") (codes "0 0 " ++ (decimal w ++ (codes " " ++ decimal h)))) inside (codes "</svg>"))
 
 pub svg_tag : (w h : ℕ) → IsTag (codes "svg") (attributes (decimal w) (decimal h))
@@ -697,7 +698,7 @@ svg_tag w h =
       names = codes "xmlns" ∷ codes "role" ∷ codes "width" ∷ codes "height" ∷ codes "viewBox" ∷ [];
       attributed_so =
           attributed (codes "xmlns") (codes "http://www.w3.org/2000/svg") _ (codes "role" ∷ codes "width" ∷ codes "height" ∷ codes "viewBox" ∷ []) refl (bare_text (codes "http://www.w3.org/2000/svg") refl) refl
-          (attributed (codes "role") (codes "img") _ (codes "width" ∷ codes "height" ∷ codes "viewBox" ∷ []) refl (bare_text (codes "img") refl) refl
+          (attributed (codes "role") (codes "graphics-document document") _ (codes "width" ∷ codes "height" ∷ codes "viewBox" ∷ []) refl (bare_text (codes "graphics-document document") refl) refl
           (attributed (codes "width") (decimal w) _ (codes "height" ∷ codes "viewBox" ∷ []) refl (decimal_text w) refl
           (attributed (codes "height") (decimal h) _ (codes "viewBox" ∷ []) refl (decimal_text h) refl
           (attributed (codes "viewBox") (codes "0 0 " ++ (decimal w ++ (codes " " ++ decimal h))) [] [] refl box refl no_attributes))));

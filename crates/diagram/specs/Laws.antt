@@ -15,7 +15,8 @@ use Rattle.diagram.specs.declared.stroke.Stroke.{Stroke}
 use Rattle.diagram.specs.declared.telling.Telling.{Telling}
 use Rattle.diagram.specs.Facts.{first_telling, strokes_of, telling_at, tellings_of}
 use Rattle.diagram.specs.Left.{is_left, is_left_lie}
-use Rattle.diagram.specs.Lists.{is_lie_to, is_same, is_to, labels_of, list_to, most_rows, with_rows}
+use Rattle.diagram.specs.Lists.{is_lie_to, is_same, is_to, labels_of, list_to, with_rows}
+use Rattle.diagram.specs.Order.{most_rows}
 use Rattle.diagram.specs.Svg.{svg_text}
 use Rattle.diagram.specs.Words.{kind}
 

@@ -1,4 +1,4 @@
--- How many strokes a picture has no room for: of each list of what a lieutenant was told in a round all but the first
+-- How many strokes a picture has no room for: of each list of what a general was told in a round all but the first
 -- rows.
 use Rattle.std.specs.Prelude.{ℕ, ◌+◌, ◌*◌, ◌==◌, ◌&&◌, nat_le, Bool, if◌then◌else◌, List, [], ◌++◌, codes, count_by, flat_map}
 use Rattle.std.specs.Fmt.{decimal}
@@ -6,7 +6,8 @@ use Rattle.std.specs.List.{list_any, range_with_len}
 use Rattle.board.specs.Board.{Access}
 use Rattle.diagram.specs.declared.stroke.Stroke.{Stroke}
 use Rattle.diagram.specs.Layout.{column, rows_top, top_of}
-use Rattle.diagram.specs.Lists.{is_lie_to, is_to, most_rows}
+use Rattle.diagram.specs.Lists.{is_lie_to, is_to}
+use Rattle.diagram.specs.Order.{most_rows}
 use Rattle.diagram.specs.Shapes.{group_at, text_at, title}
 
 -- which strokes are not drawn
@@ -17,28 +18,28 @@ is_past stroke = nat_le most_rows stroke.row
 abbrev pub is_cut : List Stroke → Bool
 is_cut strokes = list_any is_past strokes
 
--- which of a round to p are not, and which of these an honest relay would not tell
+-- which of a round to p are not, and of which of these a loyal general would do otherwise
 abbrev pub is_left : ℕ → ℕ → Stroke → Bool
 is_left round p stroke = is_past stroke && is_to round p stroke
 
 abbrev pub is_left_lie : ℕ → ℕ → Stroke → Bool
 is_left_lie round p stroke = is_past stroke && is_lie_to round p stroke
 
--- how many they are, below the list; and the same for those who point at it, or hear it
+-- how many they are, below the list; and the same for those who point at it
 unfoldable pub left_words : ℕ → ℕ → List ℕ
-left_words left lies = codes "and " ++ (decimal left ++ (codes " more rows, " ++ (decimal lies ++ codes " dishonest")))
+left_words left lies = codes "and " ++ (decimal left ++ (codes " more, " ++ (decimal lies ++ codes " dishonest")))
 
 unfoldable pub left_in_full : ℕ → ℕ → ℕ → ℕ → List ℕ
 left_in_full p round left lies = codes "general "
-    ++ (decimal p ++ (codes " has " ++ (decimal left ++ (codes " more rows in round "
-    ++ (decimal round ++ (codes ", which are not drawn: in "
-    ++ (decimal lies ++ codes " of them an honest relay would tell something else")))))))
+    ++ (decimal p ++ (codes " has " ++ (decimal left ++ (codes " more in round "
+    ++ (decimal round ++ (codes ", not drawn: in "
+    ++ (decimal lies ++ codes " of them a loyal general would do otherwise")))))))
 
 -- what is told to those who do not see it, where any is not drawn
 unfoldable pub cut_words : List ℕ
 cut_words = codes " A list has at most " ++ (decimal most_rows
-    ++ (codes " rows, of orders and of silence. A longer one begins with the first row of each teller in which an "
-    ++ (codes "honest relay would tell something else, then come the others of this kind, then the rest; below it stands how "
+    ++ (codes " rows, of orders and of silence. A longer one begins with the first row of each general in which a "
+    ++ (codes "loyal one would do otherwise, then come the others of this kind, then the rest; below it stands how "
     ++ codes "many are not drawn.")))
 
 abbrev pub more_told : ℕ → ℕ → ℕ → ℕ → List ℕ

@@ -1,13 +1,14 @@
 -- The lists of what a lieutenant was told, one for each round: a row for each thing that a general told him.
-use Rattle.std.specs.Prelude.{ℕ, ◌+◌, ◌==◌, nat_le, nat_lt, Bool, not, ◌&&◌, if◌then◌else◌, List, [], ◌∷◌, ◌++◌, length, count_by, filter, flat_map, nat_eq, unwrap_or}
+use Rattle.std.specs.Prelude.{ℕ, ◌+◌, ◌==◌, nat_lt, Bool, ◌&&◌, if◌then◌else◌, List, [], ◌∷◌, count_by, filter, flat_map, nat_eq, unwrap_or}
 use Rattle.std.specs.Bool.{beq}
 use Rattle.std.specs.HashMap.{get, HashMap}
-use Rattle.std.specs.List.{list_any, range_with_len}
+use Rattle.std.specs.List.{range_with_len}
 use Rattle.std.specs.Option.{option_eq}
 use Rattle.std.specs.declared.hash.BuildHasherDefault.{BuildHasherDefault}
 use Rattle.std.specs.declared.hash.FoldHasher.{FoldHasher}
 use Rattle.diagram.specs.declared.stroke.Stroke.{Stroke}
 use Rattle.diagram.specs.declared.telling.Telling.{Telling}
+use Rattle.diagram.specs.Order.{arranged, firsts, most_rows}
 
 -- both make one row: the same general told the same in the same round
 abbrev pub is_same : Telling → Telling → Bool
@@ -16,36 +17,11 @@ is_same one other =
     && (one.teller == other.teller
     && (option_eq nat_eq one.told other.told && beq one.differs other.differs))
 
-abbrev pub is_by_same : Telling → Telling → Bool
-is_by_same one other = one.teller == other.teller
-
--- of these, before which others stand, those that are not the same as one before them, and those that are
-unfoldable pub firsts : (Telling → Telling → Bool) → List Telling → List Telling → List Telling
-firsts same before [] = []
-firsts same before (x ∷ xs) = (if list_any (same x) before then [] else x ∷ []) ++ firsts same (before ++ x ∷ []) xs
-
-unfoldable pub repeats : (Telling → Telling → Bool) → List Telling → List Telling → List Telling
-repeats same before [] = []
-repeats same before (x ∷ xs) = (if list_any (same x) before then x ∷ [] else []) ++ repeats same (before ++ x ∷ []) xs
-
--- how many rows of a list are drawn at most
-abbrev pub most_rows : ℕ
-most_rows = 24
-
 abbrev pub is_lie : Telling → Bool
 is_lie telling = telling.differs
 
-abbrev pub is_honest : Telling → Bool
-is_honest telling = not telling.differs
-
--- the first lie of each teller, then the other lies, then what is honest
-abbrev pub lies_first : List Telling → List Telling
-lies_first list =
-    firsts is_by_same [] (filter is_lie list) ++ repeats is_by_same [] (filter is_lie list) ++ filter is_honest list
-
--- the order of a list's rows: that of the labels, or where not all are drawn lies first
-abbrev pub arranged : List Telling → List Telling
-arranged list = if nat_le (length list) most_rows then list else lies_first list
+abbrev pub teller : Telling → ℕ
+teller telling = telling.teller
 
 -- of how many labels something was told, by these counts
 abbrev pub count_of : HashMap Telling ℕ (BuildHasherDefault FoldHasher) → Telling → ℕ
@@ -78,7 +54,8 @@ labels_of tellings x = count_by (is_same x) tellings
 -- his list of a round
 abbrev pub list_of : ℕ → List Telling → ℕ → List Stroke
 list_of p tellings round =
-    strokes_from p (labels_of tellings) 0 (arranged (filter (is_in round) (firsts is_same [] tellings)))
+    strokes_from p (labels_of tellings) 0
+    (arranged is_lie teller (filter (is_in round) (firsts is_same [] tellings)))
 
 -- that behind so many rounds, and those of so many rounds
 abbrev pub list_behind : ℕ → List Telling → ℕ → List Stroke

@@ -42,7 +42,7 @@ title_start = codes "<title>"
 abbrev pub title_end : List ℕ
 title_end = codes "</title>\n"
 
--- what is told of an element to those who point at it, or hear it
+-- what is told of an element to those who point at it
 abbrev pub title : List ℕ → List ℕ
 title words = title_start ++ words ++ title_end
 

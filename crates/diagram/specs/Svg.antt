@@ -20,7 +20,7 @@ use Rattle.diagram.specs.Words.{copied_words, general_words, role_words}
 
 -- what every picture begins with, and its size, with its units
 unfoldable pub start : List ℕ
-start = codes "<svg xmlns=\"http://www.w3.org/2000/svg\" role=\"img\""
+start = codes "<svg xmlns=\"http://www.w3.org/2000/svg\" role=\"graphics-document document\""
 
 unfoldable pub box_words : ℕ → ℕ → List ℕ
 box_words w h =

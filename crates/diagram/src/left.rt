@@ -30,14 +30,14 @@ pub(crate) fn with_rows(alloc: Global, strokes: &[Stroke]) -> Result<Vec<Stroke>
 }
 
 /// Whether a stroke has a row, and so is drawn.
-fn has_row(stroke: &Stroke) -> bool
+pub fn has_row(stroke: &Stroke) -> bool
     ensures { result ≡ has_row stroke.now }
 {
     stroke.row < MOST
 }
 
 /// Whether one of these is not drawn.
-pub(crate) fn is_cut(strokes: &[Stroke]) -> bool
+pub fn is_cut(strokes: &[Stroke]) -> bool
     ensures { result ≡ is_cut strokes.now }
 {
     strokes.iter().any(|stroke| is_past(stroke))
@@ -61,7 +61,11 @@ fn push_if(drawn: &mut Vec<Stroke>, stroke: Stroke, is_drawn: bool) -> Result<()
 }
 
 /// Adds how many are not drawn, below the rows of each of so many bands.
-pub(crate) fn put_mores(
+///
+/// # Errors
+///
+/// No memory for the text.
+pub fn put_mores(
     out: &mut String,
     generals: u8,
     strokes: &[Stroke],
@@ -153,7 +157,7 @@ fn count_left(strokes: &[Stroke], round: usize, receiver: u8) -> usize
         .count()
 }
 
-/// How many of these an honest relay would not tell.
+/// Of how many of these a loyal general would do otherwise.
 fn count_left_lies(strokes: &[Stroke], round: usize, receiver: u8) -> usize
     ensures { result ≡ count_by (is_left_lie round receiver) strokes.now }
 {
@@ -196,7 +200,7 @@ fn put_more_told(
     put_left_text(out, left, lies)
 }
 
-/// Adds it for those who point at it, or hear it.
+/// Adds it for those who point at it.
 fn put_left_title(
     out: &mut String,
     general: u8,
@@ -225,8 +229,8 @@ fn put_left_in_full(
 {
     write!(
         out,
-        "general {general} has {left} more rows in round {round}, which are not drawn: in {lies} of them an honest \
-         relay would tell something else"
+        "general {general} has {left} more in round {round}, not drawn: in {lies} of them a loyal general would do \
+         otherwise"
     )
 }
 
@@ -245,12 +249,16 @@ fn put_left_text(out: &mut String, left: usize, lies: usize) -> Result<(), Alloc
 fn put_left_words(out: &mut String, left: usize, lies: usize) -> Result<(), AllocError>
     ensures { OnOk result (string_bytes out.new ≡ string_bytes out.old ++ left_words left lies) }
 {
-    write!(out, "and {left} more rows, {lies} dishonest")
+    write!(out, "and {left} more, {lies} dishonest")
 }
 
 /// Adds for those who do not see the picture, where strokes are not drawn, that they are not.
+///
+/// # Errors
+///
+/// No memory for the text.
 #[tactic(auto, unfolding(crate::specs::Shapes::said_if))]
-pub(crate) fn put_cut(out: &mut String, is_cut: bool) -> Result<(), AllocError>
+pub fn put_cut(out: &mut String, is_cut: bool) -> Result<(), AllocError>
     ensures { OnOk result (string_bytes out.new ≡ string_bytes out.old ++ said_if is_cut cut_words) }
 {
     if is_cut { put_cut_words(out) } else { Ok(()) }
@@ -265,7 +273,7 @@ fn put_cut_words(out: &mut String) -> Result<(), AllocError>
     write!(
         out,
         " A list has at most {most} rows, of orders and of silence. A longer one begins with the first row of each \
-         teller in which an honest relay would tell something else, then come the others of this kind, then the rest; \
-         below it stands how many are not drawn."
+         general in which a loyal one would do otherwise, then come the others of this kind, then the rest; below it \
+         stands how many are not drawn."
     )
 }

@@ -1,6 +1,7 @@
 //! The lists of what a lieutenant was told, one for each round.
 ghost use Rattle.std.specs.Prelude.{ℕ, ◌≡◌, ◌+◌, ◌<◌, ◌^◌, ◌++◌, [], false, IfOk, OnOk, count_by, filter};
-ghost use Rattle.diagram.specs.Lists.{arranged, count_of, firsts, is_in, is_same, lists_of, stroke_of, strokes_from};
+ghost use Rattle.diagram.specs.Lists.{count_of, is_in, is_lie, is_same, lists_of, stroke_of, strokes_from, teller};
+ghost use Rattle.diagram.specs.Order.{arranged, firsts};
 ghost use Rattle.diagram.specs.declared.telling.Telling.{Telling};
 
 use crate::order::{arranged, told_in};
@@ -42,7 +43,7 @@ fn push_list(
     round: usize,
 ) -> Result<(), AllocError>
     ensures { OnOk result (strokes.new.items ≡ strokes.old.items
-        ++ strokes_from receiver (count_of counts.now) 0 (arranged (filter (is_in round) things.now))) }
+        ++ strokes_from receiver (count_of counts.now) 0 (arranged is_lie teller (filter (is_in round) things.now))) }
 {
     let list = arranged(alloc, told_in(alloc, things, round)?)?;
     push_rows(strokes, receiver, counts, list.as_slice())
@@ -82,7 +83,7 @@ fn stroke_of(receiver: u8, telling: &Telling, labels: usize, row: usize) -> Stro
 }
 
 /// What was told, each thing once.
-#[tactic(auto, unfolding(crate::specs::Lists::firsts))]
+#[tactic(auto, unfolding(crate::specs::Order::firsts))]
 fn told_once(alloc: Global, tellings: &[Telling]) -> Result<Vec<Telling>, AllocError>
     ensures { IfOk result (λ things. things.items ≡ firsts is_same [] tellings.now) }
 {

@@ -1,13 +1,14 @@
 //! In which order the rows of a list stand.
-ghost use Rattle.std.specs.Prelude.{◌≡◌, ◌++◌, ◌∷◌, [], cond, filter, IfOk, OnOk};
+ghost use Rattle.std.specs.Prelude.{◌≡◌, ◌++◌, ◌∷◌, [], cond, filter, not, IfOk, OnOk};
 ghost use Rattle.std.specs.List.{list_any};
-ghost use Rattle.diagram.specs.Lists.{arranged, firsts, is_by_same, is_honest, is_in, is_lie, lies_first, most_rows};
+ghost use Rattle.diagram.specs.Lists.{is_in, is_lie, teller};
+ghost use Rattle.diagram.specs.Order.{arranged, firsts, is_by_one, lies_first, most_rows};
 
 use crate::telling::Telling;
 use std::alloc::{AllocError, Global};
 
 /// How many rows of a list are drawn at most.
-pub(crate) const MOST: usize = 24;
+pub const MOST: usize = 24;
 
 /// A list as its rows stand: by labels, or where not all are drawn, the first lie of each teller, then the other lies,
 /// then what is honest.
@@ -16,7 +17,7 @@ pub(crate) const MOST: usize = 24;
 ///
 /// No memory for it; so of every function here.
 pub(crate) fn arranged(alloc: Global, list: Vec<Telling>) -> Result<Vec<Telling>, AllocError>
-    ensures { IfOk result (λ rows. rows.items ≡ arranged list.items) }
+    ensures { IfOk result (λ rows. rows.items ≡ arranged is_lie teller list.items) }
 {
     if list.len() <= MOST {
         return Ok(list);
@@ -25,9 +26,9 @@ pub(crate) fn arranged(alloc: Global, list: Vec<Telling>) -> Result<Vec<Telling>
 }
 
 /// The first lie of each teller, then the other lies, then what is honest.
-#[tactic(auto, unfolding(crate::specs::Lists::firsts, crate::specs::Lists::repeats))]
+#[tactic(auto, unfolding(crate::specs::Order::firsts, crate::specs::Order::repeats))]
 fn lies_first(alloc: Global, list: &[Telling]) -> Result<Vec<Telling>, AllocError>
-    ensures { IfOk result (λ rows. rows.items ≡ lies_first list.now) }
+    ensures { IfOk result (λ rows. rows.items ≡ lies_first is_lie teller list.now) }
 {
     let lies = lies(alloc, list)?;
     let mut rows = Vec::new(alloc);
@@ -45,7 +46,7 @@ fn lies_first(alloc: Global, list: &[Telling]) -> Result<Vec<Telling>, AllocErro
 
 /// Whether the teller of one of these told this too.
 fn is_by_one_of(tellings: &[Telling], telling: &Telling) -> bool
-    ensures { result ≡ list_any (is_by_same telling.now) tellings.now }
+    ensures { result ≡ list_any (is_by_one teller telling.now) tellings.now }
 {
     tellings.iter().any(|x| telling.teller == x.teller)
 }
@@ -63,7 +64,7 @@ fn lies(alloc: Global, list: &[Telling]) -> Result<Vec<Telling>, AllocError>
 
 /// Those that he would.
 fn honest(alloc: Global, list: &[Telling]) -> Result<Vec<Telling>, AllocError>
-    ensures { IfOk result (λ kept. kept.items ≡ filter is_honest list.now) }
+    ensures { IfOk result (λ kept. kept.items ≡ filter (λ x. not (is_lie x)) list.now) }
 {
     let mut kept = Vec::new(alloc);
     for telling in list {

@@ -77,7 +77,7 @@ pub fn campaign_svg<H: Heard>(
 pub fn start() -> &'static str
     ensures { result.now ≡ start }
 {
-    "<svg xmlns=\"http://www.w3.org/2000/svg\" role=\"img\""
+    "<svg xmlns=\"http://www.w3.org/2000/svg\" role=\"graphics-document document\""
 }
 
 /// Adds the size of a picture, and its units, which are those of its size, and ends its first tag.

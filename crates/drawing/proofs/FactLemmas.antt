@@ -2,7 +2,7 @@
 use Rattle.std.proofs.Common.{ℕ, zero, suc, ◌+◌, ◌-◌, ◌*◌, ◌^◌, ◌<◌, ◌≤◌, ◌≡◌, true, List, ◌∷◌, Some, refl, sym, ap, ◌∙◌, arith, lit≤}
 use Rattle.std.specs.List.{list_all}
 use Rattle.std.proofs.Math.Nat.{mul-le-mul, pow-suc}
-use Rattle.combine.specs.Chosen.{combined_by}
+use Rattle.combine.specs.Rule.{combined_by}
 use Rattle.label.specs.Labels.{others}
 use Rattle.label.specs.Oral.{om}
 use Rattle.book.specs.Explained.{held, list_of}

@@ -9,9 +9,9 @@ use Rattle.std.proofs.lemmas.List.Elements.{All-from_recursion}
 use Rattle.std.proofs.lemmas.List.Sums.{sum_by-cons}
 use Rattle.std.proofs.Math.Nat.{suc-mul}
 use Rattle.combine.specs.declared.chosen.Rule.{Rule}
-use Rattle.combine.specs.Chosen.{chosen_is_rule, combined_by}
-use Rattle.combine.specs.Outcome.{outcome_of}
-use Rattle.combine.proofs.Found.{outcomes_law}
+use Rattle.combine.specs.Laws.{chosen_is_rule}
+use Rattle.combine.specs.Rule.{combined_by, outcome_of}
+use Rattle.combine.proofs.RuleLaws.{outcomes_law}
 use Rattle.label.specs.Labels.{is_distinct, on, others}
 use Rattle.label.specs.Oral.{AllBelow, om, order_of, taken}
 use Rattle.label.proofs.Counting.{distinct-push, majority_counts, on-push, others-length, others-on}

@@ -2,7 +2,7 @@
 use Rattle.std.specs.Prelude.{ℕ, zero, suc, ◌+◌, ◌-◌, ◌*◌, ◌==◌, Bool, true, false, not, ◌&&◌, if◌then◌else◌, List, [], ◌∷◌, ◌++◌, length, is_none, Option, None, Some}
 use Rattle.std.specs.List.{list_all}
 use Rattle.combine.specs.declared.outcome.Outcome.{Outcome}
-use Rattle.combine.specs.Outcome.{outcome_of}
+use Rattle.combine.specs.Rule.{outcome_of}
 use Rattle.label.specs.Labels.{on, others}
 use Rattle.label.specs.Oral.{taken}
 use Rattle.book.specs.Conditions.{is_told}

@@ -1,6 +1,6 @@
 -- Laws of what is said and drawn. Each is the contract of a function of this crate.
 use Rattle.std.specs.Prelude.{ℕ, suc, ◌≡◌, List, ◌++◌, codes, Some}
-use Rattle.combine.specs.Outcome.{outcome_of}
+use Rattle.combine.specs.Rule.{outcome_of}
 use Rattle.markup.specs.Grammar.{IsElement}
 use Rattle.book.specs.Explained.{list_of}
 use Rattle.book.specs.Table.{MessageTable}

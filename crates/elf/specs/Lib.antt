@@ -5,5 +5,5 @@ pub mod Symbol
 pub mod Relocation
 pub mod Damage
 pub mod Entry
-pub mod Telling
+pub mod ErrorText
 pub mod Sentences

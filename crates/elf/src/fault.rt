@@ -36,7 +36,7 @@ pub enum Fault {
 
 impl fmt::Display for Damage {
     ghost use Rattle.std.specs.Prelude.{Some};
-    ghost use Rattle.elf.specs.Telling.{place_of};
+    ghost use Rattle.elf.specs.ErrorText.{place_of};
 
     ghost output = { λ damage. Some (place_of damage) };
 
@@ -52,7 +52,7 @@ impl fmt::Display for Damage {
 
 impl fmt::Display for Fault {
     ghost use Rattle.std.specs.Prelude.{Some};
-    ghost use Rattle.elf.specs.Telling.{told};
+    ghost use Rattle.elf.specs.ErrorText.{told};
 
     ghost output = { λ fault. Some (told fault) };
 

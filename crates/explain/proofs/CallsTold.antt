@@ -27,7 +27,7 @@ use Rattle.verify.proofs.CallArguments.{copy_arguments, row_arguments}
 use Rattle.explain.specs.declared.sentence.Sentence.{Sentence}
 use Rattle.explain.specs.declared.sentence.Sentence.TheVariants as sentence
 use Rattle.explain.specs.declared.sentence.Misfit.TheVariants as misfit
-use Rattle.explain.specs.Reads.{of_argument, of_arguments, of_helper}
+use Rattle.helper.specs.Reads.{of_argument, of_arguments, of_helper}
 use Rattle.explain.specs.Shortfalls.{unset_if, unset_at, first_unset, counted, call_reach, misfit_of, misfit_at, past_board, arguments_misfit, shortfall}
 use Rattle.explain.proofs.RegistersTold.{or_first, or_second, Told}
 use Rattle.explain.proofs.ReachesTold.{Accesses, source_told, write_told}

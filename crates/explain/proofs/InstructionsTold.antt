@@ -14,7 +14,7 @@ use Rattle.verify.specs.declared.state.AbsState.{AbsState}
 use Rattle.verify.specs.Registers.{known_at, operand_known, first_known}
 use Rattle.verify.specs.Reasons.{first_reason, is_unset, is_pointer, arithmetic_checks, write_checks, compare_checks, exit_checks}
 use Rattle.verify.specs.Instructions.{straight_reason, reason_of}
-use Rattle.explain.specs.Reads.{of_operand, of_first}
+use Rattle.helper.specs.Reads.{of_operand, of_first}
 use Rattle.explain.specs.Shortfalls.{unset_at, pointer_at, first_unset, first_pointer, compared_at, pointer_misuse}
 use Rattle.explain.proofs.RegistersTold.{or_first, or_second, Told, first_told, first_known_unset, operand_unset, register_unset, first_known_pointer, operand_pointer, computed_pointer, register_compared, operand_compared, one_unset, made_told, one_pointer}
 use Rattle.explain.proofs.MemoryTold.{load_told, signed_load_told, store_told}

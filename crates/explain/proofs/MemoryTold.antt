@@ -25,7 +25,7 @@ use Rattle.verify.specs.Registers.{known_at, operand_known}
 use Rattle.verify.specs.Reasons.{is_unset, is_pointer, unless}
 use Rattle.verify.specs.MemoryTable.{unset_in, spilled, pointer_or, load_from, load_given, all_numbers, signed_from, signed_load_given, is_storable, write_refused, store_refused, unset_or, frame_or, load_reason, signed_load_reason, store_reason}
 use Rattle.explain.specs.declared.reach.Reach.{Reach}
-use Rattle.explain.specs.Reads.{of_operand}
+use Rattle.helper.specs.Reads.{of_operand}
 use Rattle.explain.specs.Shortfalls.{unset_at, first_unset, stored_at, store_misuse}
 use Rattle.explain.proofs.RegistersTold.{or_first, or_second, Told, one_unset, register_unset, operand_unset}
 use Rattle.explain.proofs.ReachesTold.{Accesses, bounds_told, cells_told, write_told, frame_told, unless_told}

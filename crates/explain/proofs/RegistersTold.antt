@@ -17,7 +17,7 @@ use Rattle.verify.specs.declared.reason.Reason.TheVariants as reason
 use Rattle.verify.specs.declared.state.AbsState.{AbsState}
 use Rattle.verify.specs.Registers.{known_at, operand_known, first_known}
 use Rattle.verify.specs.Reasons.{Check, first_reason, is_unset, is_pointer, made_checks}
-use Rattle.explain.specs.Reads.{of_operand, of_first}
+use Rattle.helper.specs.Reads.{of_operand, of_first}
 use Rattle.explain.specs.Shortfalls.{unset_if, unset_at, first_unset, pointer_if, pointer_at, first_pointer, compared_if, compared_at, shortfall}
 
 -- ---- one of two

@@ -19,7 +19,7 @@ use Rattle.explain.specs.declared.sentence.Sentence.TheVariants as sentence
 use Rattle.explain.specs.declared.sentence.Structure.TheVariants as structure
 use Rattle.explain.specs.Sentences.{named_text, sentence_text}
 use Rattle.explain.specs.Shortfalls.{shortfall}
-use Rattle.explain.specs.Reads.{read_by}
+use Rattle.helper.specs.Reads.{read_by}
 use Rattle.explain.specs.Sources.{holding}
 use Rattle.explain.specs.Cells.{cells_read}
 use Rattle.explain.specs.Units.{Writing, in_lists, insn_at}

@@ -1,6 +1,6 @@
 -- Edits that mend a refusal, each said only where the verifier comes past the refused instruction in the program with
 -- the edit (own).
-use Rattle.std.specs.Prelude.{ℕ, ℤ, zero, suc, pos, ◌+◌, ◌==◌, Bool, true, false, if◌then◌else◌, List, [], ◌∷◌, ◌++◌, Option, Some, None, option_and_then, codes, decimal, map, slice_get}
+use Rattle.std.specs.Prelude.{ℕ, ℤ, zero, suc, pos, ◌+◌, ◌==◌, if◌then◌else◌, List, [], ◌∷◌, ◌++◌, Option, Some, None, option_and_then, codes, decimal, map, slice_get}
 use Rattle.word.specs.declared.Width.TheVariants.{W64}
 use Rattle.word.specs.declared.Operation.TheVariants.{Add, And, Move}
 use Rattle.insn.specs.declared.insn.Insn.{Insn}
@@ -11,11 +11,11 @@ use Rattle.asm.specs.Printing.{insn_text}
 use Rattle.absval.specs.declared.value.AbsVal.{AbsVal}
 use Rattle.absval.specs.declared.value.AbsVal.TheVariants.{Number}
 use Rattle.causes.specs.declared.mark.Mark.{Mark}
-use Rattle.causes.specs.declared.mark.Mark.TheVariants.{Open}
 use Rattle.causes.specs.declared.mends.Edit.{Edit}
 use Rattle.causes.specs.declared.mends.Edit.TheVariants.{Before, Instead, Moved}
 use Rattle.causes.specs.declared.mends.Trial.{Trial}
 use Rattle.causes.specs.declared.mends.Trial.TheVariants.{Refused, Passes, Accepted}
+use Rattle.causes.specs.Marks.{is_open}
 use Rattle.causes.specs.Mends.{grown, wide, tried}
 use Rattle.explain.specs.declared.sentence.Sentence.{Sentence}
 use Rattle.explain.specs.declared.sentence.Sentence.TheVariants as sentence
@@ -48,10 +48,6 @@ exchanged unit i = None
 abbrev pub copy_of : ℕ → Insn → Option ℕ
 copy_of r (Arithmetic W64 Move dst (Register src)) = if src == r then Some dst else None
 copy_of r i = None
-
-abbrev pub is_open : Option Mark → Bool
-is_open (Some Open) = true
-is_open _ = false
 
 -- the copy that the instruction of a unit makes, if a way leads from there on which nothing sets the register
 abbrev pub copy_at : List Insn → List Mark → ℕ → ℕ → Option ℕ

@@ -1,5 +1,4 @@
 pub mod Values
-pub mod Reads
 pub mod Sentences
 pub mod Shortfalls
 pub mod Rules

@@ -18,7 +18,7 @@ use Rattle.causes.specs.Marks.{KnownByUnit, known_by}
 use Rattle.explain.specs.declared.sentence.Sentence.{Sentence}
 use Rattle.explain.specs.declared.sentence.Sentence.TheVariants.{Register}
 use Rattle.explain.specs.declared.sentence.Misuse.TheVariants.{Computed}
-use Rattle.explain.specs.Reads.{of_first, of_operand}
+use Rattle.helper.specs.Reads.{of_first, of_operand}
 
 abbrev pub is_either_sign : AbsVal → Bool
 is_either_sign (Number n) = is_none (in_a_row n.range)

@@ -60,7 +60,8 @@ misuse_text (misuse.Far r region span) = would_text r ++ codes " into " ++ past_
 misuse_text (misuse.EitherSign r value) = named_text r value
     ++ codes ": a number that moves a pointer is read as signed, and this one may be above or below 0"
 misuse_text (misuse.Computed r value) = named_text r value
-    ++ codes ": of a pointer only a copy of 64 bits is made, or, in its own register, the 64-bit sum or difference with a number"
+    ++ (codes ": of a pointer only a copy of 64 bits is made, or, in its own register, "
+    ++ codes "the 64-bit sum or difference with a number")
 misuse_text (misuse.Compared r value) = named_text r value ++ codes ": a comparison is of numbers only"
 misuse_text (misuse.Stored r value base at) =
     named_text r value ++ codes ", stored at " ++ named_text base at

@@ -39,7 +39,7 @@ use Rattle.explain.specs.declared.sentence.Sentence.TheVariants as sentence
 use Rattle.explain.specs.declared.sentence.Misuse.TheVariants as misuse
 use Rattle.explain.specs.declared.sentence.Access.TheVariants as access
 use Rattle.explain.specs.declared.sentence.Misfit.TheVariants as misfit
-use Rattle.explain.specs.Reads.{of_operand, read_by}
+use Rattle.helper.specs.Reads.{of_operand, read_by}
 
 -- ---- registers: the first of those that are read that may be unset, or that is a pointer
 

@@ -12,7 +12,6 @@ mod moving;
 mod notes;
 mod origins;
 mod reach;
-mod reads;
 mod rules;
 mod saying;
 mod sentence;

@@ -6,7 +6,7 @@ ghost use Rattle.explain.specs.Shortfalls.{misfit_of, misfit_at, past_board, arg
 
 use crate::sentence::{Misfit, Sentence};
 use absval::{AbsVal, NumberSet};
-use causes::numbered;
+use helper::reads::numbered;
 use helper::{Argument, BOARD_WORDS, Helper};
 use insn::{Insn, Reg};
 use verify::AbsState;

@@ -3,13 +3,13 @@ ghost use Rattle.std.specs.Prelude.{◌≡◌, Some};
 ghost use Rattle.std.specs.Option.{option_or};
 ghost use Rattle.insn.specs.declared.insn.Insn.{Insn};
 ghost use Rattle.verify.specs.Registers.{known_at};
-ghost use Rattle.explain.specs.Reads.{of_operand, read_by};
+ghost use Rattle.helper.specs.Reads.{of_operand, read_by};
 ghost use Rattle.explain.specs.Shortfalls.{unset_if, unset_at, first_unset, pointer_if, pointer_at, first_pointer, compared_at, no_base, stored_at, store_misuse, pointer_misuse};
 
 use crate::moving::sum_misuse;
-use crate::reads::{Registers, of_operand, read_by};
 use crate::sentence::{Misuse, Sentence};
 use absval::AbsVal;
+use helper::reads::{Registers, of_operand, read_by};
 use insn::{Insn, Operand, Reg};
 use verify::AbsState;
 

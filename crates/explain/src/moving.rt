@@ -3,10 +3,10 @@ ghost use Rattle.std.specs.Prelude.{◌≡◌, ◌+ℤ◌, ◌-ℤ◌};
 ghost use Rattle.absval.specs.Table.{in_a_row};
 ghost use Rattle.explain.specs.Shortfalls.{lowers, clamped, moved, either_sign, far, sum_misuse};
 
-use crate::reads::of_operand;
 use crate::sentence::{Misuse, Sentence};
 use crate::values::{Span, between};
 use absval::{AbsVal, NumberSet, Offsets};
+use helper::reads::of_operand;
 use insn::{Operand, Reg};
 use semantics::Region;
 use word::{Operation, Width};

@@ -4,10 +4,10 @@ ghost use Rattle.insn.specs.Program.{instruction_at};
 ghost use Rattle.causes.specs.Marks.{known_by};
 ghost use Rattle.explain.specs.Origins.{is_either_sign, number_at, computed_of, is_set, last_set, origin_at, origin_of, summed, other_number};
 
-use crate::reads::{of_first, of_operand};
 use crate::sentence::{Misuse, Sentence};
 use absval::AbsVal;
 use causes::{Mark, known_by};
+use helper::reads::{of_first, of_operand};
 use insn::{Insn, Operand, Program, Reg};
 use verify::AbsState;
 use word::{Operation, Width};

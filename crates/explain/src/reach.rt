@@ -5,7 +5,7 @@ ghost use Rattle.explain.specs.Shortfalls.{counted, call_reach, reach_of, touche
 
 use crate::values::{Span, between};
 use absval::{AbsVal, Offsets};
-use causes::numbered;
+use helper::reads::numbered;
 use helper::{BOARD_WORDS, Helper};
 use insn::{Insn, Reg, Size, bytes_of_part};
 use verify::AbsState;

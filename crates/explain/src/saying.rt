@@ -7,8 +7,8 @@ use crate::sentence::{Access, Misfit, Misuse, Sentence, Structure};
 use crate::values::{Span, put_known, put_span, region_name};
 use absval::AbsVal;
 use asm::{put, put_number, put_unsigned};
-use causes::numbered;
 use helper::Helper;
+use helper::reads::numbered;
 use insn::Reg;
 use semantics::Region;
 use std::alloc::AllocError;
@@ -220,7 +220,8 @@ fn put_misuse(out: &mut String, misuse: Misuse) -> Result<(), AllocError>
             out,
             r,
             value,
-            ": of a pointer only a copy of 64 bits is made, or, in its own register, the 64-bit sum or difference with a number",
+            ": of a pointer only a copy of 64 bits is made, or, in its own register, \
+             the 64-bit sum or difference with a number",
         ),
         Misuse::Compared(r, value) => put_so(out, r, value, ": a comparison is of numbers only"),
         Misuse::Stored(r, value, base, at) => put_stored(out, r, value, base, at),

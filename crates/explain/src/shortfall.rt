@@ -6,9 +6,8 @@ use crate::accesses::{context_written, empty_cell, outside};
 use crate::misfits::{call_misfit, no_helper};
 use crate::misuse::{first_unset, pointer_misuse};
 use crate::reach::reach_of;
-use crate::reads::read_by;
 use crate::sentence::{Misuse, Sentence};
-use causes::numbered;
+use helper::reads::{numbered, read_by};
 use insn::Insn;
 use verify::{AbsState, Reason};
 

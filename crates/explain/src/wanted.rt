@@ -1,11 +1,13 @@
 //! Which edits are to be tried for a sentence.
 ghost use Rattle.std.specs.Prelude.{◌≡◌, ◌<◌, ◌≤◌, IfSome, slice_get};
-ghost use Rattle.explain.specs.Helps.{moving_mask, exchanged, copy_of, is_open, copy_at, last_copy, by_copy, for_misuse, for_argument, for_misfit, moved_at, for_access, wanted};
+ghost use Rattle.causes.specs.Marks.{is_open};
+ghost use Rattle.explain.specs.Helps.{moving_mask, exchanged, copy_of, copy_at, last_copy, by_copy, for_misuse, for_argument, for_misfit, moved_at, for_access, wanted};
 
 use crate::origins::last_set;
 use crate::sentence::{Access, Misfit, Misuse, Sentence};
 use absval::AbsVal;
-use causes::{Edit, Mark, numbered};
+use causes::{Edit, Mark};
+use helper::reads::numbered;
 use insn::{Insn, Operand, Program, Reg};
 use word::{Operation, Width};
 

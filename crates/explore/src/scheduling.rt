@@ -65,19 +65,19 @@ fn line_of<W: Plays>(world: &mut W, alloc: Global, names: &[u8]) -> Result<Line,
 /// # Errors
 ///
 /// `AllocError` where memory is refused.
-pub fn schedule_from<W: Plays>(
-    world: &mut W,
+pub fn schedule_from<W: Plays + Drop>(
+    mut world: W,
     alloc: Global,
     names: &[Vec<u8>],
 ) -> Result<Scheduled, AllocError>
-    ensures { IfOk result (λ scheduled. IsScheduleOf W.kind (W.seen world.old) (lists_in names.now) scheduled) }
+    ensures { IfOk result (λ scheduled. IsScheduleOf W.kind (W.seen world) (lists_in names.now) scheduled) }
 {
     let mut lines = Vec::new(alloc);
     for (round, line) in names.iter().enumerate() {
-        match line_of(world, alloc, line.as_slice())? {
+        match line_of(&mut world, alloc, line.as_slice())? {
             Line::Made(entries) => {
                 lines.push(entries)?;
-                wind_up(world)?;
+                wind_up(&mut world)?;
             }
             Line::Stuck(place) => return Ok(Scheduled::Never(round, place)),
         }
@@ -103,6 +103,6 @@ pub fn schedule_names(
     ensures again { IfOk result (λ scheduled. BringsBack oral_kind scenario (lists_in names.now) scheduled) }
 {
     scenario.recall();
-    let mut world = World::open(alloc, scenario)?;
-    schedule_from(&mut world, alloc, names)
+    let world = World::open(alloc, scenario)?;
+    schedule_from(world, alloc, names)
 }

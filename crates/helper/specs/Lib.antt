@@ -1,3 +1,4 @@
 pub mod Table
 pub mod Results
 pub mod Windows
+pub mod Reads

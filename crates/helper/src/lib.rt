@@ -3,6 +3,7 @@
 
 mod argument;
 mod laws;
+pub mod reads;
 mod table;
 
 pub use argument::{Argument, BOARD_WORDS, MOST_GENERALS, MOST_HELD, MOST_LABELS, RECEIVER_SETS};

@@ -1,4 +1,3 @@
 pub mod Insn
 pub mod Program
 pub mod Layout
-pub mod Code

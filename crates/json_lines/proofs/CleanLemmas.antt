@@ -17,7 +17,7 @@ use Rattle.json_lines.specs.Lines.{with_file}
 use Rattle.json_lines.specs.Objects.{called, first_by, first_shaped, line_object, or, shaped, told_by, unshaped, with_mark, with_name}
 use Rattle.json_lines.specs.Refusals.{behind_stop, class_of, fault_object, namer, namer_of, refusal_object, refused_object, reported, sentence_of, with_namer, with_sentence, with_text}
 use Rattle.json_lines.specs.Shapes.{Row, shapes}
-use Rattle.json_lines.specs.Told.{Word, all, joined, number_of, place_of, places, rule_of, small, told, yes_no_of}
+use Rattle.json_lines.specs.Values.{Word, all, joined, number_of, place_of, places, rule_of, small, told, yes_no_of}
 
 abbrev IsClean : Option Data → Type 0
 IsClean None = Unit {0}

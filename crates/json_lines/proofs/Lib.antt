@@ -1,5 +1,5 @@
 mod CleanLemmas
 mod ItemLemmas
 mod LabelLemmas
-mod ToldLemmas
+mod ValueLemmas
 mod WhyLemmas

@@ -1,4 +1,4 @@
-pub mod Told
+pub mod Values
 pub mod Shapes
 pub mod Labels
 pub mod Objects

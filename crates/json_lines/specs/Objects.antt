@@ -7,7 +7,7 @@ use Rattle.text.specs.Stop.{space}
 use Rattle.json_lines.specs.declared.held.Held.{Held}
 use Rattle.json_lines.specs.Labels.{placed}
 use Rattle.json_lines.specs.Shapes.{Row, shapes}
-use Rattle.json_lines.specs.Told.{Word, places, told}
+use Rattle.json_lines.specs.Values.{Word, places, told}
 
 -- a member by its name, but for a dash
 abbrev pub with_name : List ℕ → Data → Members → Members

@@ -8,8 +8,7 @@ mod named;
 mod objects;
 mod refusals;
 mod shape;
-mod stops;
-mod told;
+mod values;
 
 pub use lines::answer;
 pub use named::{answer_of, refusal_of};

@@ -9,11 +9,10 @@ ghost use Rattle.json_lines.specs.Shapes.{row_of};
 use crate::held::Held;
 use crate::labels::put_place;
 use crate::shape::{Shape, shapes};
-use crate::stops::SPACE;
-use crate::told::{places, spelled, told};
+use crate::values::{places, spelled, told};
 use serde_json::{Map, Value, put};
 use std::alloc::{AllocError, Global};
-use text::piece;
+use text::{SPACE, piece};
 
 /// Puts a member by its name, but for a dash.
 fn put_named(

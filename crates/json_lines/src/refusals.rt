@@ -7,11 +7,10 @@ ghost use Rattle.json_lines.specs.Refusals.{behind_stop, class_of, fault_object,
 
 use crate::lines::push_object;
 use crate::objects::{called, unshaped};
-use crate::stops::{FEED, SPACE};
-use crate::told::spelled;
+use crate::values::spelled;
 use serde_json::{Map, Value, put};
 use std::alloc::{AllocError, Global};
-use text::{Stop, cut, line};
+use text::{FEED, SPACE, Stop, cut, line};
 
 /// What stands before the first stop, and what behind it.
 fn parted(stop: Stop, bytes: &[u8]) -> (&[u8], &[u8])

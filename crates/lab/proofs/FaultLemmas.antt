@@ -4,16 +4,17 @@ use Rattle.std.specs.Prelude.{Option, None, Some, IfSome, Result, Ok, Err, OnErr
 use Rattle.std.specs.Fmt.{◌++?◌, with_newline}
 use Rattle.std.specs.Io.KnownBytes.{Appends}
 use Rattle.command_line.specs.declared.tasks.Task.{Task}
-use Rattle.lab.specs.declared.refusal.Refusal.{Refusal}
-use Rattle.lab.specs.declared.refusal.Refusal.TheVariants as refusal
-use Rattle.lab.specs.declared.failure.Failure.{Failure}
-use Rattle.lab.specs.declared.failure.Failure.TheVariants.{Read, Text, Refused, Write, Memory}
+use Rattle.inputs.specs.declared.refusal.Refusal.{Refusal}
+use Rattle.inputs.specs.declared.refusal.Refusal.TheVariants as refusal
+use Rattle.faults.specs.declared.failure.Failure.{Failure}
+use Rattle.faults.specs.declared.failure.Failure.TheVariants.{Read, Text, Refused, Write, Memory}
 use Rattle.lab.specs.declared.first_answer.FirstAnswer.{FirstAnswer}
-use Rattle.lab.specs.declared.hint.Hint.{Hint}
-use Rattle.lab.specs.Hints.{hint_behind}
-use Rattle.lab.specs.Telling.{refusal_text}
-use Rattle.lab.specs.Whys.{is_explained}
-use Rattle.lab.specs.Faults.{fault_text, status_of, Undoes, Prevents, Stops}
+use Rattle.faults.specs.declared.hint.Hint.{Hint}
+use Rattle.faults.specs.Hints.{hint_behind}
+use Rattle.inputs.specs.ErrorText.{refusal_text}
+use Rattle.faults.specs.Whys.{is_explained}
+use Rattle.faults.specs.Faults.{fault_text, status_of, Stops}
+use Rattle.lab.specs.Faults.{Undoes, Prevents}
 use Rattle.streams.specs.Names.{shown}
 use Rattle.lab.specs.Serving.{Files, IsFault, IsRefused, IsTaken, IsToldLater, IsTurnedDown, Tells, TellsName, TellsRefusal, first_name, second_name}
 

@@ -4,7 +4,7 @@ use Rattle.std.specs.Borrow.{Bor}
 use Rattle.std.specs.declared.alloc.Global.{Global}
 use Rattle.std.specs.Prelude.{Bool, true, false, Option, None, Some, Ok, String, option_map, string_bytes, unwrap_or}
 use Rattle.insn.specs.declared.insn.Insn.{Insn}
-use Rattle.command_line.specs.Told.{file_of, second_of}
+use Rattle.command_line.specs.Tasks.{file_of, second_of}
 use Rattle.command_line.specs.declared.tasks.Account.{Account}
 use Rattle.command_line.specs.declared.tasks.Accesses.TheVariants.{OfChronicle, Listed}
 use Rattle.command_line.specs.declared.tasks.Course.TheVariants.{Scheduled, Recorded}
@@ -15,17 +15,20 @@ use Rattle.roster.specs.Scenario.{Scenario}
 use Rattle.scenario.specs.declared.messages.Campaign.{Campaign}
 use Rattle.world.specs.declared.schedule.Repeat.{Repeat}
 use Rattle.trace.specs.Schedules.{schedule_told}
-use Rattle.lab.specs.Answers.{ComesTo, GoesOn, IsTriedBy, Prints}
-use Rattle.lab.specs.Hints.{explained_in, if_asked}
-use Rattle.lab.specs.Whys.{is_explained}
-use Rattle.lab.specs.Campaigns.{IsAudited, IsMustered, IsPlayed}
-use Rattle.lab.specs.Diagrams.{IsRecordDrawn}
-use Rattle.lab.specs.Faults.{Prevents, Stops}
-use Rattle.lab.specs.Pages.{IsCampaignPaged, IsRecordTold}
-use Rattle.lab.specs.Retracing.{IsScheduleFor}
+use Rattle.lab.specs.Answers.{ComesTo, GoesOn, Prints}
+use Rattle.program_tasks.specs.Answers.{IsTriedBy}
+use Rattle.lab.specs.Hints.{explained_in}
+use Rattle.program_tasks.specs.Programs.{if_asked}
+use Rattle.faults.specs.Whys.{is_explained}
+use Rattle.campaign_tasks.specs.Campaigns.{IsAudited, IsMustered, IsPlayed}
+use Rattle.picture_tasks.specs.Diagrams.{IsRecordDrawn}
+use Rattle.lab.specs.Faults.{Prevents}
+use Rattle.faults.specs.Faults.{Stops}
+use Rattle.picture_tasks.specs.Pages.{IsCampaignPaged, IsRecordTold}
+use Rattle.campaign_tasks.specs.Retracing.{IsScheduleFor}
 use Rattle.lab.specs.Serving.{AreSecond, AreSecondBytes, Files, IsAnswer, IsAuditOf, IsDrawnAs, IsDrawnBy, IsPagedAs, IsPagedBy, IsPlayedBy, IsRetracedBy, IsScheduleOf, IsToldLater, IsTrialOf, first_name, second_name}
 use Rattle.streams.specs.Reading.{AreBytes}
-use Rattle.lab.specs.declared.failure.Failure.{Failure}
+use Rattle.faults.specs.declared.failure.Failure.{Failure}
 use Rattle.lab.specs.declared.first_answer.FirstAnswer.{FirstAnswer}
 use Rattle.lab.specs.declared.first_answer.FirstAnswer.TheVariants as answer
 

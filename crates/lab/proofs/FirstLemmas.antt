@@ -8,22 +8,27 @@ use Rattle.command_line.specs.declared.tasks.Notation.TheVariants.{Bytecode, Ass
 use Rattle.command_line.specs.declared.tasks.Task.{Task}
 use Rattle.command_line.specs.declared.tasks.Accesses.TheVariants as accesses
 use Rattle.command_line.specs.declared.tasks.Task.TheVariants as task
-use Rattle.lab.specs.Campaigns.{is_chronicle}
-use Rattle.lab.specs.Picturing.{is_toml}
-use Rattle.lab.specs.Faults.{IsTold, IsUnjudged, Prevents, Stops, StopsFirst, fault_of_bytes}
-use Rattle.lab.specs.Hints.{IsHint, IsHintBy, IsSaid, IsWhy, asked_of, bytecode_in, explained_in, hint_behind, is_reported, seems_behind}
-use Rattle.lab.specs.Refusals.{Refuses, RefusesAsked, RefusesCheck, RefusesCheckIn, RefusesDisassembly, RefusesNotation, RefusesParts, RefusesTreeIn}
+use Rattle.inputs.specs.Schedules.{is_chronicle}
+use Rattle.table_tasks.specs.Picturing.{is_toml}
+use Rattle.faults.specs.Faults.{IsTold, IsUnjudged, Stops, fault_of_bytes}
+use Rattle.lab.specs.Faults.{Prevents, StopsFirst}
+use Rattle.lab.specs.Hints.{IsHint, IsHintBy, IsSaid, asked_of, bytecode_in, explained_in}
+use Rattle.program_tasks.specs.Programs.{IsWhy}
+use Rattle.faults.specs.Hints.{hint_behind, is_reported, seems_behind}
+use Rattle.lab.specs.Refusals.{Refuses}
+use Rattle.inputs.specs.Refusals.{RefusesAsked}
+use Rattle.program_tasks.specs.Refusals.{RefusesCheck, RefusesCheckIn, RefusesDisassembly, RefusesNotation, RefusesParts}
+use Rattle.table_tasks.specs.Refusals.{RefusesTreeIn}
 use Rattle.lab.specs.Serving.{Files, IsRefused, first_name}
-use Rattle.lab.specs.Whys.{TellsWhyOf, is_explained}
-use Rattle.lab.specs.Whys.{Nothing}
+use Rattle.faults.specs.Whys.{TellsWhyOf, is_explained, Nothing}
 use Rattle.streams.specs.Names.{shown}
 use Rattle.streams.specs.Reading.{AreBytes}
-use Rattle.lab.specs.declared.failure.Failure.{Failure}
-use Rattle.lab.specs.declared.failure.Failure.TheVariants.{Read, Text, Refused, Write, Memory as FaultMemory}
-use Rattle.lab.specs.declared.hint.Hint.{Hint}
-use Rattle.lab.specs.declared.hint.Hint.TheVariants.{Explained}
-use Rattle.lab.specs.declared.refusal.Refusal.{Refusal}
-use Rattle.lab.specs.declared.refusal.Refusal.TheVariants.{Codec, Object, Verifier, Assembly, Table, Scenario, Setting, Trace, Threads, Accesses, Stranger, NotText, Memory}
+use Rattle.faults.specs.declared.failure.Failure.{Failure}
+use Rattle.faults.specs.declared.failure.Failure.TheVariants.{Read, Text, Refused, Write, Memory as FaultMemory}
+use Rattle.faults.specs.declared.hint.Hint.{Hint}
+use Rattle.faults.specs.declared.hint.Hint.TheVariants.{Explained}
+use Rattle.inputs.specs.declared.refusal.Refusal.{Refusal}
+use Rattle.inputs.specs.declared.refusal.Refusal.TheVariants.{Codec, Object, Verifier, Assembly, Table, Scenario, Setting, Trace, Threads, Accesses, Stranger, NotText, Memory}
 use Rattle.verify.specs.declared.error.VerifyError.{VerifyError}
 use Rattle.lab.proofs.WhyLemmas.{nothing_said}
 

@@ -7,14 +7,17 @@ use Rattle.command_line.specs.declared.tasks.Task.TheVariants.{Check, Assemble, 
 use Rattle.insn.specs.declared.insn.Insn.{Insn}
 use Rattle.label.specs.declared.shape.Shape.{Shape}
 use Rattle.semantics.specs.Run.{IsSound}
-use Rattle.trial.specs.Told.{Tells}
+use Rattle.trial.specs.Answers.{Tells}
 use Rattle.verify.specs.Judgement.{judged}
-use Rattle.lab.specs.Answers.{GoesOn, IsTriedBy, trial_of}
-use Rattle.lab.specs.Hints.{HasProgram, explained_in, if_asked}
-use Rattle.lab.specs.Refusals.{Refuses, RefusesCheckIn}
+use Rattle.lab.specs.Answers.{GoesOn, trial_of}
+use Rattle.program_tasks.specs.Answers.{IsTriedBy}
+use Rattle.program_tasks.specs.Programs.{HasProgram, if_asked}
+use Rattle.lab.specs.Hints.{explained_in}
+use Rattle.lab.specs.Refusals.{Refuses}
+use Rattle.program_tasks.specs.Refusals.{RefusesCheckIn}
 use Rattle.lab.specs.Serving.{Files, IsAnswer, IsPlacedAnswer, IsTrialAt, IsTrialOf}
 use Rattle.lab.specs.declared.first_answer.FirstAnswer.TheVariants as answer
-use Rattle.lab.specs.declared.refusal.Refusal.{Refusal}
+use Rattle.inputs.specs.declared.refusal.Refusal.{Refusal}
 use Rattle.lab.proofs.FilesLemmas.{second_bytes}
 use Rattle.streams.specs.Reading.{AreBytes}
 

@@ -11,20 +11,20 @@ use Rattle.command_line.specs.declared.tasks.Notation.TheVariants.{Bytecode}
 use Rattle.command_line.specs.declared.tasks.Task.{Task}
 use Rattle.command_line.specs.declared.tasks.Task.TheVariants.{Check, Disassemble}
 use Rattle.hex.specs.Hex.{encode_lower}
-use Rattle.lab.specs.Faults.{IsTold, IsUnjudged, Stops, fault_of_bytes}
-use Rattle.lab.specs.Hints.{IsHintBy, IsHintOf, hint_behind, seems_behind}
+use Rattle.faults.specs.Faults.{IsTold, IsUnjudged, Stops, fault_of_bytes}
+use Rattle.lab.specs.Hints.{IsHintBy, IsHintOf}
+use Rattle.faults.specs.Hints.{hint_behind, seems_behind}
 use Rattle.lab.specs.Reading.{IsTooLong}
-use Rattle.lab.specs.Refusals.{RefusesBytes}
-use Rattle.lab.specs.Seeming.{seems_at_first, seems_of}
+use Rattle.program_tasks.specs.Refusals.{RefusesBytes}
+use Rattle.faults.specs.Seeming.{seems_at_first, seems_of}
 use Rattle.lab.specs.Serving.{IsRefused, first_name}
-use Rattle.lab.specs.Whys.{TellsWhy, TellsWhyOf, is_explained, seems_line}
-use Rattle.lab.specs.declared.failure.Failure.{Failure}
-use Rattle.lab.specs.declared.failure.Failure.TheVariants.{Read, Text, Refused, Write, Memory}
-use Rattle.lab.specs.declared.hint.Hint.{Hint}
-use Rattle.lab.specs.declared.hint.Hint.TheVariants.{Seems}
-use Rattle.lab.specs.declared.refusal.Refusal.{Refusal}
-use Rattle.lab.specs.declared.refusal.Refusal.TheVariants.{Codec, Object, Verifier, Assembly, Table, Scenario, Setting, Trace, Threads, Accesses, Stranger, NotText, Memory as NoMemoryLeft}
-use Rattle.lab.specs.Whys.{Nothing}
+use Rattle.faults.specs.Whys.{TellsWhy, TellsWhyOf, is_explained, seems_line, Nothing}
+use Rattle.faults.specs.declared.failure.Failure.{Failure}
+use Rattle.faults.specs.declared.failure.Failure.TheVariants.{Read, Text, Refused, Write, Memory}
+use Rattle.faults.specs.declared.hint.Hint.{Hint}
+use Rattle.faults.specs.declared.hint.Hint.TheVariants.{Seems}
+use Rattle.inputs.specs.declared.refusal.Refusal.{Refusal}
+use Rattle.inputs.specs.declared.refusal.Refusal.TheVariants.{Codec, Object, Verifier, Assembly, Table, Scenario, Setting, Trace, Threads, Accesses, Stranger, NotText, Memory as NoMemoryLeft}
 use Rattle.streams.specs.Names.{shown}
 use Rattle.streams.specs.Reading.{AreBytes}
 use Rattle.why.specs.Bytecode.{bytecode_told, unit_told}

@@ -1,41 +1,25 @@
 -- What the first bytes of a schedule's file tell of all.
-use Rattle.std.proofs.Common.{ℕ, ◌≡◌, ◌∙◌, ◌<◌, ◌≤◌, ◌++◌, Bool, true, false, List, [], length, take, ap, arith, refl, subst, sym}
+use Rattle.std.proofs.Common.{ℕ, ◌≡◌, ◌∙◌, ◌<◌, ◌≤◌, Bool, true, false, List, [], length, take, ap, arith, refl, subst, sym}
 use Rattle.std.specs.Borrow.{Bor}
-use Rattle.std.specs.Prelude.{nat_le, Option, None, Some, IfSome, Ok, Err, option_map}
-use Rattle.std.specs.Str.{IsUtf8}
-use Rattle.std.proofs.lemmas.Bool.{leb-false, leb-true, lt-leb}
-use Rattle.std.proofs.lemmas.List.{append-nil, length-append, take-append-le}
+use Rattle.std.specs.Prelude.{nat_le, Option, None, Some, IfSome, Ok, option_map}
+use Rattle.std.proofs.lemmas.Bool.{leb-false, leb-true}
+use Rattle.std.proofs.lemmas.List.{append-nil, take-append-le}
 use Rattle.world.specs.declared.schedule.Repeat.{Repeat}
 use Rattle.trace.specs.Schedules.{schedule_told}
-use Rattle.trace.specs.declared.fault.Fault.TheVariants.{Line}
 use Rattle.trace.specs.declared.fault.TraceError.TheVariants.{At, Write, Memory}
-use Rattle.lab.specs.Faults.{IsToldIf, Stops}
-use Rattle.lab.specs.Whys.{TellsWhy, TellsWhyOf}
-use Rattle.lab.specs.Whys.{Schedule}
+use Rattle.faults.specs.Faults.{IsToldIf, Stops}
+use Rattle.faults.specs.Whys.{TellsWhy, TellsWhyOf, Schedule}
 use Rattle.streams.specs.Names.{shown}
 use Rattle.why.specs.Chronicles.{schedule_line_told, schedule_told as schedule_why}
 use Rattle.why.specs.Lines.{line_at}
-use Rattle.streams.specs.Reading.{BeginsSo, IsFront}
-use Rattle.lab.specs.Refusals.{RefusesSchedule, RefusesText}
+use Rattle.streams.specs.Reading.{BeginsSo, IsFront, AreBytes}
+use Rattle.inputs.specs.Refusals.{RefusesSchedule, RefusesText}
 use Rattle.lab.specs.Serving.{IsScheduleOf, IsScheduleRefused, IsScheduleTold}
-use Rattle.streams.specs.Reading.{AreBytes}
-use Rattle.lab.specs.declared.failure.Failure.{Failure}
-use Rattle.lab.specs.declared.refusal.Refusal.{Refusal}
-use Rattle.lab.specs.declared.refusal.Refusal.TheVariants as refusal
+use Rattle.faults.specs.declared.failure.Failure.{Failure}
+use Rattle.inputs.specs.declared.refusal.Refusal.{Refusal}
+use Rattle.inputs.specs.declared.refusal.Refusal.TheVariants as refusal
 use Rattle.lab.proofs.FilesLemmas.{second_told}
 use Rattle.lab.proofs.WhyLemmas.{stops_later, told_weaker}
-
--- more bytes than a schedule has tell none
-pub too_many : (all front : List ℕ) → 1048576 < length front → BeginsSo 1048576 all front → schedule_told all ≡ Err (At Line 1)
-unfolding schedule_told
-too_many all front long begins =
-    let lengths : length all ≡ length (front ++ begins.rest) = ap length begins.split in
-    let more : nat_le (length all) 1048576 ≡ false = lt-leb (length all) 1048576 (omega (arith, lengths, length-append front begins.rest)) in
-    rw more refl
-
--- nor are they a text, where those are none
-pub none_begun : (all front : List ℕ) → BeginsSo 1048576 all front → ((rest : List ℕ) → IsUtf8 (front ++ rest) → ⊥) → IsUtf8 all → ⊥
-none_begun all front begins none text = none begins.rest (subst IsUtf8 begins.split text)
 
 -- all that a file may have which begins so
 all_of : (most : ℕ) (known : Option (List ℕ)) (front : List ℕ) → IsFront most known front → (all : List ℕ) × AreBytes known all × BeginsSo most all front

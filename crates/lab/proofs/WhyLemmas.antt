@@ -1,48 +1,26 @@
 -- Refusals with a report behind their line.
 use Rattle.std.proofs.Common.{ℕ, ◌≡◌, ◌≢◌, Bool, true, false, List, [], refl, subst, sym}
 use Rattle.std.specs.Borrow.{Bor}
-use Rattle.std.specs.declared.alloc.Global.{Global}
-use Rattle.std.specs.Prelude.{Option, None, Some, IfSome, String, string_bytes}
+use Rattle.std.specs.Prelude.{Option, None, Some, IfSome}
 use Rattle.streams.specs.Names.{shown}
-use Rattle.lab.specs.Faults.{IsTold, IsToldIf, Stops, fault_of, text_fault}
-use Rattle.lab.specs.Hints.{hint_behind}
+use Rattle.faults.specs.Faults.{IsTold, IsToldIf, Stops, fault_of}
+use Rattle.faults.specs.Hints.{hint_behind}
 use Rattle.lab.specs.Serving.{AreSecondBytes, IfKnown, IsHintLater, IsRefusedLater, IsToldLater}
-use Rattle.lab.specs.Whys.{Nothing, Role, TellsWhyOf}
+use Rattle.faults.specs.Whys.{Nothing, Role, TellsWhyOf}
 use Rattle.threads.specs.declared.error.MusterError.{MusterError}
-use Rattle.lab.specs.declared.failure.Failure.{Failure}
-use Rattle.lab.specs.declared.failure.Failure.TheVariants.{Read, Text, Refused, Write, Memory}
+use Rattle.faults.specs.declared.failure.Failure.{Failure}
+use Rattle.faults.specs.declared.failure.Failure.TheVariants.{Read, Text, Refused, Write, Memory}
 use Rattle.lab.specs.declared.first_answer.FirstAnswer.TheVariants.{Muster}
 use Rattle.roster.specs.Scenario.{Scenario}
 use Rattle.command_line.specs.declared.tasks.Lieutenants.{Lieutenants}
-use Rattle.lab.specs.declared.hint.Hint.{Hint}
-use Rattle.lab.specs.declared.refusal.Refusal.{Refusal}
-use Rattle.lab.specs.declared.refusal.Refusal.TheVariants as refusal
-
--- what is said with the name that was made for the file
-pub told_named : (name : Option (List ℕ)) (own : List ℕ) (P : List ℕ → Type 0) → IfSome name (λ n. own ≡ n) → P own → IfSome name P
-told_named None own P is p = tt
-told_named (Some n) own P is p = subst P is p
+use Rattle.faults.specs.declared.hint.Hint.{Hint}
+use Rattle.inputs.specs.declared.refusal.Refusal.{Refusal}
+use Rattle.inputs.specs.declared.refusal.Refusal.TheVariants as refusal
 
 -- nothing, whatever the name
 pub nothing_said : (name : Option (List ℕ)) → IfSome name (λ n. ◌≡◌ {A = List ℕ} [] [])
 nothing_said None = tt
 nothing_said (Some n) = refl
-
--- a text behind the line
-pub by_text : (cause : Refusal) (file : Bor (List ℕ)) (text : String Global) (tells : List ℕ → Type 0) → tells (string_bytes text) → IsTold cause file tells (text_fault cause file text)
-by_text (refusal.Codec error) file text tells t = (refl, (λ e. cc), (λ e. cc), t)
-by_text (refusal.Object fault) file text tells t = (refl, (λ e. cc), (λ e. cc), t)
-by_text (refusal.Verifier fault) file text tells t = (refl, (λ e. cc), (λ e. cc), t)
-by_text (refusal.Assembly error) file text tells t = (refl, (λ e. cc), (λ e. cc), t)
-by_text (refusal.Table error) file text tells t = (refl, (λ e. cc), (λ e. cc), t)
-by_text (refusal.Scenario error) file text tells t = (refl, (λ e. cc), (λ e. cc), t)
-by_text (refusal.Setting error) file text tells t = (refl, (λ e. cc), (λ e. cc), t)
-by_text (refusal.Trace error) file text tells t = (refl, (λ e. cc), (λ e. cc), t)
-by_text (refusal.Threads error) file text tells t = (refl, (λ e. cc), (λ e. cc), t)
-by_text (refusal.Accesses fault) file text tells t = (refl, (λ e. cc), (λ e. cc), t)
-by_text (refusal.Stranger general generals) file text tells t = (refl, (λ e. cc), (λ e. cc), t)
-by_text refusal.NotText file text tells t = (refl, refl)
-by_text refusal.Memory file text tells t = tt
 
 -- another fact of the text
 weaker : (cause : Refusal) (file : Bor (List ℕ)) (P Q : List ℕ → Type 0) (fault : Failure) → ((text : List ℕ) → P text → Q text) → IsTold cause file P fault → IsTold cause file Q fault

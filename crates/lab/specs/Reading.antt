@@ -1,11 +1,11 @@
 -- Bytecode that is longer than any program.
 use Rattle.std.specs.Prelude.{ℕ, List, Option, IfSome}
 use Rattle.command_line.specs.declared.tasks.Task.{Task}
-use Rattle.lab.specs.declared.refusal.Refusal.{Refusal}
-use Rattle.lab.specs.declared.refusal.Refusal.TheVariants.{Codec}
-use Rattle.lab.specs.Refusals.{RefusesBytes}
+use Rattle.inputs.specs.declared.refusal.Refusal.{Refusal}
+use Rattle.inputs.specs.declared.refusal.Refusal.TheVariants.{Codec}
+use Rattle.program_tasks.specs.Refusals.{RefusesBytes}
 use Rattle.lab.specs.Hints.{IsHintOf}
-use Rattle.lab.specs.declared.hint.Hint.{Hint}
+use Rattle.faults.specs.declared.hint.Hint.{Hint}
 use Rattle.streams.specs.Reading.{AreBytes}
 
 -- the bytes spell no program, by this first fault, and behind it stands what the task says of such bytecode

@@ -1,7 +1,7 @@
 -- How a task on its files ends. What a file has and what a stream holds are given where they are known.
 use Rattle.std.specs.Prelude.{ℕ, ◌≡◌, ◌≢◌, ◌⊎◌, Bool, true, false, List, [], ◌∷◌, ◌++◌, Option, None, Some, IfSome, IsSomeAnd, codes, option_map, unwrap_or}
 use Rattle.std.specs.Io.KnownBytes.{Appends}
-use Rattle.command_line.specs.Told.{file_of, second_of}
+use Rattle.command_line.specs.Tasks.{file_of, second_of}
 use Rattle.command_line.specs.declared.tasks.Account.{Account}
 use Rattle.command_line.specs.declared.tasks.Lieutenants.{Lieutenants}
 use Rattle.command_line.specs.declared.tasks.Notation.{Notation}
@@ -12,23 +12,29 @@ use Rattle.roster.specs.Scenario.{Scenario}
 use Rattle.scenario.specs.declared.messages.Campaign.{Campaign}
 use Rattle.scenario.specs.declared.messages.Campaign.TheVariants.{Oral}
 use Rattle.world.specs.declared.schedule.Repeat.{Repeat}
-use Rattle.lab.specs.declared.refusal.Refusal.{Refusal}
-use Rattle.lab.specs.declared.refusal.Refusal.TheVariants.{NotText, Memory}
+use Rattle.inputs.specs.declared.refusal.Refusal.{Refusal}
+use Rattle.inputs.specs.declared.refusal.Refusal.TheVariants.{NotText, Memory}
 use Rattle.lab.specs.declared.first_answer.FirstAnswer.{FirstAnswer}
 use Rattle.lab.specs.declared.first_answer.FirstAnswer.TheVariants as answer
-use Rattle.lab.specs.Answers.{GoesOn, IsPlace, IsTriedAt, IsTriedBy, Prints}
-use Rattle.lab.specs.Campaigns.{IsAudited, IsPlayed, IsSchedule}
-use Rattle.lab.specs.Diagrams.{IsCampaignDrawn, IsRecordDrawn}
-use Rattle.lab.specs.Pages.{IsCampaignPaged, IsRecordTold}
-use Rattle.lab.specs.Retracing.{IsScheduleFor}
+use Rattle.lab.specs.Answers.{GoesOn, IsPlace, Prints}
+use Rattle.program_tasks.specs.Answers.{IsTriedAt, IsTriedBy}
+use Rattle.campaign_tasks.specs.Campaigns.{IsAudited, IsPlayed}
+use Rattle.inputs.specs.Schedules.{IsSchedule}
+use Rattle.picture_tasks.specs.Diagrams.{IsCampaignDrawn, IsRecordDrawn}
+use Rattle.picture_tasks.specs.Pages.{IsCampaignPaged, IsRecordTold}
+use Rattle.campaign_tasks.specs.Retracing.{IsScheduleFor}
 use Rattle.streams.specs.Names.{shown}
 use Rattle.streams.specs.Reading.{AreBytes}
-use Rattle.lab.specs.Hints.{hint_behind, IsHint}
-use Rattle.lab.specs.declared.hint.Hint.{Hint}
-use Rattle.lab.specs.Telling.{refusal_text}
-use Rattle.lab.specs.Whys.{Role, TellsWhyOf, is_explained, role_behind}
-use Rattle.lab.specs.Whys as role
-use Rattle.lab.specs.Refusals.{Refuses, RefusesChronicle, RefusesMuster, RefusesSchedule, RefusesSetting, RefusesText}
+use Rattle.faults.specs.Hints.{hint_behind}
+use Rattle.lab.specs.Hints.{IsHint}
+use Rattle.faults.specs.declared.hint.Hint.{Hint}
+use Rattle.inputs.specs.ErrorText.{refusal_text}
+use Rattle.faults.specs.Whys.{Role, TellsWhyOf, is_explained}
+use Rattle.faults.specs.Whys as role
+use Rattle.lab.specs.Refusals.{Refuses}
+use Rattle.inputs.specs.Refusals.{RefusesChronicle, RefusesSchedule, RefusesText}
+use Rattle.campaign_tasks.specs.Refusals.{RefusesMuster}
+use Rattle.program_tasks.specs.Refusals.{RefusesSetting}
 
 -- the only or first file's bytes, and the second's where there is one
 pub record Files : Type 0 where
@@ -176,6 +182,14 @@ IfKnown (Some known) P = IfSome known P
 abbrev pub IsHintLater : Bool → List ℕ → Option (Option (List ℕ)) → Role → Refusal → Option Hint → Type 0
 IsHintLater false name known of refusal hint = hint ≡ None
 IsHintLater true name known of refusal hint = IfKnown known (λ all. TellsWhyOf refusal of name all (hint_behind hint))
+
+-- what a second file is, behind a first one with which the task goes on so
+abbrev pub role_behind : FirstAnswer → Role
+role_behind (answer.Play c account explained) = role.Schedule
+role_behind (answer.Audit c explained) = role.Chronicle c
+role_behind (answer.Draw c) = role.Schedule
+role_behind (answer.Page c text) = role.Schedule
+role_behind _ = role.Nothing
 
 -- behind such a first file it refuses so, and this is said behind it
 abbrev pub IsToldLater : Bool → List ℕ → Option (Option (List ℕ)) → FirstAnswer → Refusal → Option Hint → Type 0

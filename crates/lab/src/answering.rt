@@ -1,25 +1,18 @@
-ghost use Rattle.std.specs.Prelude.{◌≡◌, IfOk, IfErr, None, string_bytes};
-ghost use Rattle.lab.specs.Answers.{ComesTo, IsChecked};
-ghost use Rattle.lab.specs.Refusals.{Refuses, RefusesCheckIn};
+ghost use Rattle.std.specs.Prelude.{IfOk, IfErr, None};
+ghost use Rattle.lab.specs.Answers.{ComesTo};
+ghost use Rattle.lab.specs.Refusals.{Refuses};
 
-use crate::assembling::{assembled, assembled_raw, disassembled};
-use crate::checking::{accepted_in, check, checked_text};
-use crate::deciding::{decided, explained};
-use crate::explaining::with_explanation;
-use crate::exploring::explored as orders_of;
 use crate::first_answer::FirstAnswer;
-use crate::forming::{filled, formed};
-use crate::parts::{assembled_partly, assembled_partly_raw, disassembled_partly};
-use crate::picturing::pictured;
-use crate::playing::{any_campaign, asked_campaign, campaign, campaign_with_text};
-use crate::refusal::Refusal;
-use crate::scheduling::arranged;
-use crate::steps::with_steps;
-use crate::texts::as_text;
-use command_line::{Accesses, Course, Notation, Spelling, Task};
+use campaign_tasks::{arranged, explored as orders_of};
+use command_line::{Accesses, Course, Spelling, Task};
 use drawing::View;
+use inputs::{Refusal, any_campaign, as_text, asked_campaign, campaign, campaign_with_text};
+use program_tasks::{
+    accepted_in, assembled, assembled_partly, assembled_partly_raw, assembled_raw, checked_in,
+    disassembled, disassembled_partly,
+};
 use std::alloc::Global;
-use trial::Setting;
+use table_tasks::{decided, explained, filled, formed, pictured};
 
 /// What the task comes to on an only or first file of these bytes.
 ///
@@ -169,22 +162,4 @@ pub fn answer(alloc: Global, task: &Task, bytes: &[u8]) -> Result<FirstAnswer, R
             ..
         } => Ok(FirstAnswer::Text(arranged(alloc, bytes, list.as_str())?)),
     }
-}
-
-/// What a check prints of a file with a program in this notation, with its steps and its explanation or without them.
-fn checked_in(
-    alloc: Global,
-    notation: &Notation,
-    explained: bool,
-    traced: bool,
-    bytes: &[u8],
-) -> Result<String, Refusal>
-    ensures checked { IfOk result (λ text. IsChecked notation.now explained traced bytes.now (string_bytes text)) }
-    ensures refused { IfErr result (RefusesCheckIn notation.now bytes.now) }
-{
-    let (verified, checked) = check(alloc, notation, bytes)?;
-    let lines = checked_text(alloc, &checked)?;
-    let lines = with_steps(alloc, lines, traced, &verified, &Setting::bench(alloc))?;
-    let asked = if explained { Some(notation) } else { None };
-    Ok(with_explanation(alloc, lines, asked, bytes, verified.program())?)
 }

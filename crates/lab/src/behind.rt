@@ -1,17 +1,15 @@
 //! What comes behind a first file with which `draw`, `page` and `schedule` go on: the campaign's course is in the
 //! second one.
 ghost use Rattle.std.specs.Prelude.{IfErr, IfOk, IsSomeAnd, option_map, string_bytes};
-ghost use Rattle.lab.specs.Faults.{Stops};
+ghost use Rattle.faults.specs.Faults.{Stops};
 ghost use Rattle.lab.specs.Serving.{IsDrawnAs, IsDrawnBy, IsPagedAs, IsPagedBy, IsRetracedBy, IsToldLater};
 ghost use Rattle.lab.specs.declared.first_answer.FirstAnswer.TheVariants.{Draw, DrawRecorded, Page, PageRecorded, Retrace};
 
-use crate::diagramming::{diagrammed, record_diagrammed};
-use crate::failure::Failure;
-use crate::paging::{paged, record_paged};
 use crate::reading::read_second;
-use crate::scheduling::retraced;
 use crate::serving::scheduled;
-use crate::whys::{Traced, later};
+use campaign_tasks::retraced;
+use faults::{Failure, Traced, later};
+use picture_tasks::{diagrammed, paged, record_diagrammed, record_paged};
 use roster::Scenario;
 use scenario::Campaign;
 use std::alloc::Global;

@@ -2,21 +2,20 @@
 //! there.
 ghost use Rattle.std.specs.Prelude.{◌≡◌, IfErr, IfOk, IsSomeAnd, MatchResult, None, Ok, Err, Some, option_map};
 ghost use Rattle.lab.specs.Answers.{trial_of};
-ghost use Rattle.lab.specs.Faults.{Prevents, Stops};
+ghost use Rattle.lab.specs.Faults.{Prevents};
+ghost use Rattle.faults.specs.Faults.{Stops};
 ghost use Rattle.lab.specs.Hints.{explained_in};
 ghost use Rattle.lab.specs.Serving.{IsPlacedAnswer, IsToldLater, IsTrialAt, files};
-ghost use Rattle.lab.specs.Whys.{is_explained};
+ghost use Rattle.faults.specs.Whys.{is_explained};
 ghost use Rattle.lab.specs.declared.first_answer.FirstAnswer.TheVariants.{Trial};
 
-use crate::checking::accepted_in;
 use crate::explaining::{explained_in, refused};
-use crate::failure::Failure;
 use crate::reading::{read_first, read_second};
 use crate::serving::answered;
-use crate::trying::tried_by;
-use crate::whys::{Traced, is_explained, later};
 use command_line::{Notation, Task};
+use faults::{Failure, Traced, is_explained, later};
 use label::Shape;
+use program_tasks::{accepted_in, tried_by};
 use std::alloc::Global;
 use std::sync::Wait;
 use std::thread::Threads;

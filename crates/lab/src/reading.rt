@@ -1,18 +1,16 @@
 //! A task's files are read here, no further than their bytes can matter.
 ghost use Rattle.std.specs.Prelude.{◌≡◌, ◌<◌, ◌*◌, ℕ, List, length, IfOk, IfErr, IsSomeAnd, option_map};
 ghost use Rattle.std.specs.IoError.{error_kind};
-ghost use Rattle.lab.specs.Faults.{Stops, unread_by};
+ghost use Rattle.faults.specs.Faults.{Stops, unread_by};
 ghost use Rattle.lab.specs.Reading.{IsTooLong};
-ghost use Rattle.streams.specs.Reading.{IsFront};
-ghost use Rattle.lab.specs.Refusals.{RefusesBytes};
+ghost use Rattle.streams.specs.Reading.{IsFront, AreBytes};
+ghost use Rattle.program_tasks.specs.Refusals.{RefusesBytes};
 ghost use Rattle.lab.specs.Serving.{AreSecondBytes, IsRefused, first_name};
-ghost use Rattle.streams.specs.Reading.{AreBytes};
 
-use crate::failure::Failure;
-use crate::refusal::Refusal;
-use crate::whys::unjudged;
 use codec::{CodecError, Fault as CodecFault};
 use command_line::{Notation, Task};
+use faults::{Failure, unjudged};
+use inputs::Refusal;
 use insn::Program;
 use std::alloc::Global;
 use std::io::{self, ErrorKind};

@@ -1,25 +1,23 @@
 ghost use Rattle.std.specs.Prelude.{◌≡◌, ◌≢◌, ◌⊎◌, [], Ok, Err, IfOk, IfErr, IsErrAnd, IsSomeAnd, MatchResult, OnOk, codes, option_map};
-ghost use Rattle.lab.specs.Faults.{IsToldIf, Undoes, Prevents, Stops};
+ghost use Rattle.faults.specs.Faults.{IsToldIf, Stops};
+ghost use Rattle.lab.specs.Faults.{Undoes, Prevents};
 ghost use Rattle.lab.specs.Hints.{explained_in};
-ghost use Rattle.lab.specs.Whys.{Nothing, TellsWhyOf, is_explained};
+ghost use Rattle.faults.specs.Whys.{Nothing, TellsWhyOf, is_explained};
 ghost use Rattle.lab.specs.Serving.{IsAnswer, IsAuditOf, IsFault, IsPlayedBy, IsPrinted, IsScheduleOf, IsScheduleTold, IsToldLater, IsTrialOf, Tells, files, second_name};
 ghost use Rattle.lab.specs.declared.first_answer.FirstAnswer.TheVariants.{Trial, Play, Audit};
-ghost use Rattle.lab.specs.declared.failure.Failure.TheVariants.{Write as unwritten};
+ghost use Rattle.faults.specs.declared.failure.Failure.TheVariants.{Write as unwritten};
 ghost use Rattle.streams.specs.Writing.{AppendsFront};
 
 use crate::answering::answer;
-use crate::auditing::audited;
 use crate::behind::{draw_by, draw_record, page_by, page_record, retrace_of};
 use crate::explaining::refused;
-use crate::failure::Failure;
 use crate::first_answer::FirstAnswer;
-use crate::mustering::mustered;
 use crate::placing::trial_at;
-use crate::playing::{played, schedule_of};
 use crate::reading::{read_first, read_schedule, read_second};
-use crate::refusal::Refusal;
-use crate::whys::{Traced, is_explained, later};
+use campaign_tasks::{audited, mustered, played};
 use command_line::{Account, Lieutenants, Task};
+use faults::{Failure, Traced, is_explained, later};
+use inputs::{Refusal, schedule_of};
 use scenario::Campaign;
 use std::alloc::Global;
 use std::sync::Wait;
@@ -125,15 +123,7 @@ where
         Ok(FirstAnswer::Text(text)) => Ok(text.into_bytes()),
         Ok(FirstAnswer::Bytes(bytes)) => Ok(bytes),
         Ok(FirstAnswer::Trial(program, traced)) => {
-            trial_of(
-                alloc,
-                task,
-                bytes.as_slice(),
-                &program,
-                traced,
-                file,
-                second,
-            )
+            trial_of(alloc, task, bytes.as_slice(), program, traced, file, second)
         }
         Ok(FirstAnswer::Play(campaign, account, explained)) => {
             play_by(alloc, campaign, account, explained, reported, file, second)
@@ -185,20 +175,20 @@ fn trial_of<'a, R: Source>(
     alloc: Global,
     task: &Task,
     first: &[u8],
-    program: &Verified,
+    program: Verified,
     traced: bool,
     file: &'a str,
     second: Option<R>,
 ) -> Result<Vec<u8>, Failure<'a>>
     ensures tried { IfOk result
         (λ text. IsTrialOf (option_map R.bytes second) traced
-        (explained_in task.now) first.now program.now text.items) }
+        (explained_in task.now) first.now program text.items) }
     ensures fault { IfErr result
         (Stops (IsSomeAnd second R.fails)
         (IsToldLater (is_explained task.now) file.entry.now (option_map R.bytes second)
-        (Trial program.now traced)) file.entry.now) }
+        (Trial program traced)) file.entry.now) }
 {
-    match trial_at(alloc, task, first, program, traced, file, second) {
+    match trial_at(alloc, task, first, &program, traced, file, second) {
         Ok(answer) => Ok(answer.text),
         Err(failure) => Err(failure),
     }

@@ -30,12 +30,14 @@ LabelsAscend = (n c p k i j : ℕ) (v w : List ℕ) → c < n → p < n → p �
 -- one label of the commander alone, and as many as the product says of each further length
 pub record LabelsAreCounted : Type 0 where
   pub first : (n c p : ℕ) → p ≢ c → length (labels n c p 1) ≡ 1
-  pub further : (n c p k : ℕ) → c < n → p < n → p ≢ c → length (labels n c p (suc (suc k))) ≡ length (labels n c p (suc k)) * (n - 2 - k)
+  pub further : (n c p k : ℕ) → c < n → p < n → p ≢ c →
+      length (labels n c p (suc (suc k))) ≡ length (labels n c p (suc k)) * (n - 2 - k)
 
 -- the children of the label at rank r, those with one general more, stand together and in the order of that general
 abbrev pub ChildrenStand : Type 0
-ChildrenStand = (n c p k r t j : ℕ) (w : List ℕ) → c < n → p < n → p ≢ c → slice_get (labels n c p (suc k)) r ≡ Some w → slice_get (others n (p ∷ w)) t ≡ Some j
-    → slice_get (labels n c p (suc (suc k))) (r * (n - 2 - k) + t) ≡ Some (w ++ j ∷ [])
+ChildrenStand = (n c p k r t j : ℕ) (w : List ℕ) → c < n → p < n → p ≢ c →
+    slice_get (labels n c p (suc k)) r ≡ Some w → slice_get (others n (p ∷ w)) t ≡ Some j →
+    slice_get (labels n c p (suc (suc k))) (r * (n - 2 - k) + t) ≡ Some (w ++ j ∷ [])
 
 -- the decision of p reads no more of the messages than his own, at labels of at most so many generals that lack him
 abbrev pub DecisionsReadOwn : Type 0

@@ -6,4 +6,4 @@ pub mod Generals
 pub mod Space
 pub mod Lieutenants
 pub mod Mask
-pub mod Telling
+pub mod ErrorText

@@ -23,7 +23,7 @@ pub enum LabelError {
 
 impl fmt::Display for LabelError {
     ghost use Rattle.std.specs.Prelude.{Some};
-    ghost use Rattle.label.specs.Telling.{told};
+    ghost use Rattle.label.specs.ErrorText.{told};
 
     ghost output = { λ error. Some (told error) };
 

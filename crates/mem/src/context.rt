@@ -27,7 +27,7 @@ impl<'a> Model for Context<'a> {
 
 impl<'a> Context<'a> {
     /// How many bytes it has.
-    pub const BYTES: usize = 4096;
+    pub const BYTES: usize = contexts::layout::BYTES;
 
     /// The context of these bytes, which are 4,096.
     pub fn new(bytes: &'a [u8]) -> Context<'a>

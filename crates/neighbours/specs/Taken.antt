@@ -8,7 +8,7 @@ use Rattle.hex.specs.Hex.{encode_lower}
 use Rattle.elf.specs.declared.fault.Fault.{Fault}
 use Rattle.elf.specs.Entry.{entry_of}
 use Rattle.elf.specs.Sentences.{sentence_of}
-use Rattle.elf.specs.Telling.{told}
+use Rattle.elf.specs.ErrorText.{told}
 use Rattle.streams.specs.Names.{shown}
 use Rattle.references.specs.declared.key.Key.{Key}
 use Rattle.references.specs.declared.key.Key.TheVariants.{Assembly, Bytecode, Object}

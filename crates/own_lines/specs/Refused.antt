@@ -5,10 +5,10 @@ use Rattle.toml.specs.Parse.{parse_document}
 use Rattle.command_line.specs.declared.tasks.Account.TheVariants.{Chronicle, Table}
 use Rattle.command_line.specs.declared.tasks.Task.{Task}
 use Rattle.command_line.specs.declared.tasks.Task.TheVariants.{Audit, Muster, Play}
-use Rattle.command_line.specs.Told.{file_of}
+use Rattle.command_line.specs.Tasks.{file_of}
 use Rattle.roster.specs.Scenario.{Scenario}
-use Rattle.scenario.specs.Told.{Reads, ReadsAny}
-use Rattle.scenario.specs.Telling.{told}
+use Rattle.scenario.specs.Reading.{Reads, ReadsAny}
+use Rattle.scenario.specs.ErrorText.{told}
 use Rattle.scenario.specs.declared.fault.ScenarioError.{ScenarioError}
 use Rattle.scenario.specs.declared.fault.ScenarioError.TheVariants.{Memory}
 use Rattle.scenario.specs.declared.messages.Campaign.{Campaign}

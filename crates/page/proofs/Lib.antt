@@ -3,3 +3,4 @@ pub mod NumberLemmas
 mod VisibleLaws
 pub mod PageLaws
 pub mod PlainLemmas
+pub mod SectionLaws

@@ -1,15 +1,16 @@
 -- Laws of pages. Each is the contract of a function of this crate.
-use Rattle.std.specs.Prelude.{ℕ, ◌≡◌, Bool, true, not, List, ◌++◌, codes}
-use Rattle.std.specs.List.{list_all}
+use Rattle.std.specs.Prelude.{ℕ, ◌+◌, ◌≤◌, ◌≡◌, Bool, true, not, List, ◌∷◌, ◌++◌, codes, length}
+use Rattle.std.specs.List.{All, list_all}
 use Rattle.markup.specs.Grammar.{IsContent, IsElement, IsText}
 use Rattle.page.specs.Page.{begun_lines, cell, fold, head, heading, item, lines, list, page, paragraph, picture, row, shown, table, text_item}
+use Rattle.page.specs.Sections.{Section, all_sections, heading_bytes, rooms, sections_in, told_bytes}
 use Rattle.page.specs.Visible.{is_hidden, visible}
 
 -- a text of others is text without tags: no < > and ", and no & but that of a reference
 abbrev pub TextsAreText : Type 0
 TextsAreText = (text : List ℕ) → IsText (shown text)
 
--- what is shown of a text has no character that is not seen; a text without such characters is shown as it is
+-- what is shown of a text has none of the characters that Visible lists; a text without them is shown as it is
 pub record TextsAreVisible : Type 0 where
   pub seen : (cs : List ℕ) → list_all (λ c. not (is_hidden c)) (visible cs) ≡ true
   pub same : (cs : List ℕ) → list_all (λ c. not (is_hidden c)) cs ≡ true → visible cs ≡ cs
@@ -35,3 +36,28 @@ pub record PartsAreContent : Type 0 where
 abbrev pub PagesAreElements : Type 0
 PagesAreElements = (title parts : List ℕ) → IsContent parts →
     (text : List ℕ) × IsElement text × (page title parts ≡ codes "<!DOCTYPE html>\n" ++ text ++ codes "\n")
+
+-- a text stands in another
+abbrev pub StandsIn : List ℕ → List ℕ → Type 0
+StandsIn part whole = (before : List ℕ) × (after : List ℕ) × (whole ≡ before ++ part ++ after)
+
+-- what stands in a section's place is within its own room
+abbrev pub IsRoomy : Section → Type 0
+IsRoomy s = length s.instead ≤ s.room
+
+-- a section of content, and content in its place
+abbrev pub IsFilled : Section → Type 0
+IsFilled s = IsContent s.told × IsContent s.instead
+
+-- sections whose own rooms are there take the room and their headings at most; each within its own room is told, and
+-- where the room suffices for all, so are all; and they are content where each is
+pub record SectionsAreFitted : Type 0 where
+  pub short :
+      (room : ℕ) (ss : List Section) → rooms ss ≤ room → All IsRoomy ss
+      → length (sections_in room ss) ≤ room + heading_bytes ss
+  pub own :
+      (room : ℕ) (before : List Section) (s : Section) (after : List Section)
+      → length s.told ≤ s.room → StandsIn s.told (sections_in room (before ++ s ∷ after))
+  pub all :
+      (room : ℕ) (ss : List Section) → told_bytes ss ≤ room → All IsRoomy ss → sections_in room ss ≡ all_sections ss
+  pub content : (room : ℕ) (ss : List Section) → All IsFilled ss → IsContent (sections_in room ss)

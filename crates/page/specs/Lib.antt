@@ -1,3 +1,4 @@
 pub mod Visible
 pub mod Page
+pub mod Sections
 pub mod Laws

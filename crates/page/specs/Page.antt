@@ -12,26 +12,30 @@ shown text = encode_utf8_all (escaped (visible (chars text)))
 -- that it is HTML, in English, and what it may use: its own style, and pictures that stand in it
 unfoldable pub preamble : List ℕ
 preamble =
-    codes "<!DOCTYPE html>\n<html lang=\"en\">\n<head>\n<meta charset=\"utf-8\"/>\n<meta http-equiv=\"Content-Security-Policy\" con"
-    ++ codes "tent=\"default-src 'none'; style-src 'unsafe-inline'; img-src data:\"/>\n<meta name=\"viewport\" content=\"width=device-"
-    ++ codes "width, initial-scale=1\"/>\n<style>"
+    codes "<!DOCTYPE html>\n<html lang=\"en\">\n<head>\n<meta charset=\"utf-8\"/>\n"
+    ++ codes "<meta http-equiv=\"Content-Security-Policy\" content=\"default-src 'none'; style-src 'unsafe-inline'; "
+    ++ codes "img-src data:\"/>\n<meta name=\"viewport\" content=\"width=device-width, initial-scale=1\"/>\n<style>"
 
 -- how it looks
 unfoldable pub look : List ℕ
 look =
-    codes ":root{color-scheme:light dark}body{margin:0;background:#fff;color:#111;font:16px/1.5 sans-serif}main{max-w"
-    ++ codes "idth:70rem;margin:auto;padding:1rem}h1{font-size:1.4rem}h2{font-size:1.15rem;margin-top:2rem}pre{margin:.5"
-    ++ codes "rem 0;padding-left:.6rem;border-left:3px solid #8a8a8a;font:13px/1.45 monospace;white-space:pre-wrap;overf"
-    ++ codes "low-wrap:anywhere}ul{list-style:none;margin:.2rem 0 .2rem .3rem;padding-left:.8rem;border-left:1px solid #"
-    ++ codes "8a8a8a}table{border-collapse:collapse;table-layout:fixed;width:100%}th:nth-child(-n+2){width:4.5rem}th,td{"
-    ++ codes "border:1px solid #8a8a8a;padding:.2rem .3rem;text-align:left;vertical-align:top;overflow-wrap:anywhere}sum"
-    ++ codes "mary{padding:.4rem 0;font-weight:bold;cursor:pointer}li summary{padding:.1rem 0;font-weight:normal}figure{"
-    ++ codes "margin:0;overflow-x:auto}summary:focus-visible,figure:focus-visible{outline:3px solid #0b5fa5;outline-offs"
-    ++ codes "et:2px}@media(prefers-color-scheme:dark){body{background:#111;color:#eee}summary:focus-visible,figure:focu"
-    ++ codes "s-visible{outline-color:#6cb8f5}}@page wide{size:A3 landscape;margin:5mm}@media print{body{background:#fff"
-    ++ codes ";color:#000}main{max-width:none;padding:0}figure{overflow:visible;break-inside:avoid}.wide{page:wide}.wide"
-    ++ codes "::after{content:'';display:block;break-after:page}h2,summary{break-after:avoid}summary{list-style:none}svg"
-    ++ codes "{max-width:100%;height:auto}details::details-content{content-visibility:visible;block-size:auto}}"
+    codes ":root{color-scheme:light dark}body{margin:0;background:#fff;color:#111;font:16px/1.5 sans-serif}"
+    ++ codes "main{max-width:70rem;margin:auto;padding:1rem}h1{font-size:1.4rem}h2{font-size:1.15rem;margin-top:2rem}"
+    ++ codes "pre{margin:.5rem 0;padding-left:.6rem;border-left:3px solid #8a8a8a;font:13px/1.45 monospace;"
+    ++ codes "white-space:pre-wrap;overflow-wrap:anywhere}"
+    ++ codes "ul{list-style:none;margin:.2rem 0 .2rem .3rem;padding-left:.8rem;border-left:1px solid #8a8a8a}"
+    ++ codes "table{border-collapse:collapse;table-layout:fixed;width:100%}th:nth-child(-n+2){width:4.5rem}"
+    ++ codes "th,td{border:1px solid #8a8a8a;padding:.2rem .3rem;text-align:left;vertical-align:top;"
+    ++ codes "overflow-wrap:anywhere}summary{padding:.4rem 0;font-weight:bold;cursor:pointer}"
+    ++ codes "li summary{padding:.1rem 0;font-weight:normal}figure{margin:0;overflow-x:auto}"
+    ++ codes "summary:focus-visible,figure:focus-visible{outline:3px solid #0b5fa5;outline-offset:2px}"
+    ++ codes "@media(prefers-color-scheme:dark){body{background:#111;color:#eee}"
+    ++ codes "summary:focus-visible,figure:focus-visible{outline-color:#6cb8f5}}"
+    ++ codes "@page wide{size:A3 landscape;margin:5mm}@media print{body{background:#fff;color:#000}"
+    ++ codes "main{max-width:none;padding:0}figure{overflow:visible;break-inside:avoid}.wide{page:wide}"
+    ++ codes ".wide::after{content:'';display:block;break-after:page}h2,summary{break-after:avoid}"
+    ++ codes "summary{list-style:none}svg{max-width:100%;height:auto}"
+    ++ codes "details::details-content{content-visibility:visible;block-size:auto}}"
 
 abbrev pub look_end : List ℕ
 look_end = codes "</style>\n<title>"

@@ -3,13 +3,28 @@ use Rattle.std.specs.Prelude.{ℕ, ◌+◌, ◌/◌, ◌%◌, ◌==◌, nat_lt, 
 use Rattle.std.specs.List.{flat_map}
 use Rattle.markup.specs.Escaped.{is_within}
 
--- controls but the tab, the line feed and the carriage return (Unicode, general category Cc), those that turn the order
--- of others (UAX 9, Bidi_Control), and three of no width
+-- controls but the tab, the line feed and the carriage return (Unicode, general category Cc)
+abbrev pub is_control : ℕ → Bool
+is_control c = is_within 0 8 c || is_within 11 12 c || is_within 14 31 c || is_within 127 159 c
+
+-- those that turn the order of others (UAX 9, Bidi_Control) or are not seen (UAX 44, Default_Ignorable_Code_Point, and
+-- the marks of annotations, U+FFF9 to U+FFFB), but for U+200C and U+200D, which join letters, and U+FE00 to U+FE0F,
+-- which choose their form: below U+2000, below U+10000 and above
+abbrev pub is_ignored_below : ℕ → Bool
+is_ignored_below c =
+    c == 0xAD || c == 0x34F || c == 0x61C || is_within 0x115F 0x1160 c || is_within 0x17B4 0x17B5 c
+    || is_within 0x180B 0x180F c
+
+abbrev pub is_ignored : ℕ → Bool
+is_ignored c =
+    c == 0x200B || is_within 0x200E 0x200F c || is_within 0x202A 0x202E c || is_within 0x2060 0x206F c || c == 0x3164
+    || c == 0xFEFF || c == 0xFFA0 || is_within 0xFFF0 0xFFFB c
+
+abbrev pub is_ignored_above : ℕ → Bool
+is_ignored_above c = is_within 0x1BCA0 0x1BCA3 c || is_within 0x1D173 0x1D17A c || is_within 0xE0000 0xE0FFF c
+
 abbrev pub is_hidden : ℕ → Bool
-is_hidden c =
-    is_within 0 8 c || is_within 11 12 c || is_within 14 31 c || is_within 127 159 c || c == 0x61C || c == 0x200B
-    || is_within 0x200E 0x200F c || is_within 0x202A 0x202E c
-    || c == 0x2060 || is_within 0x2066 0x2069 c || c == 0xFEFF
+is_hidden c = is_control c || is_ignored_below c || is_ignored c || is_ignored_above c
 
 -- written as it is: what ASCII prints, but for markup
 abbrev pub is_plain : ℕ → Bool
@@ -19,10 +34,14 @@ is_plain c = is_within 32 33 c || is_within 35 37 c || is_within 40 59 c || c ==
 abbrev pub digit : ℕ → ℕ
 digit d = if nat_lt d 10 then 48 + d else 55 + d
 
--- the number of a character, of four digits, as Unicode writes it
+-- the number of a character, as Unicode writes it: of four digits, and before them a fifth, if need be
+abbrev pub fifth : ℕ → List ℕ
+fifth c = if nat_lt c 65536 then [] else digit (c / 65536 % 16) ∷ []
+
 abbrev pub numbered : ℕ → List ℕ
-numbered c = codes "[U+" ++ digit (c / 4096 % 16) ∷ digit (c / 256 % 16) ∷ digit (c / 16 % 16) ∷ digit
-    (c % 16) ∷ codes "]"
+numbered c =
+    codes "[U+" ++ (fifth c ++ (digit (c / 4096 % 16) ∷ digit (c / 256 % 16) ∷ digit (c / 16 % 16) ∷ digit (c % 16)
+    ∷ codes "]"))
 
 abbrev pub made_visible : ℕ → List ℕ
 made_visible c = if is_hidden c then numbered c else c ∷ []

@@ -1,5 +1,5 @@
 //! Laws of pages: each function does nothing, and its contract is the law.
-ghost use Rattle.page.specs.Laws.{PagesAreElements, PartsAreContent, TextsAreText, TextsAreVisible};
+ghost use Rattle.page.specs.Laws.{PagesAreElements, PartsAreContent, SectionsAreFitted, TextsAreText, TextsAreVisible};
 
 /// A text of others has no markup: no angle bracket, no quotation mark, and no ampersand but that of a reference.
 pub fn texts_are_text()
@@ -20,4 +20,10 @@ pub fn parts_are_content()
 /// A page whose parts are content is a line that says what it is, and one element.
 pub fn pages_are_elements()
     ensures { PagesAreElements }
+{}
+
+/// Sections take no more than their room and their headings; each that its own room suffices for is told, and all are
+/// where the room suffices for all; and they are content where each is.
+pub fn sections_are_fitted()
+    ensures { SectionsAreFitted }
 {}

@@ -4,12 +4,18 @@
 mod laws;
 mod page;
 mod parts;
+mod section;
+mod sections;
 mod visible;
 
-pub use laws::{pages_are_elements, parts_are_content, texts_are_text, texts_are_visible};
+pub use laws::{
+    pages_are_elements, parts_are_content, sections_are_fitted, texts_are_text, texts_are_visible,
+};
 pub use page::{finish, start};
 pub use parts::{
     put_begun_lines, put_cell, put_fold_end, put_fold_start, put_head, put_heading, put_item_end,
     put_item_start, put_lines, put_list_end, put_list_start, put_paragraph, put_picture,
     put_row_end, put_row_start, put_table_end, put_table_start, put_text_item,
 };
+pub use section::Section;
+pub use sections::put_sections;

@@ -36,7 +36,8 @@ fn preamble() -> &'static str
     ensures { result.now ≡ preamble }
 {
     "<!DOCTYPE html>\n<html lang=\"en\">\n<head>\n<meta charset=\"utf-8\"/>\n\
-     <meta http-equiv=\"Content-Security-Policy\" content=\"default-src 'none'; style-src 'unsafe-inline'; img-src data:\"/>\n\
+     <meta http-equiv=\"Content-Security-Policy\" content=\"default-src 'none'; style-src 'unsafe-inline'; \
+     img-src data:\"/>\n\
      <meta name=\"viewport\" content=\"width=device-width, initial-scale=1\"/>\n<style>"
 }
 

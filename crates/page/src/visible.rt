@@ -3,7 +3,7 @@ ghost use Rattle.std.specs.Prelude.{◌≡◌, ◌<◌, ◌++◌, string_bytes, 
 ghost use Rattle.std.specs.Str.{encode_utf8_all};
 ghost use Rattle.markup.specs.Escaped.{escaped};
 ghost use Rattle.page.specs.Page.{shown};
-ghost use Rattle.page.specs.Visible.{digit, is_hidden, is_plain, made_visible, numbered};
+ghost use Rattle.page.specs.Visible.{digit, fifth, is_control, is_hidden, is_ignored, is_ignored_above, is_ignored_below, is_plain, made_visible, numbered, visible};
 
 use markup::put_character;
 use std::alloc::AllocError;
@@ -44,11 +44,23 @@ fn put_number(out: &mut String, number: u32) -> Result<(), AllocError>
     ensures { OnOk result (string_bytes out.new ≡ string_bytes out.old ++ encode_utf8_all (escaped (numbered number))) }
 {
     out.push_str("[U+")?;
+    put_fifth(out, number)?;
     put_character(out, digit(number / 4096 % 16))?;
     put_character(out, digit(number / 256 % 16))?;
     put_character(out, digit(number / 16 % 16))?;
     put_character(out, digit(number % 16))?;
     out.push_str("]")
+}
+
+/// Adds the fifth digit, if need be.
+#[tactic(auto, using(crate::proofs::NumberLemmas::one_written))]
+fn put_fifth(out: &mut String, number: u32) -> Result<(), AllocError>
+    ensures { OnOk result (string_bytes out.new ≡ string_bytes out.old ++ encode_utf8_all (escaped (fifth number))) }
+{
+    if number < 65536 {
+        return Ok(());
+    }
+    put_character(out, digit(number / 65536 % 16))
 }
 
 /// A digit to the base of 16.
@@ -75,18 +87,60 @@ fn is_plain(character: char) -> bool
 fn is_hidden(character: char) -> bool
     ensures { result ≡ is_hidden character }
 {
+    is_control(character)
+        || is_ignored_below(character)
+        || is_ignored(character)
+        || is_ignored_above(character)
+}
+
+/// Whether it is a control but the tab, the line feed and the carriage return.
+fn is_control(character: char) -> bool
+    ensures { result ≡ is_control character }
+{
     matches!(
         character,
-        '\u{0}'..='\u{8}'
-            | '\u{B}'..='\u{C}'
-            | '\u{E}'..='\u{1F}'
-            | '\u{7F}'..='\u{9F}'
+        '\u{0}'..='\u{8}' | '\u{B}'..='\u{C}' | '\u{E}'..='\u{1F}' | '\u{7F}'..='\u{9F}'
+    )
+}
+
+/// Whether it is one of those below U+2000 that are not seen.
+fn is_ignored_below(character: char) -> bool
+    ensures { result ≡ is_ignored_below character }
+{
+    matches!(
+        character,
+        '\u{AD}'
+            | '\u{34F}'
             | '\u{61C}'
-            | '\u{200B}'
+            | '\u{115F}'..='\u{1160}'
+            | '\u{17B4}'..='\u{17B5}'
+            | '\u{180B}'..='\u{180F}'
+    )
+}
+
+/// Or of those below U+10000, or that turn the order of others.
+fn is_ignored(character: char) -> bool
+    ensures { result ≡ is_ignored character }
+{
+    matches!(
+        character,
+        '\u{200B}'
             | '\u{200E}'..='\u{200F}'
             | '\u{202A}'..='\u{202E}'
-            | '\u{2060}'
-            | '\u{2066}'..='\u{2069}'
+            | '\u{2060}'..='\u{206F}'
+            | '\u{3164}'
             | '\u{FEFF}'
+            | '\u{FFA0}'
+            | '\u{FFF0}'..='\u{FFFB}'
+    )
+}
+
+/// Or of those above.
+fn is_ignored_above(character: char) -> bool
+    ensures { result ≡ is_ignored_above character }
+{
+    matches!(
+        character,
+        '\u{1BCA0}'..='\u{1BCA3}' | '\u{1D173}'..='\u{1D17A}' | '\u{E0000}'..='\u{E0FFF}'
     )
 }

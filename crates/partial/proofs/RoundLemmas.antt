@@ -14,7 +14,7 @@ use Rattle.insn.proofs.SlotLemmas.{length-slots_of-cons}
 use Rattle.codec.specs.declared.fault.Fault.{Fault}
 use Rattle.codec.specs.declared.fault.Fault.TheVariants as fault
 use Rattle.codec.specs.Spelling.{instruction_bytes}
-use Rattle.codec.specs.Telling.{code_of}
+use Rattle.codec.specs.ErrorText.{code_of}
 use Rattle.codec.proofs.FrontLemmas.{units_few}
 use Rattle.asm.specs.declared.fault.AsmError.{AsmError}
 use Rattle.asm.specs.declared.fault.Fault.{Fault as AsmFault}

@@ -4,7 +4,7 @@ use Rattle.std.specs.List.{flat_map}
 use Rattle.hex.specs.Hex.{encode_lower}
 use Rattle.codec.specs.declared.fault.Fault.{Fault}
 use Rattle.codec.specs.declared.fault.Fault.TheVariants.{LeftOut}
-use Rattle.codec.specs.Telling.{code_of}
+use Rattle.codec.specs.ErrorText.{code_of}
 use Rattle.asm.specs.Printing.{insn_text}
 use Rattle.partial.specs.Pieces.{Piece, Spelled, Raw, ArePieces}
 

@@ -1,4 +1,5 @@
 mod Documents
+mod PrintLemmas
 mod ListLemmas
 mod MemberLemmas
 mod OriginLemmas

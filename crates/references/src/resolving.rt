@@ -5,12 +5,14 @@ ghost use Rattle.toml.specs.Parse.{parse_document};
 ghost use Rattle.toml.specs.View.{items_view, table_view, view};
 ghost use Rattle.references.specs.Members.{join};
 ghost use Rattle.references.specs.Names.{traitors};
+ghost use Rattle.references.specs.Parsed.{IsTextBy};
 ghost use Rattle.references.specs.Resolved.{IsPrinted, Resolves, ResolvesList, element_refers, entry, is_spent, one_each, program, rebuilt, refers, resolved, table_refers, tables, tables_of};
 
 use crate::beside::{Beside, text_named};
 use crate::key::Key;
 use crate::tables::{document, function_at, has, name_at, put, seats, traitors};
 use std::alloc::{AllocError, Global};
+use toml::ser::Error;
 use toml::{Table, Value};
 
 /// What stands in the place of the file that a table names by this key: the key of its program and its text; nothing
@@ -176,15 +178,23 @@ fn refers(values: &[Value]) -> bool
     false
 }
 
+/// What is told of a table that was printed so: its text, or none where a date has no text.
+fn text_of<T: Drop>(printed: Result<T, Error>) -> Result<Option<T>, AllocError>
+    ensures { IsTextBy printed result }
+{
+    match printed {
+        Ok(text) => Ok(Some(text)),
+        Err(Error::DateInvalid) => Ok(None),
+        Err(Error::OutOfMemory) => Err(AllocError),
+    }
+}
+
 /// The text of a table; none where a date of it has no text.
+#[tactic(auto, using(crate::proofs::PrintLemmas::told_so))]
 fn printed(alloc: Global, table: &Table) -> Result<Option<String>, AllocError>
     ensures { IfOk result (λ new. IsPrinted (table_view table.now) (option_map string_bytes new)) }
 {
-    match toml::table_to_string(alloc, table) {
-        Ok(text) => Ok(Some(text)),
-        Err(toml::ser::Error::DateInvalid) => Ok(None),
-        Err(_) => Err(AllocError),
-    }
+    text_of(toml::table_to_string(alloc, table))
 }
 
 /// The text of a document's table in which the files stand where they are named, and each traitor has a table of his

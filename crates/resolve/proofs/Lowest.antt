@@ -3,7 +3,7 @@ use Rattle.std.proofs.Common.{ℕ, zero, suc, ◌+◌, ◌-◌, ◌*◌, ◌≤�
 use Rattle.std.specs.Prelude.{slice_range, slice_index_or}
 use Rattle.std.specs.List.{range_with_len}
 use Rattle.std.proofs.lemmas.List.{drop_more}
-use Rattle.combine.specs.Told.{order_or_retreat, with_own}
+use Rattle.combine.specs.Orders.{order_or_retreat, with_own}
 use Rattle.label.specs.Oral.{order_of}
 use Rattle.tree.specs.LieutenantTree.{LieutenantTree, level_of}
 use Rattle.resolve.specs.Decided.{decided, order_at_rank}

@@ -17,7 +17,7 @@ pub enum AccessFault {
 
 impl fmt::Display for AccessFault {
     ghost use Rattle.std.specs.Prelude.{Some};
-    ghost use Rattle.retracing.specs.Telling.{fault_told};
+    ghost use Rattle.retracing.specs.ErrorText.{fault_told};
 
     ghost output = { λ fault. Some (fault_told fault) };
 
@@ -43,7 +43,7 @@ pub enum AccessesError {
 
 impl fmt::Display for AccessesError {
     ghost use Rattle.std.specs.Prelude.{Some};
-    ghost use Rattle.retracing.specs.Telling.{told};
+    ghost use Rattle.retracing.specs.ErrorText.{told};
 
     ghost output = { λ error. Some (told error) };
 

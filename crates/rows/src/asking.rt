@@ -1,4 +1,5 @@
 //! What an answer is asked, and the first difference.
+use crate::answering::Told;
 use crate::comparing::{Outcome, compare};
 use crate::item::{Item, Key};
 use crate::likeness::is_like;
@@ -7,7 +8,6 @@ use crate::respelling::again;
 use crate::row::Call;
 use crate::shelf::Shelf;
 use crate::shelving::{copied, number};
-use crate::telling::Told;
 use anyhow::Result;
 use std::alloc::Global;
 use std::rt::Files;

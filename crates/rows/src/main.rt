@@ -3,6 +3,7 @@
 //! says how one is written.
 #![tactic(auto)]
 
+mod answering;
 mod asking;
 mod comparing;
 mod item;
@@ -14,7 +15,6 @@ mod respelling;
 mod row;
 mod shelf;
 mod shelving;
-mod telling;
 
 use anyhow::Result;
 use std::env;

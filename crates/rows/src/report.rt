@@ -1,11 +1,11 @@
 //! What is printed of a table.
+use crate::answering::answered;
 use crate::asking::difference;
 use crate::item::Key;
 use crate::reading::rows;
 use crate::row::{Call, Row};
 use crate::shelf::{Content, Output, Shelf};
 use crate::shelving::{number, shelf};
-use crate::telling::answered;
 use anyhow::{Result, bail};
 use std::alloc::Global;
 use std::fs;

@@ -13,7 +13,7 @@ use Rattle.scenario.specs.Checks.{Head, tables}
 use Rattle.scenario.specs.Tables.{Table, Seats, table}
 use Rattle.roster.specs.Scenario.{Scenario}
 use Rattle.scenario.specs.declared.messages.Campaign.{Campaign}
-use Rattle.scenario.specs.Told.{TableGives, Answers, Begun, Headed, Answered, scenario_of, campaign_by, campaign_of, unseated}
+use Rattle.scenario.specs.Reading.{TableGives, Answers, Begun, Headed, Answered, scenario_of, campaign_by, campaign_of, unseated}
 use Rattle.scenario.proofs.Items.{drop_all}
 
 gives_memory : (read : Result Table Flaw) (e : ScenarioError) → e ≡ errors.Memory → TableGives read (Err e)

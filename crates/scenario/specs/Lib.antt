@@ -2,7 +2,7 @@ pub mod Names
 pub mod Flaws
 pub mod Checks
 pub mod Tables
-pub mod Told
+pub mod Reading
 pub mod Seen
-pub mod Telling
+pub mod ErrorText
 pub mod Sources

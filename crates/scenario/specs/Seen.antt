@@ -17,7 +17,7 @@ use Rattle.scenario.specs.declared.fault.ProgramFault.TheVariants as faults
 use Rattle.scenario.specs.declared.fault.ScenarioError.{ScenarioError}
 use Rattle.scenario.specs.declared.fault.ScenarioError.TheVariants as errors
 use Rattle.scenario.specs.Tables.{Source, Assembly, Hex}
-use Rattle.scenario.specs.Told.{IsProgramOf, IsFaultOf}
+use Rattle.scenario.specs.Reading.{IsProgramOf, IsFaultOf}
 
 -- a program as it is written, seen as its text
 abbrev pub source_of : Written → Source

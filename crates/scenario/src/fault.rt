@@ -1,6 +1,6 @@
 //! Why a text tells no scenario.
 ghost use Rattle.std.specs.Prelude.{◌≡◌};
-ghost use Rattle.scenario.specs.Telling.{scenario_code};
+ghost use Rattle.scenario.specs.ErrorText.{scenario_code};
 ghost use Rattle.scenario.specs.declared.fault.ScenarioError.TheVariants.{Memory};
 
 use crate::place::Place;
@@ -25,7 +25,7 @@ pub enum Fault {
 
 impl fmt::Display for Fault {
     ghost use Rattle.std.specs.Prelude.{Some};
-    ghost use Rattle.scenario.specs.Telling.{code_of};
+    ghost use Rattle.scenario.specs.ErrorText.{code_of};
 
     ghost output = { λ fault. Some (code_of fault) };
 
@@ -67,7 +67,7 @@ impl ProgramFault {
 
 impl fmt::Display for ProgramFault {
     ghost use Rattle.std.specs.Prelude.{Some};
-    ghost use Rattle.scenario.specs.Telling.{program_text};
+    ghost use Rattle.scenario.specs.ErrorText.{program_text};
 
     ghost output = { λ fault. Some (program_text fault) };
 
@@ -98,7 +98,7 @@ pub enum ScenarioError {
 
 impl fmt::Display for ScenarioError {
     ghost use Rattle.std.specs.Prelude.{Some};
-    ghost use Rattle.scenario.specs.Telling.{told};
+    ghost use Rattle.scenario.specs.ErrorText.{told};
 
     ghost output = { λ error. Some (told error) };
 

@@ -58,7 +58,7 @@ pub enum Place {
 
 impl fmt::Display for Place {
     ghost use Rattle.std.specs.Prelude.{Some};
-    ghost use Rattle.scenario.specs.Telling.{place_text};
+    ghost use Rattle.scenario.specs.ErrorText.{place_text};
 
     ghost output = { λ place. Some (place_text place) };
 

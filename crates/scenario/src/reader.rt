@@ -4,7 +4,7 @@ ghost use Rattle.toml.specs.Parse.{parse_document};
 ghost use Rattle.toml.specs.View.{view, table_view, items_view};
 ghost use Rattle.scenario.specs.Flaws.{Gives};
 ghost use Rattle.scenario.specs.Checks.{head, rule_by_name, rule, messages_by_name, messages, fitting, tables};
-ghost use Rattle.scenario.specs.Told.{Answers, scenario_of, campaign_by, unseated, Reads, ReadsAny};
+ghost use Rattle.scenario.specs.Reading.{Answers, scenario_of, campaign_by, unseated, Reads, ReadsAny};
 ghost use Rattle.scenario.specs.declared.fault.ScenarioError.TheVariants.{Memory, Toml};
 
 use crate::fault::{Fault, ScenarioError};

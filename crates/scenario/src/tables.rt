@@ -5,7 +5,7 @@ ghost use Rattle.toml.specs.View.{view, items_view, table_view};
 ghost use Rattle.scenario.specs.Checks.{test};
 ghost use Rattle.scenario.specs.Flaws.{Gives, faulty};
 ghost use Rattle.scenario.specs.Tables.{is_seated, source, table_in, table};
-ghost use Rattle.scenario.specs.Told.{TableGives};
+ghost use Rattle.scenario.specs.Reading.{TableGives};
 ghost use Rattle.scenario.specs.Seen.{source_of};
 ghost use Rattle.scenario.specs.declared.fault.ScenarioError.TheVariants.{Memory};
 

@@ -3,27 +3,27 @@
 
 mod acceptance;
 mod accepted_chains;
-mod beginnings;
 mod briefing;
+mod campaign;
 mod chain;
 mod chronicle;
 mod dispatch;
 mod drafting;
 mod entering;
-mod events;
 mod explaining;
 mod held;
 mod judging;
 mod laws;
 mod loyal;
+mod opening;
 mod outgoing;
-mod player;
-mod playing;
+mod plays;
 mod sets;
 mod signed_world;
 mod signer;
 
 pub use accepted_chains::bringing_in;
+pub use campaign::{play_signed, replay_signed};
 pub use chain::Chain;
 pub use chronicle::SignedChronicle;
 pub use explaining::{explain_one_signed, explain_signed};
@@ -35,6 +35,5 @@ pub use laws::{
     signed_lists_are_complete, signed_refusals_change_nothing, signed_runs_are_accounted,
     signed_runs_are_replays, signed_verdicts_mean, signed_worlds_agree, whatever_traitors_write,
 };
-pub use player::{play_signed, replay_signed};
 pub use signed_world::SignedWorld;
 pub use signer::Signer;

@@ -3,4 +3,5 @@ pub mod OwedLemmas
 pub mod PictureLemmas
 pub mod PictureLaws
 pub mod LoyalLaws
+pub mod OnceLemmas
 pub mod RowLaws

@@ -1,5 +1,5 @@
 -- Pictures are elements of XML.
-use Rattle.std.proofs.Common.{ℕ, ◌+◌, ◌*◌, Bool, true, false, List, [], ◌∷◌, ◌++◌, Option, Some, None, refl, sym, ap, subst}
+use Rattle.std.proofs.Common.{ℕ, ◌+◌, ◌*◌, ◌≡◌, Bool, true, false, List, [], ◌∷◌, ◌++◌, Option, Some, None, refl, subst, append_assoc}
 use Rattle.std.proofs.lemmas.Bool.{cond_both}
 use Rattle.std.specs.Prelude.{codes, ◌==◌, nat_lt, min}
 use Rattle.std.specs.Fmt.{decimal}
@@ -17,17 +17,18 @@ use Rattle.diagram.specs.declared.stroke.Stroke.{Stroke}
 use Rattle.diagram.specs.Bands.{accesses_from, lives, round_words}
 use Rattle.diagram.specs.Foot.{alike_words, decided_all, obeyed_words}
 use Rattle.diagram.specs.Layout.{column, fan_top, height, rows_top, top_of, width}
+use Rattle.diagram.specs.Left.{cut_words, is_cut, mores}
 use Rattle.diagram.specs.Legend.{foot_height, marks_of, shape_key}
-use Rattle.diagram.specs.Shapes.{line, mark, text_at, title}
+use Rattle.diagram.specs.Shapes.{line, mark, said_if, text_at, title}
 use Rattle.diagram.specs.Svg.{campaign_words, heads, key_end, look}
 use Rattle.diagram.specs.Words.{copied_words, in_full, kind, outline}
-use Rattle.diagram.proofs.SvgLaws.{accesses_content, alike_text, all, attributes, campaign_text, copied_text, decisions_content, described_content, description_whole, feed, full_text, group_content, heads_content, kind_text, legend_of_content, line_content, lives_content, look_content, many, mark_content, name, numbered, obeyed_text, outline_text, picture_is, round_text, shape_key_text, small, stroke_content, svg_tag, text_content, three_texts, title_content}
+use Rattle.diagram.proofs.SvgLaws.{accesses_content, alike_text, all, attributes, campaign_text, copied_text, cut_text, decisions_content, described_content, feed, full_text, group_content, heads_content, kind_text, legend_of_content, line_content, lives_content, look_content, many, mark_content, mores_content, name, numbered, obeyed_text, outline_text, picture_is, round_text, said_text, shape_key_text, small, stroke_content, svg_tag, text_content, three_texts, title_content}
 use Rattle.signed.specs.Chains.{Chain}
 use Rattle.signed_diagram.specs.Bands.{band, bands, drawn, inside, row, stroke_line}
 use Rattle.signed_diagram.specs.Foot.{bound_words, foot, verdict_lines}
 use Rattle.signed_diagram.specs.Laws.{SignedDiagramsAreElements}
 use Rattle.signed_diagram.specs.Legend.{differs_meaning, legend, missing_meaning, sent_meaning, wide_meaning}
-use Rattle.signed_diagram.specs.Strokes.{Drawn, bare, strokes_of}
+use Rattle.signed_diagram.specs.Strokes.{Drawn, bare, strokes_of, with_rows}
 use Rattle.signed_diagram.specs.Svg.{description, head, headline, key_start, signed_svg, signed_words, stroke_key}
 use Rattle.signed_diagram.specs.Words.{chain_words, chains_words, count_words, differs_words, first_words, further_words, lead_words, row_words, sends_words, several_words, short_words, stroke_words, withholds_words}
 
@@ -193,23 +194,28 @@ several_text strokes =
     text-flat_map several_words strokes
     (λ x. cond_both (nat_lt 1 x.stroke.labels) (in_full (stroke_words x)) [] IsText (λ _. full_text (stroke_words x) (stroke_text x)) (λ _. no_text))
 
-description_content : (strokes : List Drawn) (accesses : List Access) (marks : Marks) → IsContent (description strokes accesses marks)
+five_words : (start a b c d e end : List ℕ) → start ++ (a ++ b ++ c ++ d ++ e) ++ end ≡ start ++ a ++ b ++ c ++ d ++ e ++ end
+five_words start a b c d e end = simp append_assoc
+
+description_content : (strokes : List Drawn) (accesses : List Access) (marks : Marks) (cut : Bool) → IsContent (description strokes accesses marks cut)
 unfolding key_start
-description_content strokes accesses marks =
+description_content strokes accesses marks cut =
     let a : List ℕ = stroke_key marks in
     let b : List ℕ = shape_key marks in
-    let c : List ℕ = flat_map several_words strokes in
-    let d : List ℕ = flat_map copied_words accesses in
-    subst IsContent (description_whole key_start a b c d key_end)
-    (described_content key_words (a ++ b ++ c ++ d) (bare_text key_words refl)
-    (many (a ++ b ++ c) d (many (a ++ b) c (many a b (stroke_key_text marks) (shape_key_text marks)) (several_text strokes)) (copied_text accesses)))
+    let c : List ℕ = said_if cut cut_words in
+    let d : List ℕ = flat_map several_words strokes in
+    let e : List ℕ = flat_map copied_words accesses in
+    subst IsContent (five_words key_start a b c d e key_end)
+    (described_content key_words (a ++ b ++ c ++ d ++ e) (bare_text key_words refl)
+    (many (a ++ b ++ c ++ d) e
+    (many (a ++ b ++ c) d (many (a ++ b) c (many a b (stroke_key_text marks) (shape_key_text marks)) (said_text cut cut_words cut_text)) (several_text strokes)) (copied_text accesses)))
 
-head_content : (s : Scenario) (strokes : List Drawn) (accesses : List Access) (marks : Marks) → IsContent (head s strokes accesses marks)
-head_content s strokes accesses marks =
+head_content : (s : Scenario) (strokes : List Drawn) (accesses : List Access) (marks : Marks) (cut : Bool) → IsContent (head s strokes accesses marks cut)
+head_content s strokes accesses marks cut =
     let w : List ℕ = signed_words s in
     let n : List ℕ = campaign_words s.generals s.bound s.commander s.order in
-    let d : List ℕ = description strokes accesses marks in
-    joined (title w ++ d ++ look) (headline s) (joined (title w ++ d) look (joined (title w) d (title_content w (signed_text s)) (description_content strokes accesses marks)) look_content)
+    let d : List ℕ = description strokes accesses marks cut in
+    joined (title w ++ d ++ look) (headline s) (joined (title w ++ d) look (joined (title w) d (title_content w (signed_text s)) (description_content strokes accesses marks cut)) look_content)
     (joined (text_at (codes "head") 16 28 n ++ text_at (codes "small") 16 58 (codes "signed")) (text_at (codes "small") 16 72 (codes "messages"))
     (joined (text_at (codes "head") 16 28 n) (text_at (codes "small") 16 58 (codes "signed"))
     (text_content (codes "head") 16 28 n (bare_text (codes "head") refl) (campaign_text s.generals s.bound s.commander s.order))
@@ -222,21 +228,25 @@ pub proved_signed_diagrams_are_elements : SignedDiagramsAreElements
 unfolding signed_svg
 proved_signed_diagrams_are_elements c =
     let s : Scenario = c.scenario in
-    let strokes : List Drawn = strokes_of c in
-    let plain : List Stroke = bare strokes in
-    let bottom : ℕ = top_of s.generals plain c.accesses (s.bound + 1) in
+    let plain : List Stroke = bare (strokes_of c) in
+    let drawn : List Drawn = with_rows (strokes_of c) in
+    let shown : List Stroke = bare drawn in
+    let bottom : ℕ = top_of s.generals shown c.accesses (s.bound + 1) in
     let wide : ℕ = width s.generals c.accesses in
     let w : ℕ = wide + 16 in
-    let marks : Marks = marks_of s c.accesses plain in
+    let marks : Marks = marks_of s c.accesses shown in
     let h : ℕ = bottom + foot_height marks in
-    let a : List ℕ = head s strokes c.accesses marks in
+    let a : List ℕ = head s drawn c.accesses marks (is_cut plain) in
     let b : List ℕ = heads s c.accesses in
-    let d : List ℕ = bands s.generals strokes plain c.accesses wide (s.bound + 1) in
+    let d : List ℕ = bands s.generals drawn shown c.accesses wide (s.bound + 1) in
+    let m : List ℕ = mores s.generals plain shown c.accesses (s.bound + 1) in
     let e : List ℕ = foot c marks wide bottom in
-    let parts : List ℕ = a ++ b ++ d ++ e in
+    let parts : List ℕ = a ++ b ++ d ++ m ++ e in
     let is : IsContent parts =
-    joined (a ++ b ++ d) e
-    (joined (a ++ b) d (joined a b (head_content s strokes c.accesses marks) (heads_content s c.accesses)) (all (band s.generals strokes plain c.accesses wide) (range_with_len 0 (s.bound + 1)) (band_content s.generals strokes plain c.accesses wide)))
+    joined (a ++ b ++ d ++ m) e
+    (joined (a ++ b ++ d) m
+    (joined (a ++ b) d (joined a b (head_content s drawn c.accesses marks (is_cut plain)) (heads_content s c.accesses)) (all (band s.generals drawn shown c.accesses wide) (range_with_len 0 (s.bound + 1)) (band_content s.generals drawn shown c.accesses wide)))
+    (mores_content s.generals plain shown c.accesses (s.bound + 1)))
     (foot_content c marks wide bottom) in (
       element (codes "svg") (attributes (decimal w) (decimal h)) (codes "\n" ++ parts),
       record {

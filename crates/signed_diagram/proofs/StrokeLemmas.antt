@@ -2,7 +2,7 @@
 use Rattle.std.proofs.Common.{ℕ, suc, ◌+◌, ◌<◌, ◌≤◌, ◌≡◌, Bool, true, false, not, cond, List, [], ◌∷◌, ◌++◌, map, length, get_or, take, drop, refl, sym, ap, ◌∙◌, append_assoc, append-nil, arith}
 use Rattle.std.specs.Prelude.{filter}
 use Rattle.std.specs.List.{flat_map, range_with_len}
-use Rattle.std.proofs.lemmas.List.{drop_all, drop_more, length-append, map_more, take_all}
+use Rattle.std.proofs.lemmas.List.{drop_all, drop_more, map_more, take_all}
 use Rattle.std.proofs.lemmas.List.Elements.{filter_more}
 use Rattle.std.proofs.lemmas.List.Concat.{flat_map-append}
 use Rattle.book.proofs.Gathering.{range_more}
@@ -12,7 +12,7 @@ use Rattle.signed.specs.Accepted.{firsts}
 use Rattle.signed.specs.Sending.{added_also}
 use Rattle.signed.proofs.Adding.{at_the_end, firsts_alike}
 use Rattle.signed_diagram.specs.Owed.{is_among}
-use Rattle.signed_diagram.specs.Strokes.{Drawn, grouped, numbered, told_between, way}
+use Rattle.signed_diagram.specs.Strokes.{Drawn, grouped, in_row, numbered, told_between, way}
 
 -- a list for each number, with that of one number more
 pub range_items : {A : Type 0} (f : ℕ → List A) (n : ℕ) (old : List A) → (old ++ flat_map f (range_with_len 0 n)) ++ f n ≡ old ++ flat_map f (range_with_len 0 (n + 1))
@@ -36,35 +36,24 @@ mapped f xs now i x inside is h = ap (λ ys. ys ++ f x ∷ []) h ∙ sym (map_mo
 
 -- ---- rows
 
-numbered_row : (xs : List (ℕ → Drawn)) (a b : ℕ) → a ≡ b → numbered xs a ≡ numbered xs b
-numbered_row xs a b e = ap (numbered xs) e
+pub numbered_push : (xs : List Drawn) (x : Drawn) (row : ℕ) → numbered (xs ++ x ∷ []) row ≡ numbered xs row ++ in_row x (length xs + row) ∷ []
+numbered_push [] x row = ap (λ (i : ℕ). in_row x i ∷ []) (let e : row ≡ 0 + row = omega arith in e)
+numbered_push (y ∷ ys) x row =
+    ap (λ zs. in_row y row ∷ zs)
+    (numbered_push ys x (suc row) ∙ ap (λ (i : ℕ). numbered ys (suc row) ++ in_row x i ∷ []) (let e : length ys + suc row ≡ suc (length ys) + row = omega arith in e))
 
-pub numbered_length : (xs : List (ℕ → Drawn)) (row : ℕ) → length (numbered xs row) ≡ length xs
+numbered_length : (xs : List Drawn) (row : ℕ) → length (numbered xs row) ≡ length xs
 numbered_length [] row = refl
 numbered_length (x ∷ xs) row = ap suc (numbered_length xs (suc row))
 
-pub numbered-append : (xs ys : List (ℕ → Drawn)) (row : ℕ) → numbered (xs ++ ys) row ≡ numbered xs row ++ numbered ys (length xs + row)
-numbered-append [] ys row = numbered_row ys row (0 + row) (omega arith)
-numbered-append (x ∷ xs) ys row =
-    ap (λ zs. x row ∷ zs)
-    (numbered-append xs ys (suc row)
-    ∙ ap (λ zs. numbered xs (suc row) ++ zs) (numbered_row ys (length xs + suc row) (suc (length xs) + row) (omega arith)))
-
--- more behind those that stand there
-pub more : (X Y : List (ℕ → Drawn)) (old mid new : List Drawn) → mid ≡ old ++ numbered X (length old) → new ≡ mid ++ numbered Y (length mid) → new ≡ old ++ numbered (X ++ Y) (length old)
-more X Y old mid new first then =
-    let long : length mid ≡ length X + length old = ap length first ∙ (length-append old (numbered X (length old)) ∙ omega (arith, numbered_length X (length old))) in
+-- one more, below the others
+pub numbered_more : (xs : List Drawn) (x stroke : Drawn) (old new : List Drawn) (row : ℕ) → old ≡ numbered xs 0 → row ≡ length old → stroke ≡ in_row x row → new ≡ old ++ stroke ∷ [] → new ≡ numbered (xs ++ x ∷ []) 0
+numbered_more xs x stroke old new row so long is then =
+    let many = ap length so ∙ numbered_length xs 0 in
+    let at : row ≡ length xs + 0 = omega arith in
     then
-    ∙ (ap (λ (k : ℕ). mid ++ numbered Y k) long
-    ∙ (ap (λ xs. xs ++ numbered Y (length X + length old)) first
-    ∙ (append_assoc old (numbered X (length old)) (numbered Y (length X + length old)) ∙ ap (λ xs. old ++ xs) (sym (numbered-append X Y (length old))))))
-
--- in a list of their own
-pub more_own : (X Y : List (ℕ → Drawn)) (old new : List Drawn) → old ≡ numbered X 0 → new ≡ old ++ numbered Y (length old) → new ≡ numbered (X ++ Y) 0
-more_own X Y old new first then = more X Y [] old new first then
-
-pub one_more : (X : List (ℕ → Drawn)) (x : ℕ → Drawn) (start old new : List Drawn) → old ≡ start ++ numbered X (length start) → new ≡ old ++ x (length old) ∷ [] → new ≡ start ++ numbered (X ++ x ∷ []) (length start)
-one_more X x start old new first then = more X (x ∷ []) start old new first then
+    ∙ (ap (λ (y : Drawn). old ++ y ∷ []) (is ∙ ap (in_row x) at)
+    ∙ (ap (λ ys. ys ++ in_row x (length xs + 0) ∷ []) so ∙ sym (numbered_push xs x 0)))
 
 -- ---- orders
 
@@ -107,14 +96,15 @@ order_more chains i x seen new whole inside is then so = by_case (on seen x.orde
     by_case false fresh e = ap (λ ys. ys ++ orders (firsts ys (drop (i + 1) chains))) e ∙ order_new chains i x seen whole inside is fresh so
 
 -- a stroke more, for one order more
-pub grouped_more : (f : ℕ → ℕ → Drawn) (os : List ℕ) (start old new : List Drawn) (i o d : ℕ) → i < length os → o ≡ get_or os i d → old ≡ start ++ numbered (map f (take i os)) (length start)
-    → new ≡ old ++ f o (length old) ∷ [] → new ≡ start ++ numbered (map f (take (i + 1) os)) (length start)
+pub grouped_more : (f : ℕ → Drawn) (os : List ℕ) (start old new : List Drawn) (i o d : ℕ) → i < length os → o ≡ get_or os i d → old ≡ start ++ map f (take i os) → new ≡ old ++ f o ∷ [] → new ≡ start ++ map f (take (i + 1) os)
 grouped_more f os start old new i o d inside is first then =
-    one_more (map f (take i os)) (f o) start old new first then
-    ∙ ap (λ xs. start ++ numbered xs (length start)) (sym (map_more f os i d inside ∙ ap (λ y. map f (take i os) ++ f y ∷ []) (sym is)))
+    then
+    ∙ (ap (λ xs. xs ++ f o ∷ []) first
+    ∙ (append_assoc start (map f (take i os)) (f o ∷ [])
+    ∙ ap (λ xs. start ++ xs) (sym (map_more f os i d inside ∙ ap (λ y. map f (take i os) ++ f y ∷ []) (sym is)))))
 
-pub grouped_all : (f : ℕ → ℕ → Drawn) (os : List ℕ) (start new : List Drawn) (i : ℕ) → length os ≤ i → new ≡ start ++ numbered (map f (take i os)) (length start) → new ≡ start ++ numbered (map f os) (length start)
-grouped_all f os start new i past h = h ∙ ap (λ xs. start ++ numbered (map f xs) (length start)) (take_all i os past)
+pub grouped_all : (f : ℕ → Drawn) (os : List ℕ) (start new : List Drawn) (i : ℕ) → length os ≤ i → new ≡ start ++ map f (take i os) → new ≡ start ++ map f os
+grouped_all f os start new i past h = h ∙ ap (λ xs. start ++ map f xs) (take_all i os past)
 
 -- ---- lists that are gathered
 
@@ -122,18 +112,20 @@ pub round_more : {A : Type 0} (f : ℕ → List A) (n : ℕ) (start old new piec
 round_more f n start old new piece first is then =
     then ∙ (ap (λ xs. xs ++ piece) first ∙ (ap (λ xs. (start ++ flat_map f (range_with_len 0 n)) ++ xs) is ∙ range_items f n start))
 
-pub list_more : (f : ℕ → List (ℕ → Drawn)) (n : ℕ) (old new : List Drawn) → old ≡ numbered (flat_map f (range_with_len 0 n)) 0 → new ≡ old ++ numbered (f n) (length old) → new ≡ numbered (flat_map f (range_with_len 0 (n + 1))) 0
-list_more f n old new first then = more_own (flat_map f (range_with_len 0 n)) (f n) old new first then ∙ ap (λ xs. numbered xs 0) (range_items f n [])
+three_behind : (old one two three : List Drawn) → ((old ++ one) ++ two) ++ three ≡ old ++ (one ++ two ++ three)
+three_behind old one two three = simp append_assoc
 
 -- what is sent as it is owed, what is sent otherwise, and what is owed and not sent
 pub told_three : (round p g : ℕ) (sent owed xs ys zs : List Chain) (old a b d : List Drawn) → xs ≡ filter (is_among owed) sent → ys ≡ filter (λ ch. not (is_among owed ch)) sent → zs ≡ filter (λ ch. not (is_among sent ch)) owed
-    → a ≡ old ++ numbered (grouped (way round p g true false) xs) (length old) → b ≡ a ++ numbered (grouped (way round p g true true) ys) (length a) → d ≡ b ++ numbered (grouped (way round p g false true) zs) (length b)
-    → d ≡ old ++ numbered (told_between round p g sent owed) (length old)
+    → a ≡ old ++ grouped (way round p g true false) xs → b ≡ a ++ grouped (way round p g true true) ys → d ≡ b ++ grouped (way round p g false true) zs
+    → d ≡ old ++ told_between round p g sent owed
 told_three round p g sent owed xs ys zs old a b d ex ey ez first then last =
-    let one : List Chain → List (ℕ → Drawn) = grouped (way round p g true false) in
-    let two : List Chain → List (ℕ → Drawn) = grouped (way round p g true true) in
-    let three : List Chain → List (ℕ → Drawn) = grouped (way round p g false true) in
-    more (one xs ++ two ys) (three zs) old b d (more (one xs) (two ys) old a b first then) last
-    ∙ (ap (λ k. old ++ numbered (one k ++ two ys ++ three zs) (length old)) ex
-    ∙ (ap (λ k. old ++ numbered (one (filter (is_among owed) sent) ++ two k ++ three zs) (length old)) ey
-    ∙ ap (λ k. old ++ numbered (one (filter (is_among owed) sent) ++ two (filter (λ ch. not (is_among owed ch)) sent) ++ three k) (length old)) ez))
+    let one : List Chain → List Drawn = grouped (way round p g true false) in
+    let two : List Chain → List Drawn = grouped (way round p g true true) in
+    let three : List Chain → List Drawn = grouped (way round p g false true) in
+    last
+    ∙ (ap (λ ds. ds ++ three zs) (then ∙ ap (λ ds. ds ++ two ys) first)
+    ∙ (three_behind old (one xs) (two ys) (three zs)
+    ∙ (ap (λ k. old ++ (one k ++ two ys ++ three zs)) ex
+    ∙ (ap (λ k. old ++ (one (filter (is_among owed) sent) ++ two k ++ three zs)) ey
+    ∙ ap (λ k. old ++ (one (filter (is_among owed) sent) ++ two (filter (λ ch. not (is_among owed ch)) sent) ++ three k)) ez))))

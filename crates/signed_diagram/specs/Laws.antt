@@ -1,7 +1,7 @@
 -- Laws of what is drawn. Each is the contract of a function of this crate.
-use Rattle.std.specs.Prelude.{ℕ, ◌+◌, ◌<◌, ◌≤◌, ◌≡◌, true, false, not, is_some, List, ◌++◌, codes, filter, length, map}
+use Rattle.std.specs.Prelude.{ℕ, ◌+◌, ◌<◌, ◌≤◌, ◌≡◌, ◌==◌, ◌&&◌, ◌||◌, Bool, true, false, not, if◌then◌else◌, is_some, List, ◌++◌, codes, count_by, drop, filter, length, map, take}
 use Rattle.std.specs.Bool.{beq}
-use Rattle.std.specs.List.{All, range_with_len}
+use Rattle.std.specs.List.{All, list_any, range_with_len}
 use Rattle.markup.specs.Grammar.{IsElement}
 use Rattle.roster.specs.Scenario.{Scenario, IsScenario, is_traitor}
 use Rattle.world.specs.Agreement.{IsFinished}
@@ -11,9 +11,11 @@ use Rattle.signed.specs.Chronicle.{signed_chronicle_of}
 use Rattle.signed.specs.Chains.{Chain}
 use Rattle.signed.specs.Kind.{played}
 use Rattle.diagram.specs.declared.stroke.Stroke.{Stroke}
+use Rattle.diagram.specs.Left.{is_left, is_left_lie}
 use Rattle.diagram.specs.Lists.{is_to}
+use Rattle.diagram.specs.Order.{most_rows}
 use Rattle.signed_diagram.specs.Owed.{is_among, owed_to, sent_to}
-use Rattle.signed_diagram.specs.Strokes.{Drawn, between, grouped, strokes_of, way}
+use Rattle.signed_diagram.specs.Strokes.{Drawn, bare, between, grouped, is_lie, strokes_of, way, with_rows}
 use Rattle.signed_diagram.specs.Svg.{signed_svg}
 
 -- each picture is one element of XML, and a line feed
@@ -36,6 +38,13 @@ pub record OnlyTraitorsDiffer : Type 0 where
 abbrev pub list_in : Chronicle → ℕ → ℕ → List Drawn
 list_in c round p = filter (λ x. is_to round p x.stroke) (strokes_of c)
 
+-- of which these are drawn
+abbrev pub drawn_in : Chronicle → ℕ → ℕ → List Drawn
+drawn_in c round p = filter (λ x. is_to round p x.stroke) (with_rows (strokes_of c))
+
+abbrev pub is_lie_by : ℕ → Drawn → Bool
+is_lie_by g x = is_lie x && x.stroke.teller == g
+
 -- what a stroke says of a chain: that it was sent, or was not; and that just one of its sender and a loyal general in
 -- his place sends it
 pub record IsTold (c : Chronicle) (stroke : Stroke) (ch : Chain) : Type 0 where
@@ -44,9 +53,36 @@ pub record IsTold (c : Chronicle) (stroke : Stroke) (ch : Chain) : Type 0 where
       ≡ not (beq (is_among (sent_to c stroke.round stroke.teller stroke.receiver) ch)
       (is_among (owed_to c stroke.round stroke.teller stroke.receiver) ch))
 
--- the rows of each list are numbered, and each stroke tells so of each of its chains
+-- this stroke is of g's, and of this chain
+abbrev pub tells_of : ℕ → Chain → Drawn → Bool
+tells_of g ch x = x.stroke.teller == g && is_among x.chains ch
+
+-- of each chain that g sent p in a round, or owed him, there is one stroke, and none of another; each tells so of its
+-- chains, and is as wide as they are many
+pub record StrokesAreExact : Type 0 where
+  pub once : (c : Chronicle) (round g p : ℕ) (ch : Chain) → g < c.scenario.generals → p < c.scenario.generals →
+      0 < round → round ≤ c.scenario.bound + 1 →
+      length (filter (tells_of g ch) (list_in c round p))
+      ≡ (if is_among (sent_to c round g p) ch || is_among (owed_to c round g p) ch then 1 else 0)
+  pub wide : (c : Chronicle) → All (λ x. x.stroke.labels ≡ length x.chains) (strokes_of c)
+  pub told : (c : Chronicle) → All (λ x. All (IsTold c x.stroke) x.chains) (strokes_of c)
+
+-- the rows of each list are numbered, and the first are drawn; where a lie is not, no honest row is, and each liar has
+-- a row; those that are drawn and those that are counted as left make all, and so of the lies
 pub record RowsAreExact : Type 0 where
   pub numbered : (c : Chronicle) (round p : ℕ) → p < c.scenario.generals → 0 < round →
       round ≤ c.scenario.bound + 1 →
       map (λ (x : Drawn). x.stroke.row) (list_in c round p) ≡ range_with_len 0 (length (list_in c round p))
-  pub told : (c : Chronicle) → All (λ x. All (IsTold c x.stroke) x.chains) (strokes_of c)
+  pub first : (c : Chronicle) (round p : ℕ) → p < c.scenario.generals → 0 < round →
+      round ≤ c.scenario.bound + 1 → drawn_in c round p ≡ take most_rows (list_in c round p)
+  pub lies : (c : Chronicle) (round p : ℕ) → p < c.scenario.generals → 0 < round → round ≤ c.scenario.bound + 1 →
+      list_any is_lie (drop most_rows (list_in c round p)) ≡ true →
+      All (λ x. is_lie x ≡ true) (drawn_in c round p)
+  pub liars : (c : Chronicle) (round p g : ℕ) → p < c.scenario.generals → 0 < round → round ≤ c.scenario.bound + 1 →
+      c.scenario.generals ≤ most_rows → list_any (is_lie_by g) (list_in c round p) ≡ true →
+      list_any (is_lie_by g) (drawn_in c round p) ≡ true
+  pub counted : (c : Chronicle) (round p : ℕ) →
+      length (drawn_in c round p) + count_by (is_left round p) (bare (strokes_of c)) ≡ length (list_in c round p)
+  pub lies_counted : (c : Chronicle) (round p : ℕ) →
+      count_by is_lie (drawn_in c round p) + count_by (is_left_lie round p) (bare (strokes_of c))
+      ≡ count_by is_lie (list_in c round p)

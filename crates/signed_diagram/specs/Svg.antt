@@ -1,9 +1,10 @@
 -- A campaign of signed messages as a picture in SVG.
-use Rattle.std.specs.Prelude.{ℕ, ◌+◌, List, ◌++◌, flat_map, codes}
+use Rattle.std.specs.Prelude.{ℕ, ◌+◌, Bool, List, ◌++◌, flat_map, codes}
 use Rattle.board.specs.Board.{Access}
 use Rattle.roster.specs.Scenario.{Scenario}
 use Rattle.world.specs.Chronicle.{Chronicle}
 use Rattle.diagram.specs.Layout.{top_of, width}
+use Rattle.diagram.specs.Left.{cut_words, is_cut, mores}
 use Rattle.diagram.specs.Legend.{foot_height, marks_of, shape_key}
 use Rattle.diagram.specs.Shapes.{said_if, text_at, title}
 use Rattle.diagram.specs.Svg.{campaign_words, heads, key_end, look, picture}
@@ -11,7 +12,7 @@ use Rattle.diagram.specs.Words.{copied_words}
 use Rattle.diagram.specs.declared.mark.Marks.{Marks}
 use Rattle.signed_diagram.specs.Bands.{bands}
 use Rattle.signed_diagram.specs.Foot.{foot}
-use Rattle.signed_diagram.specs.Strokes.{Drawn, bare, strokes_of}
+use Rattle.signed_diagram.specs.Strokes.{Drawn, bare, strokes_of, with_rows}
 use Rattle.signed_diagram.specs.Words.{several_words}
 
 -- the campaign's numbers
@@ -33,9 +34,9 @@ stroke_key marks =
     ++ said_if marks.diamond (codes " Diamond and dashes: a loyal general would not send so.")
     ++ said_if marks.cross (codes " Cross and dots: a loyal general would send so, and it was not sent.")
 
-abbrev pub description : List Drawn → List Access → Marks → List ℕ
-description strokes accesses marks =
-    key_start ++ stroke_key marks ++ shape_key marks ++ flat_map several_words strokes
+abbrev pub description : List Drawn → List Access → Marks → Bool → List ℕ
+description strokes accesses marks cut =
+    key_start ++ stroke_key marks ++ shape_key marks ++ said_if cut cut_words ++ flat_map several_words strokes
     ++ flat_map copied_words accesses ++ key_end
 
 -- what stands before the columns
@@ -44,22 +45,24 @@ headline s =
     text_at (codes "head") 16 28 (campaign_words s.generals s.bound s.commander s.order)
     ++ text_at (codes "small") 16 58 (codes "signed") ++ text_at (codes "small") 16 72 (codes "messages")
 
-abbrev pub head : Scenario → List Drawn → List Access → Marks → List ℕ
-head s strokes accesses marks = title (signed_words s) ++ description strokes accesses marks ++ look ++ headline s
+abbrev pub head : Scenario → List Drawn → List Access → Marks → Bool → List ℕ
+head s strokes accesses marks cut =
+    title (signed_words s) ++ description strokes accesses marks cut ++ look ++ headline s
 
--- the picture with these strokes
-abbrev pub svg_with : List Drawn → Chronicle → List ℕ
-svg_with strokes c =
+-- the picture with these strokes, of which those are drawn
+abbrev pub svg_with : List Drawn → List Drawn → Chronicle → List ℕ
+svg_with strokes drawn c =
     let s = c.scenario in
-    let bottom = top_of s.generals (bare strokes) c.accesses (s.bound + 1) in
+    let bottom = top_of s.generals (bare drawn) c.accesses (s.bound + 1) in
     let wide = width s.generals c.accesses in
-    let marks = marks_of s c.accesses (bare strokes) in
+    let marks = marks_of s c.accesses (bare drawn) in
     picture (wide + 16) (bottom + foot_height marks)
-    (head s strokes c.accesses marks
+    (head s drawn c.accesses marks (is_cut (bare strokes))
     ++ heads s c.accesses
-    ++ bands s.generals strokes (bare strokes) c.accesses wide (s.bound + 1)
+    ++ bands s.generals drawn (bare drawn) c.accesses wide (s.bound + 1)
+    ++ mores s.generals (bare strokes) (bare drawn) c.accesses (s.bound + 1)
     ++ foot c marks wide bottom)
 
 -- the picture of a chronicle
 unfoldable pub signed_svg : Chronicle → List ℕ
-signed_svg c = svg_with (strokes_of c) c
+signed_svg c = svg_with (strokes_of c) (with_rows (strokes_of c)) c

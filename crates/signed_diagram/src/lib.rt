@@ -7,6 +7,7 @@ mod foot;
 mod kept;
 mod laws;
 mod legend;
+mod order;
 mod owed;
 mod signed_order;
 mod stroke;
@@ -15,5 +16,7 @@ mod svg;
 mod words;
 
 pub use foot::bound_words;
-pub use laws::{only_traitors_differ, rows_are_exact, signed_diagrams_are_elements};
+pub use laws::{
+    only_traitors_differ, rows_are_exact, signed_diagrams_are_elements, strokes_are_exact,
+};
 pub use svg::{put_signed_words, signed_campaign_svg};

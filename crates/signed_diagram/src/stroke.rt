@@ -1,5 +1,6 @@
 //! What a picture says of the chains of a round.
 ghost use Rattle.std.specs.Prelude.{◌≡◌};
+ghost use Rattle.signed_diagram.specs.Strokes.{in_row};
 
 use crate::signed_order::SignedOrder;
 use diagram::Stroke;
@@ -42,6 +43,17 @@ impl ChainStroke {
         ensures { result.now ≡ self.now.stroke }
     {
         &self.stroke
+    }
+
+    /// The same in this row.
+    pub(crate) fn in_row(self, row: usize) -> ChainStroke
+        ensures { result ≡ in_row self row }
+    {
+        let ChainStroke { stroke, chains } = self;
+        ChainStroke {
+            stroke: Stroke { row, ..stroke },
+            chains,
+        }
     }
 
     /// Its chains.

@@ -1,12 +1,13 @@
 //! The strokes of a campaign.
-ghost use Rattle.std.specs.Prelude.{◌≡◌, ◌<◌, ◌++◌, [], length, IfOk, OnOk};
+ghost use Rattle.std.specs.Prelude.{◌≡◌, ◌<◌, ◌++◌, [], IfOk, OnOk};
 ghost use Rattle.label.specs.Labels.{on};
 ghost use Rattle.signed.specs.Accepted.{firsts};
 ghost use Rattle.signed.specs.Chains.{orders};
 ghost use Rattle.signed.specs.Sending.{added_also};
-ghost use Rattle.signed_diagram.specs.Strokes.{bare, between, grouped, in_round, list_to, made, numbered, plain, strokes_of, told_between, told_if};
+ghost use Rattle.signed_diagram.specs.Strokes.{bare, between, grouped, in_round, list_to, made, plain, strokes_of, told_between, told_if, told_to};
 
 use crate::kept::{among, apart, of_order};
+use crate::order::{arranged, numbered};
 use crate::owed::{owed_to, sent_to};
 use crate::signed_order::SignedOrder;
 use crate::stroke::{ChainStroke, Way};
@@ -14,7 +15,8 @@ use diagram::Stroke;
 use signed::SignedChronicle;
 use std::alloc::{AllocError, Global};
 
-/// The strokes of a campaign, by round and receiver.
+/// The strokes of a campaign, by round and receiver; of a list that is not drawn whole the lies first, of others by
+/// sender.
 ///
 /// # Errors
 ///
@@ -49,7 +51,7 @@ fn push_round(
     Ok(())
 }
 
-/// Those to one receiver.
+/// Those to one receiver, as their rows stand.
 fn list_to(
     alloc: Global,
     chronicle: &SignedChronicle,
@@ -58,6 +60,21 @@ fn list_to(
 ) -> Result<Vec<ChainStroke>, AllocError>
     requires { receiver < 13 }
     ensures { IfOk result (λ list. list.items ≡ list_to chronicle.now round receiver) }
+{
+    let told = told_to(alloc, chronicle, round, receiver)?;
+    let rows = arranged(alloc, told)?;
+    numbered(alloc, rows)
+}
+
+/// Those to one receiver, by sender.
+fn told_to(
+    alloc: Global,
+    chronicle: &SignedChronicle,
+    round: usize,
+    receiver: u8,
+) -> Result<Vec<ChainStroke>, AllocError>
+    requires { receiver < 13 }
+    ensures { IfOk result (λ list. list.items ≡ told_to chronicle.now round receiver) }
 {
     let mut list = Vec::new(alloc);
     for general in 0..chronicle.scenario().generals() {
@@ -77,8 +94,7 @@ fn push_between(
 ) -> Result<(), AllocError>
     requires receiver { receiver < 13 }
     requires general { general < 13 }
-    ensures { OnOk result (list.new.items ≡ list.old.items
-        ++ numbered (between chronicle.now round receiver general) (length list.old.items)) }
+    ensures { OnOk result (list.new.items ≡ list.old.items ++ between chronicle.now round receiver general) }
 {
     let sent = sent_to(alloc, chronicle, round, general, receiver)?;
     let owed = owed_to(alloc, chronicle, round, general, receiver)?;
@@ -105,7 +121,7 @@ fn push_told(
     owed: &[SignedOrder],
 ) -> Result<(), AllocError>
     ensures { OnOk result (list.new.items ≡ list.old.items
-        ++ numbered (told_between round receiver general sent.now owed.now) (length list.old.items)) }
+        ++ told_between round receiver general sent.now owed.now) }
 {
     let way = Way {
         round,
@@ -138,12 +154,11 @@ fn push_grouped(
     way: Way,
     chains: &[SignedOrder],
 ) -> Result<(), AllocError>
-    ensures { OnOk result (list.new.items ≡ list.old.items
-        ++ numbered (grouped way chains.now) (length list.old.items)) }
+    ensures { OnOk result (list.new.items ≡ list.old.items ++ grouped way chains.now) }
 {
     let orders = orders_of(alloc, chains)?;
     for order in &orders {
-        let stroke = made(alloc, way, chains, *order, list.as_slice().len())?;
+        let stroke = made(alloc, way, chains, *order)?;
         list.push(stroke)?;
     }
     Ok(())
@@ -177,26 +192,25 @@ fn is_there(orders: &[u32], order: u32) -> bool
     orders.iter().any(|x| *x == order)
 }
 
-/// The stroke of those of these chains that have this order, in this row.
+/// The stroke of those of these chains that have this order.
 fn made(
     alloc: Global,
     way: Way,
     chains: &[SignedOrder],
     order: u32,
-    row: usize,
 ) -> Result<ChainStroke, AllocError>
-    ensures { IfOk result (λ stroke. stroke ≡ made way chains.now order row) }
+    ensures { IfOk result (λ stroke. stroke ≡ made way chains.now order) }
 {
     let chains = of_order(alloc, chains, order)?;
     Ok(ChainStroke {
-        stroke: plain(way, order, chains.len(), row),
+        stroke: plain(way, order, chains.len()),
         chains,
     })
 }
 
-/// The stroke of so many chains of an order.
-fn plain(way: Way, order: u32, labels: usize, row: usize) -> Stroke
-    ensures { result ≡ plain way order labels row }
+/// The stroke of so many chains of an order, in the first row.
+fn plain(way: Way, order: u32, labels: usize) -> Stroke
+    ensures { result ≡ plain way order labels }
 {
     Stroke {
         round: way.round,
@@ -205,7 +219,7 @@ fn plain(way: Way, order: u32, labels: usize, row: usize) -> Stroke
         told: told_if(way.sent, order),
         differs: way.differs,
         labels,
-        row,
+        row: 0,
     }
 }
 

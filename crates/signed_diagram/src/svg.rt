@@ -6,12 +6,14 @@ ghost use Rattle.signed_diagram.specs.Svg.{description, head, headline, key_star
 
 use crate::bands::put_bands;
 use crate::foot::put_foot;
+use crate::order::with_rows;
 use crate::stroke::ChainStroke;
 use crate::strokes::{bare, strokes};
 use crate::words::put_several;
 use board::Access;
 use diagram::Marks;
 use diagram::layout::{top_of, width};
+use diagram::left::{is_cut, put_cut, put_mores};
 use diagram::legend::{foot_height, marks, put_shape_key};
 use diagram::shapes::{
     put_if, put_text_end, put_text_start, put_title_end, put_title_start, put_words,
@@ -37,22 +39,40 @@ pub fn signed_campaign_svg(alloc: Global, chronicle: &SignedChronicle) -> Result
     let accesses = chronicle.accesses();
     let strokes = strokes(alloc, chronicle)?;
     let plain = bare(alloc, strokes.as_slice())?;
+    let drawn = with_rows(alloc, strokes)?;
+    let shown = bare(alloc, drawn.as_slice())?;
     let generals = scenario.generals();
     let rounds = scenario.bound() + 1;
     let wide = width(alloc, generals, accesses)?;
-    let bottom = top_of(generals, plain.as_slice(), accesses, rounds);
-    let marks = marks(scenario, accesses, plain.as_slice());
+    let bottom = top_of(generals, shown.as_slice(), accesses, rounds);
+    let marks = marks(scenario, accesses, shown.as_slice());
+    let is_cut = is_cut(plain.as_slice());
     let mut text = String::from_str(alloc, start())?;
     put_box(&mut text, wide + 16, bottom + foot_height(marks))?;
-    put_head(&mut text, scenario, strokes.as_slice(), accesses, marks)?;
+    put_head(
+        &mut text,
+        scenario,
+        drawn.as_slice(),
+        accesses,
+        marks,
+        is_cut,
+    )?;
     put_heads(&mut text, scenario, accesses)?;
     put_bands(
         &mut text,
         generals,
-        strokes.as_slice(),
-        plain.as_slice(),
+        drawn.as_slice(),
+        shown.as_slice(),
         accesses,
         wide,
+        rounds,
+    )?;
+    put_mores(
+        &mut text,
+        generals,
+        plain.as_slice(),
+        shown.as_slice(),
+        accesses,
         rounds,
     )?;
     put_foot(&mut text, chronicle, marks, wide, bottom)?;
@@ -67,12 +87,13 @@ fn put_head(
     strokes: &[ChainStroke],
     accesses: &[Access],
     marks: Marks,
+    is_cut: bool,
 ) -> Result<(), AllocError>
     ensures { OnOk result (string_bytes out.new ≡ string_bytes out.old
-        ++ head scenario.now strokes.now accesses.now marks) }
+        ++ head scenario.now strokes.now accesses.now marks is_cut) }
 {
     put_title_of(out, scenario)?;
-    put_description(out, strokes, accesses, marks)?;
+    put_description(out, strokes, accesses, marks, is_cut)?;
     out.push_str(look())?;
     put_headline(out, scenario)?;
     Ok(())
@@ -130,13 +151,15 @@ fn put_description(
     strokes: &[ChainStroke],
     accesses: &[Access],
     marks: Marks,
+    is_cut: bool,
 ) -> Result<(), AllocError>
     ensures { OnOk result (string_bytes out.new ≡ string_bytes out.old
-        ++ description strokes.now accesses.now marks) }
+        ++ description strokes.now accesses.now marks is_cut) }
 {
     out.push_str(key_start())?;
     put_stroke_key(out, marks)?;
     put_shape_key(out, marks)?;
+    put_cut(out, is_cut)?;
     put_several(out, strokes)?;
     put_copied(out, accesses)?;
     put_key_end(out)

@@ -1,2 +1,2 @@
 mod AccountLaws
-mod ShortLaws
+pub mod ShortLaws

@@ -1,9 +1,10 @@
 -- A campaign of signed messages as a page of HTML, section by section.
-use Rattle.std.specs.Prelude.{ℕ, ◌==◌, Bool, true, false, if◌then◌else◌, List, [], ◌++◌, flat_map, codes, slice_get, Option, None, Some}
+use Rattle.std.specs.Prelude.{ℕ, ◌==◌, Bool, true, false, if◌then◌else◌, List, [], ◌∷◌, ◌++◌, flat_map, codes, slice_get, Option, None, Some}
 use Rattle.std.specs.Fmt.{decimal}
 use Rattle.std.specs.List.{range_with_len}
 use Rattle.diagram.specs.Foot.{place_of}
-use Rattle.page.specs.Page.{fold, heading, lines, page}
+use Rattle.page.specs.Page.{fold, lines, page}
+use Rattle.page.specs.Sections.{Section, sections_in}
 use Rattle.roster.specs.Scenario.{Scenario, is_traitor}
 use Rattle.signed.specs.Explained.{acceptance_of}
 use Rattle.signed_diagram.specs.Foot.{bound_words}
@@ -11,11 +12,12 @@ use Rattle.signed_diagram.specs.Svg.{signed_svg}
 use Rattle.trace.specs.SignedText.{signed_text}
 use Rattle.world.specs.Chronicle.{Chronicle}
 use Rattle.world.specs.declared.schedule.Repeat.{Repeat}
-use Rattle.campaign_page.specs.Account.{accesses_part, chronicle_shown, is_wide, lieutenants_fitted, picture_told, programs_part, promise_words, scenario_part, schedule_part, title, verdict_told}
+use Rattle.campaign_page.specs.Account.{accesses_section, chronicle_section, is_wide, lieutenants_roomed, picture_section, programs_section, promise_words, scenario_section, schedule_section, title, verdict_told}
+use Rattle.campaign_page.specs.Room.{room_for_sections}
 
 -- the picture
-abbrev pub picture_part : Chronicle → List ℕ
-picture_part c = picture_told (is_wide c.scenario c.accesses) (signed_svg c)
+abbrev pub diagram_section : Chronicle → Section
+diagram_section c = picture_section (is_wide c.scenario c.accesses) (signed_svg c)
 
 -- which orders a lieutenant accepts, by which chains, and what he decides of them
 unfoldable pub lieutenants_heading : List ℕ
@@ -43,20 +45,25 @@ lieutenant_part c g = if g == c.scenario.commander then [] else lieutenant_told 
 abbrev pub each_lieutenant : Chronicle → List ℕ
 each_lieutenant c = flat_map (lieutenant_part c) (range_with_len 0 c.scenario.generals)
 
-abbrev pub lieutenants_part : Chronicle → List ℕ
-lieutenants_part c = heading lieutenants_heading ++ lieutenants_fitted (each_lieutenant c)
+abbrev pub lieutenants_section : Chronicle → Section
+lieutenants_section c = lieutenants_roomed lieutenants_heading (each_lieutenant c)
 
 -- which promise holds (TOPLAS 1982, Theorem 2)
 abbrev pub bound_told : Bool → List ℕ
 bound_told true = promise_words
 bound_told false = bound_words false
 
--- all sections, of a chronicle whose scenario this text tells, and which was played by this schedule, if by one
+-- all sections but the verdict, of a chronicle whose scenario this text tells, and which was played by this schedule,
+-- if by one
+abbrev pub sections : List ℕ → Option (List (List Repeat)) → Chronicle → List Section
+sections text schedule c =
+    scenario_section text ∷ schedule_section schedule ∷ programs_section c.scenario ∷ diagram_section c
+    ∷ lieutenants_section c ∷ accesses_section c.accesses ∷ chronicle_section (signed_text c) ∷ []
+
+-- and in their room, with the verdict
 unfoldable pub parts : List ℕ → Option (List (List Repeat)) → Chronicle → List ℕ
 parts text schedule c =
-    scenario_part text ++ schedule_part schedule ++ programs_part c.scenario ++ picture_part c
-    ++ lieutenants_part c ++ accesses_part c.accesses
-    ++ chronicle_shown (signed_text c) ++ verdict_told c.verdict (bound_told c.verdict.bound)
+    sections_in room_for_sections (sections text schedule c) ++ verdict_told c.verdict (bound_told c.verdict.bound)
 
 abbrev pub signed_title : Scenario → List ℕ
 signed_title s = title s ++ codes "; signed messages"

@@ -15,7 +15,8 @@ SignedPagesAreElements =
     → (text : List ℕ) × IsElement text
     × (signed_page_text scenario schedule c ≡ codes "<!DOCTYPE html>\n" ++ text ++ codes "\n")
 
--- no page is longer than this, whatever stands in the scenario, and whatever the schedule and the letters
+-- no page of a campaign within its limits is longer than this, whatever stands in the scenario's text, and whatever the
+-- schedule and the letters
 abbrev pub SignedPagesAreShort : Type 0
 SignedPagesAreShort =
     (scenario : List ℕ) (schedule : Option (List (List Repeat))) (c : Chronicle)

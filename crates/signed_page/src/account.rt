@@ -1,16 +1,16 @@
 //! A campaign of signed messages as a page.
 ghost use Rattle.std.specs.Prelude.{◌≡◌, ◌++◌, codes, option_map, string_bytes, IfOk, OnOk};
-ghost use Rattle.campaign_page.specs.Account.{accesses_part, chronicle_shown, programs_part, verdict_told};
-ghost use Rattle.signed_page.specs.Account.{bound_told, parts, picture_part, signed_page_text, signed_title};
+ghost use Rattle.campaign_page.specs.Account.{accesses_section, chronicle_section, programs_section, verdict_told};
+ghost use Rattle.signed_page.specs.Account.{bound_told, diagram_section, parts, signed_page_text, signed_title};
 ghost use Rattle.trace.specs.SignedText.{signed_text};
 
-use crate::lieutenants::put_lieutenants;
+use crate::lieutenants::lieutenants_section;
 use crate::verdict::put_verdict;
 use campaign_page::{
-    is_wide, put_chronicle_text, put_listed, put_programs, put_scenario, put_schedule, put_svg,
-    title,
+    ROOM_FOR_SECTIONS, accesses_section, chronicle_section, is_wide, picture_section,
+    programs_section, scenario_section, schedule_section, title,
 };
-use page::{finish, start};
+use page::{Section, finish, put_sections, start};
 use roster::Scenario;
 use signed::SignedChronicle;
 use signed_diagram::signed_campaign_svg;
@@ -51,15 +51,47 @@ fn put_parts(
     ensures { OnOk result (string_bytes out.new ≡ string_bytes out.old
         ++ parts scenario_text.now (option_map (λ s. s.now) schedule.entry) chronicle.now) }
 {
-    put_scenario(alloc, out, scenario_text)?;
-    put_schedule(alloc, out, schedule)?;
-    put_programs_of(alloc, out, chronicle)?;
-    put_diagram(alloc, out, chronicle)?;
-    put_lieutenants(alloc, out, chronicle)?;
-    put_accesses(alloc, out, chronicle)?;
-    put_chronicle(alloc, out, chronicle)?;
+    let scenario = scenario_section(alloc, scenario_text)?;
+    let time = schedule_section(alloc, schedule)?;
+    let programs = programs_of(alloc, chronicle)?;
+    let picture = diagram_section(alloc, chronicle)?;
+    let lieutenants = lieutenants_section(alloc, chronicle)?;
+    let accesses = accesses_of(alloc, chronicle)?;
+    let text = section_of(alloc, chronicle)?;
+    let sections = [
+        scenario,
+        time,
+        programs,
+        picture,
+        lieutenants,
+        accesses,
+        text,
+    ];
+    put_sections(out, ROOM_FOR_SECTIONS, &sections)?;
     put_verdict_of(out, chronicle)?;
     Ok(())
+}
+
+/// The programs of its traitors.
+fn programs_of(alloc: Global, chronicle: &SignedChronicle) -> Result<Section, AllocError>
+    ensures { IfOk result (λ section. section ≡ programs_section chronicle.now.scenario) }
+{
+    programs_section(alloc, chronicle.scenario())
+}
+
+/// Its accesses to the board.
+fn accesses_of(alloc: Global, chronicle: &SignedChronicle) -> Result<Section, AllocError>
+    ensures { IfOk result (λ section. section ≡ accesses_section chronicle.now.accesses) }
+{
+    accesses_section(alloc, chronicle.accesses())
+}
+
+/// Adds the verdict.
+fn put_verdict_of(out: &mut String, chronicle: &SignedChronicle) -> Result<(), AllocError>
+    ensures { OnOk result (string_bytes out.new ≡ string_bytes out.old
+        ++ verdict_told chronicle.now.verdict (bound_told chronicle.now.verdict.bound)) }
+{
+    put_verdict(out, chronicle.verdict())
 }
 
 /// The campaign's numbers, and that its messages are signed.
@@ -71,59 +103,21 @@ fn signed_title(alloc: Global, scenario: &Scenario) -> Result<String, AllocError
     Ok(words)
 }
 
-/// Adds the programs of the traitors.
-fn put_programs_of(
-    alloc: Global,
-    out: &mut String,
-    chronicle: &SignedChronicle,
-) -> Result<(), AllocError>
-    ensures { OnOk result (string_bytes out.new ≡ string_bytes out.old ++ programs_part chronicle.now.scenario) }
-{
-    put_programs(alloc, out, chronicle.scenario())
-}
-
-/// Adds the accesses to the board, if there are any.
-fn put_accesses(
-    alloc: Global,
-    out: &mut String,
-    chronicle: &SignedChronicle,
-) -> Result<(), AllocError>
-    ensures { OnOk result (string_bytes out.new ≡ string_bytes out.old ++ accesses_part chronicle.now.accesses) }
-{
-    put_listed(alloc, out, chronicle.accesses())
-}
-
-/// Adds the verdict.
-fn put_verdict_of(out: &mut String, chronicle: &SignedChronicle) -> Result<(), AllocError>
-    ensures { OnOk result (string_bytes out.new ≡ string_bytes out.old
-        ++ verdict_told chronicle.now.verdict (bound_told chronicle.now.verdict.bound)) }
-{
-    put_verdict(out, chronicle.verdict())
-}
-
-/// Adds the picture.
-fn put_diagram(
-    alloc: Global,
-    out: &mut String,
-    chronicle: &SignedChronicle,
-) -> Result<(), AllocError>
-    ensures { OnOk result (string_bytes out.new ≡ string_bytes out.old ++ picture_part chronicle.now) }
+/// The picture.
+fn diagram_section(alloc: Global, chronicle: &SignedChronicle) -> Result<Section, AllocError>
+    ensures { IfOk result (λ section. section ≡ diagram_section chronicle.now) }
 {
     let svg = signed_campaign_svg(alloc, chronicle)?;
     let wide = is_wide(alloc, chronicle.scenario(), chronicle.accesses())?;
-    put_svg(alloc, out, wide, svg.as_str())
+    picture_section(alloc, wide, svg.as_str())
 }
 
-/// Adds the chronicle.
-fn put_chronicle(
-    alloc: Global,
-    out: &mut String,
-    chronicle: &SignedChronicle,
-) -> Result<(), AllocError>
-    ensures { OnOk result (string_bytes out.new ≡ string_bytes out.old ++ chronicle_shown (signed_text chronicle.now)) }
+/// The chronicle.
+fn section_of(alloc: Global, chronicle: &SignedChronicle) -> Result<Section, AllocError>
+    ensures { IfOk result (λ section. section ≡ chronicle_section (signed_text chronicle.now)) }
 {
     let text = chronicle_text(alloc, chronicle)?;
-    put_chronicle_text(alloc, out, text.as_slice())
+    chronicle_section(alloc, text.as_slice())
 }
 
 /// The text of a chronicle.

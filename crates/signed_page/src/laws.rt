@@ -7,7 +7,8 @@ pub fn signed_pages_are_elements()
     ensures { SignedPagesAreElements }
 {}
 
-/// No page is longer than 2,000,000 bytes, whatever the scenario's text, the schedule and the chronicle.
+/// No page of a campaign within its limits is longer than 2,000,000 bytes, whatever the scenario's text, the schedule
+/// and the letters.
 pub fn signed_pages_are_short()
     ensures { SignedPagesAreShort }
 {}

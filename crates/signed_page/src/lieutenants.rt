@@ -1,25 +1,23 @@
 //! What each lieutenant of a signed campaign accepted, and why he decides so.
 ghost use Rattle.std.specs.Prelude.{◌≡◌, ◌<◌, ◌++◌, slice_get, string_bytes, IfOk, OnOk};
 ghost use Rattle.diagram.specs.Foot.{place_of};
-ghost use Rattle.signed_page.specs.Account.{each_lieutenant, lieutenant_part, lieutenant_words, lieutenants_heading, lieutenants_part, traitor_words};
+ghost use Rattle.signed_page.specs.Account.{each_lieutenant, lieutenant_part, lieutenant_words, lieutenants_heading, lieutenants_section, traitor_words};
 
-use campaign_page::put_fitted_lieutenants;
-use page::{put_fold_end, put_fold_start, put_heading, put_lines};
+use campaign_page::lieutenants_roomed;
+use page::{Section, put_fold_end, put_fold_start, put_lines};
 use signed::{SignedChronicle, explain_one_signed};
 use std::alloc::{AllocError, Global};
 
-/// Adds what each lieutenant accepted.
-pub(crate) fn put_lieutenants(
+/// What each lieutenant accepted.
+pub(crate) fn lieutenants_section(
     alloc: Global,
-    out: &mut String,
     chronicle: &SignedChronicle,
-) -> Result<(), AllocError>
-    ensures { OnOk result (string_bytes out.new ≡ string_bytes out.old ++ lieutenants_part chronicle.now) }
+) -> Result<Section, AllocError>
+    ensures { IfOk result (λ section. section ≡ lieutenants_section chronicle.now) }
 {
     let mut told = String::new(alloc);
     put_each_lieutenant(alloc, &mut told, chronicle)?;
-    put_heading(out, lieutenants_heading())?;
-    put_fitted_lieutenants(alloc, out, told.as_str())
+    lieutenants_roomed(alloc, lieutenants_heading(), told)
 }
 
 /// Adds that of each lieutenant.

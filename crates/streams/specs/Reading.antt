@@ -1,5 +1,5 @@
 -- How much is read of a file.
-use Rattle.std.specs.Prelude.{ℕ, ◌≡◌, ◌≤◌, ◌<◌, ◌⊎◌, ◌++◌, List, Option, IfSome, length, slice_index, take}
+use Rattle.std.specs.Prelude.{ℕ, ◌≡◌, ◌≤◌, ◌<◌, ◌++◌, List, Option, IfSome, length, take}
 use Rattle.std.specs.Str.{IsUtf8}
 use Rattle.streams.specs.declared.within.Within.{Within}
 use Rattle.streams.specs.declared.within.Within.TheVariants.{Whole, Longer}
@@ -23,24 +23,6 @@ pub record BeginsSo (most : ℕ) (all front : List ℕ) : Type 0 where
 abbrev pub IsFront : ℕ → Option (List ℕ) → List ℕ → Type 0
 IsFront most known front = IfSome known (λ all. BeginsSo most all front)
 
--- a byte of a character behind its first stands there
-abbrev pub IsFurther : List ℕ → ℕ → Type 0
-IsFurther bytes place = (128 ≤ slice_index bytes place) × (slice_index bytes place < 192)
-
--- no further byte of a character stands there, or it is the first place
-abbrev pub IsStart : List ℕ → ℕ → Type 0
-IsStart bytes place =
-    (place ≤ length bytes)
-    × (0 < place → (place < length bytes) × ((slice_index bytes place < 128) ⊎ (192 ≤ slice_index bytes place)))
-
--- and behind it further bytes alone
-pub record IsLastStart (bytes : List ℕ) (place : ℕ) : Type 0 where
-  pub start : IsStart bytes place
-  pub last : (k : ℕ) → place < k → k < length bytes → IsFurther bytes k
-
--- a text up to the last place, behind the first, at which no further byte of a character stands: what stands there may
--- be cut
-pub record MayBeginText (front : List ℕ) : Type 0 where
-  pub place : ℕ
-  pub start : IsLastStart front place
-  pub text : IsUtf8 (take place front)
+-- some text begins so
+abbrev pub MayBeginText : List ℕ → Type 0
+MayBeginText front = (rest : List ℕ) × IsUtf8 (front ++ rest)

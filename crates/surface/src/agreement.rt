@@ -1,5 +1,5 @@
 //! Labels, trees, tables and decisions.
-ghost use Rattle.std.specs.Prelude.{◌<◌, ◌≢◌};
+ghost use Rattle.std.specs.Prelude.{◌<◌, ◌≤◌, ◌≢◌};
 ghost use Rattle.label.specs.Space.{IsWithinLimits};
 
 use book::{Table, TableError, decision, read_table};
@@ -24,6 +24,23 @@ pub fn places(
         rank(space, label),
         unrank(space, size, place),
     )
+}
+
+/// A lieutenant's tree in which nothing is told.
+pub fn untold(
+    alloc: Global,
+    generals: u8,
+    bound: u8,
+    commander: u8,
+    general: u8,
+) -> Result<Tree, AllocError>
+    requires few { generals ≤ 13 }
+    requires commander { commander < generals }
+    requires general { general < generals }
+    requires lieutenant { general ≢ commander }
+    requires bound { bound < 13 }
+{
+    Tree::new(alloc, generals, bound, commander, general)
 }
 
 /// The order that is told for a label, once it is filled.

@@ -101,6 +101,16 @@ pub fn signed_world(alloc: Global, scenario: Scenario) -> Result<SignedWorld, Al
     SignedWorld::open(alloc, scenario)
 }
 
+/// Whether all loyal generals have sent theirs in the closed rounds.
+pub fn is_full_signed(world: &SignedWorld) -> bool {
+    world.full()
+}
+
+/// What has become of such a world, where all its rounds are closed and full.
+pub fn told_signed(world: SignedWorld) -> Option<SignedChronicle> {
+    world.chronicle()
+}
+
 /// A chronicle of its parts, and the decisions of a world so far.
 pub fn chronicle(
     scenario: Scenario,

@@ -1,5 +1,8 @@
 //! Numbers, programs and their judgement.
-ghost use Rattle.std.specs.Prelude.{◌<◌, length};
+ghost use Rattle.std.specs.Prelude.{◌<◌, ◌≤◌, length};
+ghost use Rattle.std.specs.List.{AllByRecursion};
+ghost use Rattle.insn.specs.Insn.{IsWell};
+ghost use Rattle.insn.specs.Program.{slots_of};
 
 use asm::{AsmError, assemble, disassemble};
 use codec::{CodecError, decode, encode};
@@ -24,6 +27,15 @@ pub fn conditions(condition: Condition, a: u64, b: u64) -> (bool, bool) {
 /// Bytes in another order.
 pub fn swapped(order: ByteOrder, size: SwapSize, a: u64) -> u64 {
     swap(order, size, a)
+}
+
+/// The program of these instructions.
+pub fn built(alloc: Global, instructions: Vec<Insn>) -> Result<Program, AllocError>
+    requires some { 0 < length (slots_of instructions.items) }
+    requires bound { length (slots_of instructions.items) ≤ 4096 }
+    requires well { AllByRecursion IsWell instructions.items }
+{
+    Program::new(alloc, instructions)
 }
 
 /// The program that bytes spell.

@@ -30,6 +30,11 @@ pub fn advanced(activation: Activation, verified: &Verified, context: &Context, 
     activation.advance(verified, context, limit)
 }
 
+/// How many steps a program has taken: one that is run, and one that waits for the board.
+pub fn steps(activation: &Activation, waiting: &Waiting) -> (u32, u32) {
+    (activation.steps(), waiting.steps())
+}
+
 /// A program behind the board's answer.
 pub fn answered(waiting: Waiting, reply: Reply) -> Activation
     requires { fits waiting.request (words_in reply) ≡ true }

@@ -8,8 +8,9 @@ use Rattle.text.specs.declared.stop.Stop.TheVariants.{Byte}
 use Rattle.text.proofs.CutLemmas.{Lacks}
 use Rattle.text.proofs.DecimalLemmas.{decimal_of-decimal}
 use Rattle.combine.specs.declared.chosen.Rule.{Rule}
-use Rattle.combine.specs.Names.{rule_name, rule_named}
-use Rattle.combine.proofs.NameLaws.{name_read}
+use Rattle.combine.specs.Rule.{rule_name}
+use Rattle.combine.specs.Names.{rule_named}
+use Rattle.combine.proofs.RuleLaws.{name_read}
 use Rattle.book.proofs.RuleNames.{name_lacks_comma}
 use Rattle.text.specs.Stop.{is_stop}
 use Rattle.text.proofs.BytesLemmas.{all-append}

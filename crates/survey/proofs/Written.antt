@@ -1,7 +1,7 @@
 -- What is written of a family's campaigns is a part.
 use Rattle.std.proofs.Common.{ℕ, ◌≡◌, ◌<◌, ◌^◌, List, [], ◌∷◌, ◌++◌, map, refl, ap, arith, codes, Option, None, Some}
 use Rattle.std.specs.Prelude.{◌==◌, decimal, flat_map, IfSome, not}
-use Rattle.combine.specs.Names.{rule_name}
+use Rattle.combine.specs.Rule.{rule_name}
 use Rattle.book.proofs.RuleNames.{name_lacks_feed}
 use Rattle.text.proofs.BytesLemmas.{all-append}
 use Rattle.survey.specs.declared.finding.Finding.{Finding}

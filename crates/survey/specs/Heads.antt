@@ -2,7 +2,7 @@
 -- ascending.
 use Rattle.std.specs.Prelude.{ℕ, ◌≡◌, ◌<◌, ◌^◌, ◌==◌, not, true, Bool, IfSome, List, [], ◌∷◌, ◌++◌, take, decimal, bytes_eq, codes, Option, None, Some, string_bytes}
 use Rattle.std.specs.List.{list_all}
-use Rattle.combine.specs.Names.{rule_name}
+use Rattle.combine.specs.Rule.{rule_name}
 use Rattle.survey.specs.declared.adversary.Adversary.{Adversary}
 use Rattle.survey.specs.declared.adversary.Adversary.TheVariants.{Lies, Silent, Collude, Given}
 use Rattle.survey.specs.declared.manner.Manner.{Manner}

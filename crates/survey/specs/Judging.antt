@@ -2,7 +2,7 @@
 use Rattle.std.specs.Prelude.{ℕ, ◌≡◌, ◌≢◌, ◌≤◌, ◌<◌, List, [], count_by, Err}
 use Rattle.std.specs.List.{range_with_len}
 use Rattle.toml.specs.Parse.{parse_document}
-use Rattle.scenario.specs.Told.{ReadsAny, TellsAny}
+use Rattle.scenario.specs.Reading.{ReadsAny, TellsAny}
 use Rattle.scenario.specs.declared.fault.ScenarioError.{ScenarioError}
 use Rattle.scenario.specs.declared.fault.ScenarioError.TheVariants.{Memory}
 use Rattle.scenario.specs.declared.messages.Campaign.{Campaign}

@@ -1,7 +1,8 @@
 -- The text of a campaign (docs/FORMATS.md, "Scenarios").
 use Rattle.std.specs.Prelude.{ℕ, Bool, true, false, if◌then◌else◌, List, [], ◌++◌, flat_map, decimal, codes, Option, None, Some}
 use Rattle.combine.specs.declared.chosen.Rule.{Rule}
-use Rattle.combine.specs.Names.{is_default, rule_name}
+use Rattle.combine.specs.Names.{is_default}
+use Rattle.combine.specs.Rule.{rule_name}
 use Rattle.survey.specs.declared.lie.Lie.{Lie}
 use Rattle.survey.specs.declared.lie.Lie.TheVariants.{Honest, Sway, Sign, Pass}
 use Rattle.survey.specs.declared.lie.Said.{Said}

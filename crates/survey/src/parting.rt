@@ -1,6 +1,7 @@
 //! Parts of a survey, read line by line.
-ghost use Rattle.std.specs.Prelude.{◌≡◌, ◌≢◌, ◌↔◌, ◌+◌, ◌<◌, ◌^◌, ◌++◌, ℕ, List, [], length, IfErr, IfNone, IfSome, IsTrue, OnOk};
+ghost use Rattle.std.specs.Prelude.{◌≡◌, ◌≢◌, ◌↔◌, ◌+◌, ◌<◌, ◌^◌, ◌++◌, ℕ, List, [], length, IfErr, IfNone, IfSome, IsTrue, OnOk, true};
 ghost use Rattle.survey.specs.declared.finding.Finding.{Finding as Found};
+ghost use Rattle.survey.specs.Heads.{is_head};
 ghost use Rattle.survey.specs.Parts.{Adds, AddsAll, IsFaulty, IsFurther, IsHeadLine, IsLine, IsReadOn, IsSized, IsUnfed, IsWrong, StopsAt};
 
 use crate::finding::Finding;
@@ -30,6 +31,7 @@ fn take_head(head: &mut Vec<u8>, line: &[u8]) -> Result<(), PartError>
     ensures foreign { IfErr result (λ e. e ≢ PartError.Memory
         → (e ≡ PartError.Family 1) × (head.old.items ≢ []) × (line.now ≢ head.old.items)) }
     ensures left { IfErr result (λ e. e ≢ PartError.Memory → head.new.items ≡ head.old.items) }
+    ensures memory { IfErr result (λ e. e ≡ PartError.Memory → head.old.items ≡ []) }
 {
     if head.is_empty() {
         head.extend_from_slice(line)?;
@@ -67,6 +69,7 @@ fn add_row(
     ensures added { OnOk result (Adds head.now line.now seeds.0 seeds.1 findings.old.items findings.new.items) }
     ensures wrong { IfErr result (λ e. e ≢ PartError.Memory → IsWrong head.now line.now seeds.0 seeds.1 number e) }
     ensures left { IfErr result (λ e. e ≢ PartError.Memory → findings.new.items ≡ findings.old.items) }
+    ensures memory { is_head line.now ≡ true → IfErr result (λ e. e ≢ PartError.Memory) }
 {
     if is_head(line) {
         if line == head {

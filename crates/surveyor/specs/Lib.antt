@@ -4,4 +4,4 @@ pub mod Words
 pub mod Printed
 pub mod Summed
 pub mod Broken
-pub mod Telling
+pub mod Statuses

@@ -3,9 +3,10 @@ ghost use Rattle.std.specs.Prelude.{◌≡◌, ◌≤◌, IfOk, IfSome, option_m
 ghost use Rattle.surveyor.specs.Asked.{IsSurvey, IsAsked};
 ghost use Rattle.surveyor.specs.Words.{manner_named, plain_manner};
 
+use crate::flags::{command, rules};
 use crate::numbers::{patience, seeds, span};
+use clap::ArgMatches;
 use clap::error::ErrorKind;
-use clap::{Arg, ArgAction, ArgMatches, Command};
 use combine::Rule;
 use std::alloc::{AllocError, Global};
 use survey::{Manner, Span};
@@ -103,132 +104,6 @@ const MERGE: &str = "--sum plays nothing: beside it stand --seeds, --table and -
 const ONCE: &str = "standard input is read once";
 
 const KEEP: &str = "--break keeps nothing: what it prints can be sent to a file";
-
-/// An option with a value.
-fn option<'a>(alloc: Global, name: &'a str, value: &'a str, help: &'a str) -> Arg<'a> {
-    Arg::new(alloc, name)
-        .long(name)
-        .value_name(value)
-        .help(help)
-}
-
-/// An option without one.
-fn switch<'a>(alloc: Global, name: &'a str, help: &'a str) -> Arg<'a> {
-    Arg::new(alloc, name)
-        .long(name)
-        .action(ArgAction::SetTrue)
-        .help(help)
-}
-
-/// The options that say which campaigns there are, added to a command.
-fn with_family<'a>(
-    alloc: Global,
-    command: Command<'a>,
-    rules: &'a str,
-) -> Result<Command<'a>, AllocError> {
-    command
-        .arg(option(
-            alloc,
-            "generals",
-            "N..M",
-            "How many generals, 2 to 13 [default: 4]",
-        ))?
-        .arg(option(
-            alloc,
-            "bound",
-            "N..M",
-            "For how many traitors they provide, 0 to 4 [default: 1]",
-        ))?
-        .arg(option(
-            alloc,
-            "traitors",
-            "N..M",
-            "How many traitors there are [default: 1; with --break: 1..13]",
-        ))?
-        .arg(option(
-            alloc,
-            "seeds",
-            "N..M",
-            "The seeds, each of which gives a campaign, 10000000 at most [default: 1..1000]",
-        ))?
-        .arg(option(alloc, "rule", "RULE", rules))?
-        .arg(option(
-            alloc,
-            "patience",
-            "STEPS",
-            "After how many steps a traitor is no longer waited for, 1 to 4096",
-        ))?
-        .arg(switch(alloc, "signed", "Messages are signed"))?
-        .arg(option(
-            alloc,
-            "adversary",
-            "WHAT",
-            "What traitors do: lies, silent, collude, or a file of assembly [default: lies]",
-        ))
-}
-
-/// The options that say what is printed, added to a command.
-fn with_shapes<'a>(alloc: Global, command: Command<'a>) -> Result<Command<'a>, AllocError> {
-    command
-        .arg(switch(
-            alloc,
-            "lines",
-            "Prints an object of JSON for each campaign, in place of sums",
-        ))?
-        .arg(switch(
-            alloc,
-            "table",
-            "Prints the sums for each number of generals, bound and traitors",
-        ))?
-        .arg(switch(
-            alloc,
-            "svg",
-            "Prints a picture: the share of broken campaigns over the number of traitors",
-        ))?
-        .arg(switch(
-            alloc,
-            "shrink",
-            "Prints the least broken campaign, of which nothing more can be taken out",
-        ))?
-        .arg(switch(
-            alloc,
-            "break",
-            "Prints, for each number of generals and bound, the least campaign found with the fewest traitors who \
-             break it",
-        ))?
-        .arg(option(
-            alloc,
-            "keep",
-            "DIR",
-            "Writes each broken campaign to DIR/SEED.toml",
-        ))?
-        .arg(
-            option(
-                alloc,
-                "sum",
-                "FILE",
-                "Sums the lines of these files, and names the seeds that lack or are double; nothing is played",
-            )
-            .num_args(1..)
-            .action(ArgAction::Append),
-        )
-}
-
-/// What is said of `--rule`.
-fn rules(alloc: Global) -> Result<String, AllocError> {
-    let names = Rule::names();
-    let default = Rule::DEFAULT.name();
-    format!(in alloc; "How orders are combined: {names} [default: {default}]")
-}
-
-/// What may be asked for, as `clap` is told of it.
-fn command<'a>(alloc: Global, rules: &'a str) -> Result<Command<'a>, AllocError> {
-    let command = Command::new(alloc, "survey")
-        .no_binary_name(true)
-        .bin_name("byzlab survey")?;
-    let command = with_shapes(alloc, with_family(alloc, command, rules)?)?;
-    Ok(command.about("Plays many campaigns of a family, and counts how they come out"))
-}
 
 /// The value of an option, or what stands for it.
 fn value<'a>(found: &ArgMatches<'a>, name: &str, without: &'a str) -> &'a str {

@@ -8,9 +8,9 @@ ghost use Rattle.surveyor.specs.Broken.{IsBreakAnswered, IsBroken, IsSearched, b
 
 use crate::asked::Survey;
 use crate::family::family_of;
+use crate::fault::Fault;
 use crate::pieces::refused;
 use crate::printing::print;
-use crate::telling::Fault;
 use shrink::{Breaking, breaking};
 use std::thread::Threads;
 use streams::Output;

@@ -4,8 +4,8 @@ ghost use Rattle.surveyor.specs.Asked.{IsSurvey};
 ghost use Rattle.surveyor.specs.Words.{IsFamilyOf, IsNamed, IsProgramOf};
 
 use crate::asked::Survey;
+use crate::fault::Fault;
 use crate::input::bytes_of;
-use crate::telling::Fault;
 use asm::assemble;
 use codec::encode;
 use std::alloc::Global;

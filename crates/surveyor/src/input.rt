@@ -1,5 +1,5 @@
 //! Files that are read.
-use crate::telling::Fault;
+use crate::fault::Fault;
 use std::fs::read;
 use std::io::{self, ErrorKind, Read};
 

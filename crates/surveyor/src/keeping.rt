@@ -1,5 +1,5 @@
 //! Campaigns that are kept in a folder.
-use crate::telling::Fault;
+use crate::fault::Fault;
 use std::fs::{File, OpenOptions, create_dir, metadata, remove_file, rename};
 use std::io::{self, ErrorKind, Write};
 

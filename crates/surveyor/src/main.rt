@@ -5,6 +5,8 @@
 mod asked;
 mod breaking;
 mod family;
+mod fault;
+mod flags;
 mod input;
 mod keeping;
 mod numbers;
@@ -14,20 +16,19 @@ mod progress;
 mod shrinking;
 mod summing;
 mod surveying;
-mod telling;
 
 ghost use Rattle.std.specs.Prelude.{IfOk};
-ghost use Rattle.surveyor.specs.Telling.{IsUnasked};
+ghost use Rattle.surveyor.specs.Statuses.{IsUnasked};
 
 use asked::{Asked, AskedError, request};
 use breaking::broken;
 use combine::Rule;
+use fault::{Fault, tell};
 use std::env;
 use std::process::ExitCode;
 use std::thread::Threads;
 use summing::summed;
 use surveying::surveyed;
-use telling::{Fault, tell};
 
 fn main(rt: HostRuntime) -> ExitCode {
     let status = match called(&rt, &rt) {

@@ -1,7 +1,7 @@
 //! The pieces in which a survey goes on.
 ghost use Rattle.std.specs.Prelude.{◌≤◌};
 
-use crate::telling::Fault;
+use crate::fault::Fault;
 use scenario::ScenarioError;
 
 /// How many campaigns of so many generals at most are played between two looks at what they come to.

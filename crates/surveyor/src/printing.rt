@@ -4,7 +4,7 @@ ghost use Rattle.std.specs.Io.KnownBytes.{Appends};
 ghost use Rattle.surveyor.specs.Printed.{summary_text};
 
 use crate::asked::Shape;
-use crate::telling::Fault;
+use crate::fault::Fault;
 use std::alloc::{AllocError, Global};
 use streams::Output;
 use survey::Finding;

@@ -7,11 +7,11 @@ ghost use Rattle.surveyor.specs.Asked.{IsSurvey};
 ghost use Rattle.surveyor.specs.Printed.{IsShrunken, least_head, least_text};
 
 use crate::asked::Survey;
+use crate::fault::Fault;
 use crate::keeping::keep;
 use crate::pieces::{at_once, refused};
 use crate::printing::print;
 use crate::progress::Progress;
-use crate::telling::Fault;
 use shrink::{Breach, better, breaches, least, statements};
 use std::alloc::{AllocError, Global};
 use std::thread::Threads;

@@ -4,9 +4,9 @@ ghost use Rattle.survey.specs.Parts.{AreOf};
 ghost use Rattle.surveyor.specs.Summed.{AreEnds, IsAskedFor, IsCoveredBy, IsSummed, IsTold, span_of, with_seed};
 
 use crate::asked::Merge;
+use crate::fault::Fault;
 use crate::input::bytes_of;
 use crate::printing::put_summary;
-use crate::telling::Fault;
 use std::alloc::{AllocError, Global};
 use streams::Output;
 use survey::{Finding, PartError, Parts, read_part};

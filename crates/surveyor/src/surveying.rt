@@ -6,12 +6,12 @@ ghost use Rattle.surveyor.specs.Printed.{IsPrinted, IsSurveyed, added, broken_se
 
 use crate::asked::{Shape, Survey};
 use crate::family::family_of;
+use crate::fault::Fault;
 use crate::keeping::{keep, open_folder};
 use crate::pieces::{at_once, refused};
 use crate::printing::{print, put_summary};
 use crate::progress::Progress;
 use crate::shrinking::shrunken;
-use crate::telling::Fault;
 use std::alloc::{AllocError, Global};
 use std::thread::Threads;
 use streams::Output;

@@ -4,8 +4,8 @@ use Rattle.std.specs.Prelude.{◌==◌, count_by}
 use Rattle.std.proofs.lemmas.Bool.{or_from, eq-eqb, true≢false}
 use Rattle.std.proofs.lemmas.List.{length-map}
 use Rattle.std.proofs.lemmas.List.Sums.{sum_by-cons}
-use Rattle.combine.specs.Chosen.{combined_by, chosen_is_rule}
-use Rattle.combine.specs.Rule.{IsMajorityRule}
+use Rattle.combine.specs.Rule.{combined_by, IsMajorityRule}
+use Rattle.combine.specs.Laws.{chosen_is_rule}
 use Rattle.combine.specs.declared.chosen.Rule.TheVariants.{Majority}
 use Rattle.label.specs.Labels.{on, others}
 use Rattle.label.specs.Oral.{Messages, om}

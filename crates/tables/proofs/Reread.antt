@@ -5,7 +5,7 @@ use Rattle.std.specs.List.{flat_map, list_all, list_any, AllByRecursion}
 use Rattle.std.proofs.lemmas.Bool.{cases_Bool, cond-true, cond-false, and_parts, and_from, or_from, eqb-true, lt-ltb, ltb-true, le-leb, leb-true, ne_eqb, eq-eqb}
 use Rattle.std.proofs.lemmas.List.Folds.{list_any-append}
 use Rattle.std.proofs.lemmas.Slice.Eq.{bytes_eq-Decides}
-use Rattle.combine.specs.Chosen.{combined_by}
+use Rattle.combine.specs.Rule.{combined_by}
 use Rattle.combine.specs.declared.chosen.Rule.{Rule}
 use Rattle.label.specs.Labels.{on, is_distinct}
 use Rattle.label.specs.Oral.{Messages, IsLabel, AllBelow, BeginsWith, order_of, om}

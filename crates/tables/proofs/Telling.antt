@@ -3,8 +3,9 @@ use Rattle.std.proofs.Common.{ℕ, ◌^◌, ◌<◌, ◌≡◌, Bool, true, fals
 use Rattle.std.specs.Prelude.{codes, if◌then◌else◌}
 use Rattle.std.specs.Fmt.{decimal}
 use Rattle.combine.specs.declared.chosen.Rule.{Rule}
-use Rattle.combine.specs.Names.{is_default, rule_name}
-use Rattle.combine.proofs.NameLaws.{names_law}
+use Rattle.combine.specs.Names.{is_default}
+use Rattle.combine.specs.Rule.{rule_name}
+use Rattle.combine.proofs.RuleLaws.{names_law}
 use Rattle.text.specs.Number.{decimal_of}
 use Rattle.text.specs.Options.{◌>>=◌}
 use Rattle.text.specs.Stop.{space, feed, is_stop}

@@ -2,7 +2,7 @@
 use Rattle.std.specs.Prelude.{ℕ, ◌^◌, ◌<◌, ◌≡◌, ◌≢◌, true, List, [], ◌∷◌, None, Some, Ok}
 use Rattle.combine.specs.declared.chosen.Rule.{Rule}
 use Rattle.combine.specs.declared.chosen.Rule.TheVariants.{Majority}
-use Rattle.combine.specs.Chosen.{combined_by}
+use Rattle.combine.specs.Rule.{combined_by}
 use Rattle.label.specs.Oral.{Messages, om}
 use Rattle.book.specs.Decisions.{decision_of}
 use Rattle.book.specs.Grammar.{is_place, is_within, table_told}

@@ -3,7 +3,8 @@ use Rattle.std.specs.Prelude.{ℕ, zero, suc, ◌+◌, ◌==◌, Bool, false, if
 use Rattle.std.specs.Fmt.{decimal}
 use Rattle.std.specs.List.{flat_map, range_with_len}
 use Rattle.combine.specs.declared.chosen.Rule.{Rule}
-use Rattle.combine.specs.Names.{is_default, rule_name}
+use Rattle.combine.specs.Names.{is_default}
+use Rattle.combine.specs.Rule.{rule_name}
 use Rattle.label.specs.Labels.{others}
 use Rattle.label.specs.Oral.{Messages}
 use Rattle.book.specs.Explained.{dotted}

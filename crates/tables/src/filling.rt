@@ -44,8 +44,8 @@ pub fn filled(
 /// What the first line of a table is refused for that has these numbers.
 pub fn generals_in(generals: &str, bound: &str, commander: &str) -> Result<u8, TableError>
     ensures told { IfOk result (HasGenerals generals.now bound.now commander.now) }
-    ensures refused { IfErr result (λ e. e ≢ Memory →
-        opened (numbers_in generals.now bound.now commander.now) ≡ Err e) }
+    ensures refused { IfErr result (λ e. opened (numbers_in generals.now bound.now commander.now) ≡ Err e) }
+    ensures memory { IfErr result (λ e. e ≢ Memory) }
 {
     let (generals, _, _) = numbers(generals, bound, commander)?;
     Ok(generals)

@@ -9,7 +9,7 @@ ghost use Rattle.book.specs.Trees.{tree_of};
 ghost use Rattle.tables.specs.Hearing.{heard};
 ghost use Rattle.tables.specs.Written.{table_text};
 
-use crate::trees::recall_orders;
+use crate::recalling::recall_orders;
 use book::Heard;
 use combine::Rule;
 use label::Label;

@@ -1,13 +1,13 @@
 //! Message tables of what lieutenants' trees tell.
-ghost use Rattle.std.specs.Prelude.{◌≡◌, ◌<◌, ◌^◌, ℕ, IfOk, Ok, Some, slice_get, string_bytes};
+ghost use Rattle.std.specs.Prelude.{◌≡◌, IfOk, Ok, Some, string_bytes};
 ghost use Rattle.book.specs.Grammar.{table_told};
 ghost use Rattle.book.specs.Table.{AreNumbersWithin, MessageTable};
 ghost use Rattle.tables.specs.Hearing.{heard, value_of};
-ghost use Rattle.tables.specs.Laws.{AreOrders, IsTableOf};
+ghost use Rattle.tables.specs.Laws.{IsTableOf};
 ghost use Rattle.tables.specs.Written.{table_text};
-ghost use Rattle.tree.specs.LieutenantTree.{level_of};
 
 use crate::mark::{Mark, Marks};
+use crate::recalling::recall_orders;
 use crate::writing::write;
 use combine::Rule;
 use label::Label;
@@ -84,48 +84,4 @@ fn value(tree: &Tree, label: &Label) -> Option<u32>
 {
     let _space = tree.space();
     tree.value(label)
-}
-
-/// Does nothing. What trees tell are orders of 32 bits.
-pub(crate) fn recall_orders(trees: &[Tree])
-    ensures { AreOrders (heard trees.now) }
-{
-    for tree in trees {
-        recall_tree(tree);
-    }
-}
-
-/// Does nothing. What a tree tells are orders of 32 bits.
-fn recall_tree(tree: &Tree)
-    ensures { (k i v : ℕ) → slice_get (level_of tree.now k) i ≡ Some (Some v) → v < 2 ^ 32 }
-{
-    let _space = tree.space();
-    for size in 0..tree.bound() + 1 {
-        recall_level(tree.level(size + 1));
-    }
-}
-
-/// Does nothing. What a level tells are orders of 32 bits.
-fn recall_level(level: &[Option<u32>])
-    ensures { (i v : ℕ) → slice_get level.now i ≡ Some (Some v) → v < 2 ^ 32 }
-{
-    for told in level {
-        recall_told(*told);
-    }
-}
-
-/// Does nothing. An order has 32 bits.
-fn recall_told(told: Option<u32>)
-    ensures { (v : ℕ) → told ≡ Some v → v < 2 ^ 32 }
-{
-    if let Some(order) = told {
-        recall_order(order);
-    }
-}
-
-/// Does nothing. An order has 32 bits.
-fn recall_order(order: u32)
-    ensures { order < 2 ^ 32 }
-{
-    let _order = order;
 }

@@ -58,11 +58,13 @@ fn refusals_have_their_code_and_line(rt: HostRuntime) {
 
 /// A program in any form.
 const WRITTEN: &str =
-    "start: lddw r1, -1 ; wide\n\n mov.w r2 ,-1\nback:add r1, r2\nstxd [r10-8], r1\nstd [r10-0x10], 5\nldd r3,[r10]\njsgt.w r1, -3, end\nja back\ncall send\nend:exit\n";
+    "start: lddw r1, -1 ; wide\n\n mov.w r2 ,-1\nback:add r1, r2\nstxd [r10-8], r1\nstd [r10-0x10], 5\nldd r3,[r10]\n\
+     jsgt.w r1, -3, end\nja back\ncall send\nend:exit\n";
 
 /// The same in the form of a disassembly.
 const PRINTED: &str =
-    "lddw r1, 18446744073709551615\nmov.w r2, -1\nadd r1, r2\nstxd [r10-8], r1\nstd [r10-16], 5\nldd r3, [r10+0]\njsgt.w r1, -3, +2\nja -6\ncall 6\nexit\n";
+    "lddw r1, 18446744073709551615\nmov.w r2, -1\nadd r1, r2\nstxd [r10-8], r1\nstd [r10-16], 5\nldd r3, [r10+0]\n\
+     jsgt.w r1, -3, +2\nja -6\ncall 6\nexit\n";
 
 /// Whether the program is disassembled to this text.
 fn is_disassembled(alloc: Global, program: &Program, expected: &str) -> bool {

@@ -23,15 +23,18 @@ fn refuses(alloc: Global, text: &str, fault: Fault, line: u64) -> bool {
 /// tables of four generals, and what is decided.
 const TRAITORS: &[(&str, &[u32])] = &[
     (
-        "generals 4 bound 1 commander 0\ntell 0 1 1\ntell 0 2 0\ntell 0 3 1\ntell 0.1 2 1\ntell 0.1 3 1\ntell 0.2 1 0\ntell 0.2 3 0\ntell 0.3 1 1\ntell 0.3 2 1\n",
+        "generals 4 bound 1 commander 0\ntell 0 1 1\ntell 0 2 0\ntell 0 3 1\ntell 0.1 2 1\ntell 0.1 3 1\n\
+         tell 0.2 1 0\ntell 0.2 3 0\ntell 0.3 1 1\ntell 0.3 2 1\n",
         &[1, 1, 1],
     ),
     (
-        "generals 4 bound 1 commander 0\ntell 0 1 1\ntell 0 2 0\ntell 0.1 2 1\ntell 0.1 3 1\ntell 0.2 1 0\ntell 0.2 3 0\ntell 0.3 1 0\ntell 0.3 2 0",
+        "generals 4 bound 1 commander 0\ntell 0 1 1\ntell 0 2 0\ntell 0.1 2 1\ntell 0.1 3 1\ntell 0.2 1 0\n\
+         tell 0.2 3 0\ntell 0.3 1 0\ntell 0.3 2 0",
         &[0, 0, 0],
     ),
     (
-        "generals 4 bound 1 commander 0\ntell 0 1 1\ntell 0 2 2\ntell 0 3 3\ntell 0.1 2 1\ntell 0.1 3 1\ntell 0.2 1 2\ntell 0.2 3 2\ntell 0.3 1 3\ntell 0.3 2 3\n",
+        "generals 4 bound 1 commander 0\ntell 0 1 1\ntell 0 2 2\ntell 0 3 3\ntell 0.1 2 1\ntell 0.1 3 1\n\
+         tell 0.2 1 2\ntell 0.2 3 2\ntell 0.3 1 3\ntell 0.3 2 3\n",
         &[0, 0, 0],
     ),
 ];

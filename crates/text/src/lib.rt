@@ -11,4 +11,4 @@ pub use base::Base;
 pub use laws::digits_are_worth;
 pub use number::{decimal, digit, digits, magnitude};
 pub use parts::{cut, find, line, piece};
-pub use stop::Stop;
+pub use stop::{DOT, FEED, SPACE, Stop};

@@ -14,6 +14,15 @@ pub enum Stop {
     Sign,
 }
 
+/// What ends a word.
+pub const SPACE: Stop = Stop::Byte(b' ');
+
+/// What ends a line.
+pub const FEED: Stop = Stop::Byte(b'\n');
+
+/// What joins numbers.
+pub const DOT: Stop = Stop::Byte(b'.');
+
 /// Whether the byte is such a stop.
 pub fn stops(stop: Stop, byte: u8) -> bool
     ensures { result ≡ is_stop stop byte }

@@ -1,7 +1,7 @@
 pub mod Taking
 pub mod Holding
 pub mod Duties
-pub mod Telling
+pub mod ErrorText
 pub mod Answers
 pub mod Inboxes
 pub mod Served

@@ -21,7 +21,7 @@ pub enum MusterError {
 
 impl fmt::Display for MusterError {
     ghost use Rattle.std.specs.Prelude.{Some};
-    ghost use Rattle.threads.specs.Telling.{told};
+    ghost use Rattle.threads.specs.ErrorText.{told};
 
     ghost output = { λ error. Some (told error) };
 

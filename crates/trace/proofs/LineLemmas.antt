@@ -1,12 +1,12 @@
 -- Lines in other words.
 use Rattle.std.proofs.Common.{◌≡◌, ℕ, Bool, true, false, List, [], ◌∷◌, ◌++◌, refl, sym, ap, ◌∙◌, append_assoc, append-nil, map, take, length, get_or, ◌+◌, ◌<◌}
-use Rattle.std.specs.Prelude.{decimal, codes, filter}
+use Rattle.std.specs.Prelude.{decimal, codes, filter, Option, None, Some}
 use Rattle.std.proofs.lemmas.List.{take_more, map-append}
 use Rattle.std.proofs.lemmas.List.Elements.{filter-append}
 use Rattle.semantics.specs.declared.request.Request.{Request}
 use Rattle.semantics.specs.declared.request.Request.TheVariants.{Get, Swap, Add, Cas, Copy}
 use Rattle.board.specs.Board.{Access}
-use Rattle.trace.specs.Text.{Word, Line, spaced, further, asked, access_line, text, decision_line}
+use Rattle.trace.specs.Text.{Word, Line, author_line, spaced, further, asked, access_line, text, decision_line}
 use Rattle.trace.specs.Lines.{question, mark}
 use Rattle.trace.proofs.WrittenLemmas.{further-append, further-one}
 
@@ -22,6 +22,14 @@ pub access_parts : (head number : List ℕ) (q : Request) (reply : List Word)
     → (((head ++ 32 ∷ number) ++ further (question q)) ++ codes " =") ++ further reply ++ 10 ∷ [] ≡ (head ++ further (number ∷ (asked q ++ reply))) ++ 10 ∷ []
 access_parts head number q reply =
     rw (asked_is q reply, further-append (question q) (codes "=" ∷ reply)) (simp append_assoc)
+
+-- the line of a letter, word by word
+pub loyal_line : (g : ℕ) (steps : Option ℕ) → steps ≡ None → codes "letter" ∷ decimal g ∷ codes "loyal" ∷ [] ≡ author_line g steps
+loyal_line g steps e = ap (author_line g) (sym e)
+
+pub acting_line : (g taken : ℕ) (steps : Option ℕ) → steps ≡ Some taken
+    → codes "letter" ∷ decimal g ∷ codes "steps" ∷ decimal taken ∷ [] ≡ author_line g steps
+acting_line g taken steps e = ap (author_line g) (sym e)
 
 -- the line of a decision, part by part
 decision_is : (g : ℕ) (b : Bool) (d : ℕ) → decision_line g b d ≡ codes "decision" ∷ decimal g ∷ (mark b ++ decimal d ∷ [])

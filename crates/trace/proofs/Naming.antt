@@ -8,7 +8,6 @@ use Rattle.std.specs.List.{range_with_len}
 use Rattle.std.proofs.lemmas.Bool.{and_parts}
 use Rattle.std.proofs.lemmas.Bool.Decides.{eqb_tells}
 use Rattle.std.proofs.Common.{⊎_elim}
-use Rattle.insn.specs.declared.insn.Insn.{Insn}
 use Rattle.label.specs.Labels.{generals}
 use Rattle.board.specs.Board.{Access}
 use Rattle.roster.specs.Scenario.{Scenario, is_traitor}
@@ -16,7 +15,7 @@ use Rattle.letter.specs.Letters.{Letter}
 use Rattle.world.specs.Lists.{names_in}
 use Rattle.world.specs.Chronicle.{Chronicle}
 use Rattle.label.specs.Lieutenants.{lieutenants}
-use Rattle.trace.specs.Text.{Line, access_line, row_lines, letter_line, letter_lines, rounds_told, decision_line, decision_lines, verdict_line, head_lines, lines_behind, lines_in, text, text_in}
+use Rattle.trace.specs.Text.{Line, access_line, row_lines, author_line, letter_lines, rounds_told, steps_of, decision_line, decision_lines, verdict_line, head_lines, lines_behind, lines_in, text, text_in}
 use Rattle.trace.specs.declared.version.Version.{Version}
 use Rattle.trace.specs.Names.{general_of, Named, with_line, named, names_of}
 use Rattle.trace.proofs.Splitting.{AreLines, text-split}
@@ -79,16 +78,16 @@ rows_silent : (rank : ℕ) (rows : List (List (Option ℕ))) → AreSilent (row_
 rows_silent rank [] = tt
 rows_silent rank (row ∷ rows) = ((λ rest. refl), rows_silent (suc rank) rows)
 
-pub letter_line_silent : (g : ℕ) (o : Option (List Insn)) (steps : ℕ) → IsSilent (letter_line g o steps)
-letter_line_silent g None steps = λ rest. refl
-letter_line_silent g (Some p) steps = λ rest. refl
+pub author_silent : (g : ℕ) (steps : Option ℕ) → IsSilent (author_line g steps)
+author_silent g None = λ rest. refl
+author_silent g (Some steps) = λ rest. refl
 
 decision_silent : (g : ℕ) (b : Bool) (d : ℕ) → IsSilent (decision_line g b d)
 decision_silent g true d = λ rest. refl
 decision_silent g false d = λ rest. refl
 
 letter_silent : (l : Letter) → AreSilent (letter_lines l)
-letter_silent l = (letter_line_silent l.general l.program l.steps, rows_silent 0 l.outbox.rows)
+letter_silent l = (author_silent l.general (steps_of l), rows_silent 0 l.outbox.rows)
 
 letters_silent : (told : Letter → List Line) → ((l : Letter) → AreSilent (told l)) → (ls : List Letter) → AreSilent (flat_map told ls)
 letters_silent told silent [] = tt

@@ -4,10 +4,10 @@ use Rattle.std.specs.Prelude.{decimal, codes, nat_lt, filter, ◌==◌}
 use Rattle.std.specs.List.{list_all}
 use Rattle.std.proofs.lemmas.Bool.Decides.{nat_tests}
 use Rattle.std.proofs.lemmas.Bool.{and_parts, ltb-true}
-use Rattle.insn.specs.declared.insn.Insn.{Insn}
 use Rattle.combine.specs.declared.chosen.Rule.{Rule}
-use Rattle.combine.specs.Names.{is_small, rule_name}
-use Rattle.combine.proofs.NameLaws.{names_law}
+use Rattle.combine.specs.Names.{is_small}
+use Rattle.combine.specs.Rule.{rule_name}
+use Rattle.combine.proofs.RuleLaws.{names_law}
 use Rattle.text.proofs.BytesLemmas.{all-weaker}
 use Rattle.semantics.specs.declared.request.Request.{Request}
 use Rattle.semantics.specs.declared.request.Request.TheVariants.{Get, Swap, Add, Cas, Copy}
@@ -17,7 +17,7 @@ use Rattle.letter.specs.Letters.{Letter}
 use Rattle.world.specs.declared.verdict.Verdict.{Verdict}
 use Rattle.world.specs.Chronicle.{Chronicle}
 use Rattle.label.specs.Lieutenants.{lieutenants}
-use Rattle.trace.specs.Text.{Word, Line, asked, access_line, place, row_lines, yes_no, yes_no_none, letter_line, letter_lines, rounds_told, decision_line, decision_lines, verdict_line, version_word, version_line, campaign_words, further_words, head_lines, lines_behind, lines_in}
+use Rattle.trace.specs.Text.{Word, Line, asked, access_line, place, row_lines, yes_no, yes_no_none, author_line, letter_lines, rounds_told, steps_of, decision_line, decision_lines, verdict_line, version_word, version_line, campaign_words, further_words, head_lines, lines_behind, lines_in}
 use Rattle.trace.specs.declared.version.Version.{Version}
 use Rattle.trace.specs.declared.version.Version.TheVariants.{First, Second}
 use Rattle.trace.proofs.Splitting.{IsPlain, ArePlain, IsLine, AreLines, decimal_plain}
@@ -80,12 +80,12 @@ decision_plain : (g : ℕ) (b : Bool) (d : ℕ) → IsLine (decision_line g b d)
 decision_plain g true d = (by_test (codes "decision") refl, (decimal_plain g, (by_test (codes "traitor") refl, (decimal_plain d, tt))))
 decision_plain g false d = (by_test (codes "decision") refl, (decimal_plain g, (decimal_plain d, tt)))
 
-pub letter_plain : (g : ℕ) (o : Option (List Insn)) (steps : ℕ) → IsLine (letter_line g o steps)
-letter_plain g None steps = (by_test (codes "letter") refl, (decimal_plain g, (by_test (codes "loyal") refl, tt)))
-letter_plain g (Some p) steps = (by_test (codes "letter") refl, (decimal_plain g, (by_test (codes "steps") refl, (decimal_plain steps, tt))))
+pub author_plain : (g : ℕ) (steps : Option ℕ) → IsLine (author_line g steps)
+author_plain g None = (by_test (codes "letter") refl, (decimal_plain g, (by_test (codes "loyal") refl, tt)))
+author_plain g (Some steps) = (by_test (codes "letter") refl, (decimal_plain g, (by_test (codes "steps") refl, (decimal_plain steps, tt))))
 
 letter_lines_plain : (l : Letter) → AreLines (letter_lines l)
-letter_lines_plain l = (letter_plain l.general l.program l.steps, rows_plain 0 l.outbox.rows)
+letter_lines_plain l = (author_plain l.general (steps_of l), rows_plain 0 l.outbox.rows)
 
 letters_plain : (told : Letter → List Line) → ((l : Letter) → AreLines (told l)) → (ls : List Letter) → AreLines (flat_map told ls)
 letters_plain told plain [] = tt

@@ -3,13 +3,11 @@ use Rattle.std.proofs.Common.{◌≡◌, ℕ, suc, ◌+◌, ◌<◌, Bool, List,
 use Rattle.std.specs.Prelude.{filter, ◌==◌}
 use Rattle.std.proofs.lemmas.List.{take_more, length-take-le}
 use Rattle.std.proofs.lemmas.Grind.{flat_map-append}
-use Rattle.std.specs.Option.{option_map}
-use Rattle.insn.specs.declared.insn.Insn.{Insn}
 use Rattle.board.specs.Board.{Access}
 use Rattle.letter.specs.Letters.{Letter}
 use Rattle.trace.specs.Sinks.{Wrote}
-use Rattle.trace.specs.Text.{Word, Line, further, text, access_line, row_lines, letter_line, letter_lines, rounds_told}
-use Rattle.trace.specs.Lines.{author_line, round_line, round_told, row_line}
+use Rattle.trace.specs.Text.{Word, Line, further, text, access_line, row_lines, author_line, letter_lines, steps_of, rounds_told}
+use Rattle.trace.specs.Lines.{round_line, round_told, row_line}
 use Rattle.trace.proofs.WrittenLemmas.{further-append, then_wrote, wrote-same}
 use Rattle.trace.proofs.LineLemmas.{text-append}
 
@@ -73,13 +71,9 @@ round_parts told r xs letters =
     ap (λ t. t ++ text (flat_map told letters)) (sym (text-append (round_line r ∷ []) (map access_line (filter (λ a. a.round == r) xs))))
     ∙ sym (text-append (round_line r ∷ map access_line (filter (λ a. a.round == r) xs)) (flat_map told letters))
 
-pub author_is : (g : ℕ) (program : Option (List Insn)) (steps : ℕ) → author_line g (option_map (λ _. steps) program) ≡ letter_line g program steps
-author_is g None steps = refl
-author_is g (Some program) steps = refl
-
 -- a letter's lines
-pub letter_parts : (l : Letter) (g : ℕ) (o : Option ℕ) (rows : List (List (Option ℕ))) → g ≡ l.general → o ≡ option_map (λ _. l.steps) l.program → rows ≡ l.outbox.rows
+pub letter_parts : (l : Letter) (g : ℕ) (o : Option ℕ) (rows : List (List (Option ℕ))) → g ≡ l.general → o ≡ steps_of l → rows ≡ l.outbox.rows
     → text (author_line g o ∷ []) ++ text (row_lines 0 rows) ≡ text (letter_lines l)
 letter_parts l g o rows eg eo er =
     (λ i. text (author_line (eg i) (eo i) ∷ []) ++ text (row_lines 0 (er i)))
-    ∙ (ap (λ line. text (line ∷ []) ++ text (row_lines 0 l.outbox.rows)) (author_is l.general l.program l.steps) ∙ sym (text-append (letter_line l.general l.program l.steps ∷ []) (row_lines 0 l.outbox.rows)))
+    ∙ sym (text-append (author_line l.general (steps_of l) ∷ []) (row_lines 0 l.outbox.rows))

@@ -1,26 +1,22 @@
 -- The lines of signed letters and of the first lines, part by part.
 use Rattle.std.proofs.Common.{◌≡◌, ℕ, List, [], ◌∷◌, ◌++◌, map, refl, sym, ap, ◌∙◌, append_assoc, Option}
-use Rattle.std.specs.Option.{option_map}
 use Rattle.std.specs.Prelude.{codes, decimal}
 use Rattle.letter.specs.Letters.{Letter}
 use Rattle.roster.specs.Scenario.{Scenario}
 use Rattle.signed.specs.Chains.{Chain}
 use Rattle.signed.specs.Sending.{dispatch_of}
 use Rattle.signed.specs.Sent.{Sent, sent_by}
-use Rattle.trace.specs.Lines.{author_line}
 use Rattle.trace.specs.SignedText.{chain_line, head_lines, letter_lines}
-use Rattle.trace.specs.Text.{Word, campaign_words, further, letter_line, place, spaced, text}
+use Rattle.trace.specs.Text.{Word, author_line, campaign_words, further, place, spaced, steps_of, text}
 use Rattle.trace.proofs.LineLemmas.{said, text-append}
-use Rattle.trace.proofs.RoundLemmas.{author_is}
 use Rattle.trace.proofs.WrittenLemmas.{further-append, further-one}
 
 -- a letter's lines
-pub letter_parts : (sent : Sent) (round : ℕ) (l : Letter) (g : ℕ) (o : Option ℕ) (xs : List (Chain × ℕ)) → g ≡ l.general → o ≡ option_map (λ _. l.steps) l.program → map dispatch_of xs ≡ sent_by sent round l.general
+pub letter_parts : (sent : Sent) (round : ℕ) (l : Letter) (g : ℕ) (o : Option ℕ) (xs : List (Chain × ℕ)) → g ≡ l.general → o ≡ steps_of l → map dispatch_of xs ≡ sent_by sent round l.general
     → text (author_line g o ∷ []) ++ text (map chain_line (map dispatch_of xs)) ≡ text (letter_lines sent round l)
 letter_parts sent round l g o xs eg eo ex =
     (λ i. text (author_line (eg i) (eo i) ∷ []) ++ text (map chain_line (ex i)))
-    ∙ (ap (λ line. text (line ∷ []) ++ text (map chain_line (sent_by sent round l.general))) (author_is l.general l.program l.steps)
-    ∙ sym (text-append (letter_line l.general l.program l.steps ∷ []) (map chain_line (sent_by sent round l.general))))
+    ∙ sym (text-append (author_line l.general (steps_of l) ∷ []) (map chain_line (sent_by sent round l.general)))
 
 -- words behind those of the campaign
 behind_campaign : (n m c order : ℕ) (ws : List Word) → spaced (campaign_words n m c order) ++ further ws ≡ spaced (campaign_words n m c order ++ ws)

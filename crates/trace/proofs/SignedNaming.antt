@@ -9,9 +9,9 @@ use Rattle.world.specs.Chronicle.{Chronicle}
 use Rattle.world.specs.KindLists.{names_in}
 use Rattle.trace.specs.Names.{names_of}
 use Rattle.trace.specs.SignedText.{chain_line, dotted, head_lines, letter_lines, signed_lines, signed_text}
-use Rattle.trace.specs.Text.{Line, Word, place}
-use Rattle.trace.proofs.Naming.{AreKnown, AreSilent, IsSilent, known_all, letter_line_silent, lines_named}
-use Rattle.trace.proofs.Plain.{by_test, campaign_plain, letter_plain, lines_plain, place_plain}
+use Rattle.trace.specs.Text.{Line, Word, place, steps_of}
+use Rattle.trace.proofs.Naming.{AreKnown, AreSilent, IsSilent, author_silent, known_all, lines_named}
+use Rattle.trace.proofs.Plain.{author_plain, by_test, campaign_plain, lines_plain, place_plain}
 use Rattle.trace.proofs.Splitting.{AreLines, IsLine, IsPlain, decimal_plain}
 
 word-append : (v w : Word) → IsPlain v → IsPlain w → IsPlain (v ++ w)
@@ -34,7 +34,7 @@ chains_plain [] = tt
 chains_plain (x ∷ xs) = (chain_plain x, chains_plain xs)
 
 letter_lines_plain : (sent : Sent) (round : ℕ) (l : Letter) → AreLines (letter_lines sent round l)
-letter_lines_plain sent round l = (letter_plain l.general l.program l.steps, chains_plain (sent_by sent round l.general))
+letter_lines_plain sent round l = (author_plain l.general (steps_of l), chains_plain (sent_by sent round l.general))
 
 head_lines_plain : (s : Scenario) → AreLines (head_lines s)
 head_lines_plain s = (
@@ -54,7 +54,7 @@ chains_silent [] = tt
 chains_silent (x ∷ xs) = ((λ rest. refl), chains_silent xs)
 
 letter_silent : (sent : Sent) (round : ℕ) (l : Letter) → AreSilent (letter_lines sent round l)
-letter_silent sent round l = (letter_line_silent l.general l.program l.steps, chains_silent (sent_by sent round l.general))
+letter_silent sent round l = (author_silent l.general (steps_of l), chains_silent (sent_by sent round l.general))
 
 head_silent : (s : Scenario) → AreSilent (head_lines s)
 head_silent s = ((λ rest. refl), ((λ rest. refl), tt))

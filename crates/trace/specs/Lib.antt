@@ -8,7 +8,7 @@ pub mod Compared
 pub mod Schedules
 pub mod Sinks
 pub mod Lines
-pub mod Telling
+pub mod ErrorText
 pub mod SignedText
 pub mod SignedAudit
 pub mod SignedLaws

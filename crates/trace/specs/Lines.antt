@@ -21,14 +21,6 @@ round_line round = codes "round" ∷ decimal round ∷ []
 abbrev pub row_line : ℕ → List (Option ℕ) → Line
 row_line rank row = codes "row" ∷ decimal rank ∷ map place row
 
--- whose a letter is: a loyal general's, or a traitor's with his steps
-abbrev pub kind : Option ℕ → List Word
-kind None = codes "loyal" ∷ []
-kind (Some steps) = codes "steps" ∷ decimal steps ∷ []
-
-abbrev pub author_line : ℕ → Option ℕ → Line
-author_line g steps = codes "letter" ∷ decimal g ∷ kind steps
-
 -- what marks a traitor's decision
 abbrev pub mark : Bool → List Word
 mark true = codes "traitor" ∷ []

@@ -5,7 +5,7 @@ use Rattle.combine.specs.Names.{rule_named}
 use Rattle.text.specs.Stop.{dot, space}
 use Rattle.text.specs.Parts.{pieces}
 use Rattle.text.specs.Number.{decimal_of}
-use Rattle.trace.specs.Text.{Word}
+use Rattle.trace.specs.Text.{Word, acting_shape, loyal_shape}
 
 -- a decimal number without leading zeros, of any size
 abbrev pub is_number : Word → Bool
@@ -81,8 +81,8 @@ are_places (Some (word ∷ words)) = list_all is_place (word ∷ words)
 unfoldable pub is_told : List Word → Bool
 is_told words =
     fits (codes "round N") words
-    || fits (codes "letter N loyal") words
-    || fits (codes "letter N steps N") words
+    || fits loyal_shape words
+    || fits acting_shape words
     || fits (codes "chain N S to R") words
     || are_places (behind_shape (codes "row N") words)
 

@@ -6,7 +6,7 @@ use Rattle.letter.specs.Letters.{Letter}
 use Rattle.world.specs.Chronicle.{Chronicle}
 use Rattle.signed.specs.Entries.{Dispatch}
 use Rattle.signed.specs.Sent.{Sent, sent_by, sent_in}
-use Rattle.trace.specs.Text.{Word, Line, text, place, letter_line, campaign_words, lines_behind}
+use Rattle.trace.specs.Text.{Word, Line, author_line, steps_of, text, place, campaign_words, lines_behind}
 
 -- generals joined by dots, or - for none
 abbrev pub dotted : List ℕ → Word
@@ -19,7 +19,7 @@ chain_line x = codes "chain" ∷ decimal x.chain.order ∷ dotted x.chain.signer
 
 -- a letter of a round, with the chains that were sent in it
 abbrev pub letter_lines : Sent → ℕ → Letter → List Line
-letter_lines sent round l = letter_line l.general l.program l.steps ∷ map chain_line (sent_by sent round l.general)
+letter_lines sent round l = author_line l.general (steps_of l) ∷ map chain_line (sent_by sent round l.general)
 
 abbrev pub head_lines : Scenario → List Line
 head_lines s =

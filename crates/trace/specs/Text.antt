@@ -1,8 +1,10 @@
 -- The text of a chronicle, line by line (own).
-use Rattle.std.specs.Prelude.{ℕ, suc, ◌==◌, Bool, true, false, List, [], ◌∷◌, ◌++◌, map, flat_map, filter, decimal, codes, Option, None, Some, if◌then◌else◌}
-use Rattle.insn.specs.declared.insn.Insn.{Insn}
+use Rattle.std.specs.Prelude.{ℕ, suc, ◌==◌, Bool, true, false, List, [], ◌∷◌, ◌++◌, bytes_eq, map, flat_map, filter, decimal, codes, Option, None, Some, option_map, if◌then◌else◌}
 use Rattle.combine.specs.declared.chosen.Rule.{Rule}
-use Rattle.combine.specs.Names.{is_default, rule_name}
+use Rattle.combine.specs.Names.{is_default}
+use Rattle.combine.specs.Rule.{rule_name}
+use Rattle.text.specs.Parts.{pieces}
+use Rattle.text.specs.Stop.{space}
 use Rattle.semantics.specs.declared.request.Request.{Request}
 use Rattle.semantics.specs.declared.request.Request.TheVariants.{Get, Swap, Add, Cas, Copy}
 use Rattle.board.specs.Board.{Access}
@@ -56,19 +58,39 @@ abbrev pub row_lines : ℕ → List (List (Option ℕ)) → List Line
 row_lines rank [] = []
 row_lines rank (row ∷ rows) = (codes "row" ∷ decimal rank ∷ map place row) ∷ row_lines (suc rank) rows
 
-abbrev pub letter_line : ℕ → Option (List Insn) → ℕ → Line
-letter_line g None steps = codes "letter" ∷ decimal g ∷ codes "loyal" ∷ []
-letter_line g (Some program) steps = codes "letter" ∷ decimal g ∷ codes "steps" ∷ decimal steps ∷ []
+-- the line of a letter, in which N stands for a number: a loyal general's, or a traitor's with his steps
+abbrev pub loyal_shape : List ℕ
+loyal_shape = codes "letter N loyal"
+
+abbrev pub acting_shape : List ℕ
+acting_shape = codes "letter N steps N"
+
+-- the words of a shape with these numbers, each for an N in turn
+abbrev pub filled : List Word → List ℕ → Line
+filled (word ∷ words) (number ∷ numbers) =
+    if bytes_eq word (codes "N") then decimal number ∷ filled words numbers
+    else word ∷ filled words (number ∷ numbers)
+filled words [] = words
+filled [] numbers = []
+
+abbrev pub author_line : ℕ → Option ℕ → Line
+author_line g None = filled (pieces space loyal_shape) (g ∷ [])
+author_line g (Some steps) = filled (pieces space acting_shape) (g ∷ steps ∷ [])
+
+-- the steps of a general who acts by a program
+abbrev pub steps_of : Letter → Option ℕ
+steps_of l = option_map (λ _. l.steps) l.program
 
 abbrev pub letter_lines : Letter → List Line
-letter_lines l = letter_line l.general l.program l.steps ∷ row_lines 0 l.outbox.rows
+letter_lines l = author_line l.general (steps_of l) ∷ row_lines 0 l.outbox.rows
 
 -- round by round its line, its accesses, and its letters, which are told by these lines
 abbrev pub rounds_told : (ℕ → Letter → List Line) → List Access → ℕ → List (List Letter) → List Line
 rounds_told told accesses round [] = []
 rounds_told told accesses round (letters ∷ rounds) =
     (codes "round" ∷ decimal round ∷ [])
-    ∷ (map access_line (filter (λ a. a.round == round) accesses) ++ (flat_map (told round) letters ++ rounds_told told accesses (suc round) rounds))
+    ∷ (map access_line (filter (λ a. a.round == round) accesses)
+    ++ (flat_map (told round) letters ++ rounds_told told accesses (suc round) rounds))
 
 abbrev pub round_lines : ℕ → List Access → List (List Letter) → List Line
 round_lines round accesses rounds = rounds_told (λ _. letter_lines) accesses round rounds

@@ -11,12 +11,11 @@ use crate::comparing::Comparison;
 use crate::fault::TraceError;
 use crate::named::names;
 use crate::refusing::refusal;
-use crate::stops::FEED;
 use crate::version::Version;
 use combine::Rule;
 use roster::Scenario;
 use std::alloc::{AllocError, Global};
-use text::piece;
+use text::{FEED, piece};
 use world::{Chronicle, Verdict, replay};
 
 /// The first version, where a campaign by this rule may be told in it.

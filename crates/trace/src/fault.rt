@@ -18,7 +18,7 @@ pub enum Fault {
 
 impl fmt::Display for Fault {
     ghost use Rattle.std.specs.Prelude.{Some};
-    ghost use Rattle.trace.specs.Telling.{code_of};
+    ghost use Rattle.trace.specs.ErrorText.{code_of};
 
     ghost output = { λ fault. Some (code_of fault) };
 
@@ -45,7 +45,7 @@ pub enum TraceError {
 
 impl fmt::Display for TraceError {
     ghost use Rattle.std.specs.Prelude.{Some};
-    ghost use Rattle.trace.specs.Telling.{told};
+    ghost use Rattle.trace.specs.ErrorText.{told};
 
     ghost output = { λ error. Some (told error) };
 

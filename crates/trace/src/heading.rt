@@ -1,6 +1,6 @@
 //! The first two lines of a chronicle, written to a sink.
 ghost use Rattle.std.specs.Prelude.{◌≡◌, ◌∷◌, [], Option};
-ghost use Rattle.combine.specs.Names.{rule_name};
+ghost use Rattle.combine.specs.Rule.{rule_name};
 ghost use Rattle.trace.specs.Sinks.{Wrote};
 ghost use Rattle.trace.specs.Text.{spaced, further, text, version_line, campaign_words, further_words};
 

@@ -1,10 +1,9 @@
 //! The letters of a campaign and what the lieutenants decided, written to a sink.
 ghost use Rattle.std.specs.Prelude.{◌≡◌, ◌<◌, [], flat_map, length, slice_get, slice_index_or};
-ghost use Rattle.std.specs.Option.{option_map};
 ghost use Rattle.roster.specs.Scenario.{is_traitor};
 ghost use Rattle.label.specs.Lieutenants.{lieutenants};
 ghost use Rattle.trace.specs.Sinks.{Wrote};
-ghost use Rattle.trace.specs.Text.{text, row_lines, letter_lines, round_lines, decision_lines};
+ghost use Rattle.trace.specs.Text.{text, row_lines, letter_lines, round_lines, decision_lines, steps_of};
 ghost use Rattle.trace.specs.Lines.{decided_lines, one_round};
 
 use crate::composing::LineBuffer;
@@ -42,7 +41,7 @@ fn outbox_of(letter: &Letter) -> &Outbox
 
 /// The steps of a traitor's letter; none where its general is loyal.
 pub(crate) fn steps_of(letter: &Letter) -> Option<u32>
-    ensures { result ≡ option_map (λ _. letter.now.steps) letter.now.program }
+    ensures { result ≡ steps_of letter.now }
 {
     match letter.program.program() {
         Some(_) => Some(letter.steps),

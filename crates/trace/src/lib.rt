@@ -22,7 +22,6 @@ mod signed_auditing;
 mod signed_chronicling;
 mod signed_letters;
 mod sink;
-mod stops;
 mod version;
 mod writing;
 

@@ -2,8 +2,8 @@
 ghost use Rattle.std.specs.Prelude.{◌≡◌, ◌==◌, ◌<◌, ◌≤◌, ◌+◌, ◌++◌, ◌∷◌, [], ℕ, decimal, codes, length, map, filter, Option, slice_index_or};
 ghost use Rattle.semantics.specs.Replies.{words_in};
 ghost use Rattle.trace.specs.Sinks.{Wrote};
-ghost use Rattle.trace.specs.Text.{further, text, access_line, place, yes_no, yes_no_none, verdict_line, decision_line};
-ghost use Rattle.trace.specs.Lines.{question, kind, mark, round_line, row_line, author_line};
+ghost use Rattle.trace.specs.Text.{author_line, further, text, access_line, place, yes_no, yes_no_none, verdict_line, decision_line};
+ghost use Rattle.trace.specs.Lines.{question, mark, round_line, row_line};
 
 use crate::composing::LineBuffer;
 use crate::sink::Sink;
@@ -158,25 +158,19 @@ pub fn put_row<S: Sink>(sink: &mut S, line: &mut LineBuffer, outbox: &Outbox, ra
     put_all(sink, line.as_slice());
 }
 
-/// That a letter is a loyal general's, or the steps that its traitor took.
-fn put_kind<S: Sink>(sink: &mut S, steps: Option<u32>)
-    ensures { Wrote (S.contents sink.old) (S.has_failed sink.old) (further (kind steps)) (S.contents sink.new)
-        (S.has_failed sink.new) }
-{
-    match steps {
-        None => put_all(sink, b" loyal"),
-        Some(steps) => put_headed(sink, b" steps", steps as u64),
-    }
-}
-
 /// The first line of a letter: a loyal general's, or a traitor's with the steps that he took.
 pub fn put_author<S: Sink>(sink: &mut S, general: u32, steps: Option<u32>)
     ensures { Wrote (S.contents sink.old) (S.has_failed sink.old) (text (author_line general steps ∷ []))
         (S.contents sink.new) (S.has_failed sink.new) }
 {
     put_headed(sink, b"letter", general as u64);
-    put_kind(sink, steps);
-    put_all(sink, b"\n");
+    match steps {
+        None => put_all(sink, b" loyal\n"),
+        Some(steps) => {
+            put_headed(sink, b" steps", steps as u64);
+            put_all(sink, b"\n");
+        }
+    }
 }
 
 /// What marks a traitor's decision.

@@ -8,9 +8,8 @@ ghost use Rattle.trace.specs.Marks.{all_names, marked};
 
 use crate::parting::parted;
 use crate::scheduling::number_within;
-use crate::stops::SPACE;
 use std::alloc::{AllocError, Global};
-use text::piece;
+use text::{SPACE, piece};
 
 /// What a line says of rounds and accesses.
 #[derive(Clone, Copy, Debug, PartialEq, Eq)]

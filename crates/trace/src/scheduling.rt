@@ -5,9 +5,8 @@ ghost use Rattle.trace.specs.declared.fault.TraceError.TheVariants.{Memory};
 ghost use Rattle.trace.specs.Schedules.{star, number_within, entry_of, entries_told, line_told, schedule_lines_told, schedule_told};
 
 use crate::fault::{Fault, TraceError};
-use crate::stops::SPACE;
 use std::alloc::{AllocError, Global};
-use text::{Stop, decimal, line, piece};
+use text::{SPACE, Stop, decimal, line, piece};
 use world::{Entries, Repeat, Schedule};
 
 const STAR: Stop = Stop::Byte(b'*');

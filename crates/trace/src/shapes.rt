@@ -6,9 +6,8 @@ ghost use Rattle.text.specs.Parts.{left, pieces};
 ghost use Rattle.trace.specs.Shapes.{are_joined, are_places, are_receivers, behind, behind_shape, fits, is_access, is_copied, is_count, is_end};
 ghost use Rattle.trace.specs.Shapes.{is_campaign, is_number, is_place, is_shaped, is_told, is_version, is_yes_no, stands_for, unshaped_from};
 
-use crate::stops::{DOT, FEED, SPACE};
 use combine::Rule;
-use text::{decimal, piece};
+use text::{DOT, FEED, SPACE, decimal, piece};
 
 /// Whether a word is a number, or a dash for nothing.
 fn is_place(word: &[u8]) -> bool

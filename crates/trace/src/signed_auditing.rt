@@ -10,11 +10,10 @@ use crate::fault::TraceError;
 use crate::named::names;
 use crate::refusing::refusal;
 use crate::signed_chronicling::put_signed;
-use crate::stops::FEED;
 use roster::Scenario;
 use signed::{SignedChronicle, replay_signed};
 use std::alloc::{AllocError, Global};
-use text::piece;
+use text::{FEED, piece};
 use world::Verdict;
 
 /// Whether a text names the version of signed campaigns.

@@ -1,5 +1,4 @@
 pub mod Values
-pub mod Reads
 pub mod Lines
 pub mod Trace
 pub mod Slips

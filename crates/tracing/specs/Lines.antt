@@ -7,7 +7,7 @@ use Rattle.semantics.specs.declared.request.Request.{Request}
 use Rattle.semantics.specs.declared.request.Request.TheVariants as request
 use Rattle.semantics.specs.State.{value_at}
 use Rattle.asm.specs.Printing.{insn_text}
-use Rattle.tracing.specs.Reads.{read_by}
+use Rattle.helper.specs.Reads.{read_by}
 use Rattle.tracing.specs.Values.{register_told, place_told}
 
 -- ---- before the step

@@ -2,7 +2,6 @@
 #![tactic(auto)]
 
 mod laws;
-mod reads;
 mod reasons;
 mod running;
 mod slipping;

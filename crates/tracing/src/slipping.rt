@@ -9,9 +9,9 @@ ghost use Rattle.machine.specs.Advance.{IsAskOfRun, IsOfRun};
 ghost use Rattle.tracing.specs.Trace.{Rest};
 ghost use Rattle.tracing.specs.Slips.{call_at, call_by, number_at, number_in, says_none, slips_at, slips_on, where_said};
 
-use crate::reads::numbered;
 use crate::reasons::{Call, put_note};
 use board::Board;
+use helper::reads::numbered;
 use helper::{Helper, helper_of};
 use insn::Insn;
 use label::Shape;

@@ -3,9 +3,9 @@ ghost use Rattle.std.specs.Prelude.{◌≡◌, ◌++◌, ◌+◌, ◌<◌, ◌�
 ghost use Rattle.tracing.specs.Lines.{read_told, reads_told, stored_told, before_told, wrote, went, after_told, word_told, words_told, request_told};
 ghost use Rattle.tracing.specs.Values.{register_told, place_told};
 
-use crate::reads::{Registers, numbered, read_by};
 use crate::values::{Held, Place};
 use asm::put_instruction;
+use helper::reads::{Registers, numbered, read_by};
 use insn::{Insn, Reg};
 use machine::Activation;
 use semantics::{Request, Value};

@@ -8,7 +8,7 @@ use Rattle.semantics.specs.State.{State}
 use Rattle.trial.specs.Setting.{Setting, context_in}
 use Rattle.trial.specs.Trial.{Ending, trial_in, trial_on}
 use Rattle.trial.specs.Lines.{first_lines, put_lines, word_lines}
-use Rattle.trial.specs.Told.{IsTried}
+use Rattle.trial.specs.Answers.{IsTried}
 
 -- the trial in the context and the relay of a setting is the trial in the setting
 pub ends_in : (program : List Insn) (s : Setting) (context words : List ℕ) (own : Shape) (ended : Option Ending) → context ≡ context_in s → own ≡ s.shape → words ≡ s.board

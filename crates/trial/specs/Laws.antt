@@ -48,6 +48,8 @@ setting_of s before g words =
 -- what a general is told in a campaign he is told in a setting
 pub record ContextsAreSettings : Type 0 where
   pub possible : (s : Scenario) (before : List (List Letter)) (g : ℕ) (words : List ℕ)
-      → IsScenario s → g < s.generals → length before ≤ s.bound → IsTold (setting_of s before g words)
+      → IsScenario s → g < s.generals → length before ≤ s.bound →
+      let told = setting_of s before g words in
+      IsTold told.shape told.bound told.taken
   pub same : (s : Scenario) (before : List (List Letter)) (g : ℕ) (words : List ℕ) →
       context_of s before g ≡ context_in (setting_of s before g words)

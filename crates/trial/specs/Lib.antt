@@ -4,6 +4,6 @@ pub mod Checks
 pub mod Setting
 pub mod Trial
 pub mod Lines
-pub mod Told
-pub mod Telling
+pub mod Answers
+pub mod ErrorText
 pub mod Laws

@@ -14,12 +14,12 @@ pub record Setting : Type 0 where
   pub board : List ℕ
 
 -- the limits of a campaign, and an order for each label
-pub record IsTold (s : Setting) : Type 0 where
-  pub shape : IsShape s.shape
-  pub rounds : s.shape.round ≤ s.bound + 1
-  pub few : s.bound ≤ 4
-  pub enough : s.bound + 2 ≤ s.shape.generals
-  pub each : length s.taken ≡ length (relay s.shape)
+pub record IsTold (shape : Shape) (bound : ℕ) (taken : List ℕ) : Type 0 where
+  pub limits : IsShape shape
+  pub rounds : shape.round ≤ bound + 1
+  pub few : bound ≤ 4
+  pub enough : bound + 2 ≤ shape.generals
+  pub each : length taken ≡ length (relay shape)
 
 -- where a program is checked: the last of 4 generals in the first round under the first, who relays nothing, and one
 -- traitor at most;

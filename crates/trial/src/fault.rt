@@ -21,7 +21,7 @@ pub enum Fault {
 
 impl fmt::Display for Fault {
     ghost use Rattle.std.specs.Prelude.{Some};
-    ghost use Rattle.trial.specs.Telling.{code_of};
+    ghost use Rattle.trial.specs.ErrorText.{code_of};
 
     ghost output = { λ fault. Some (code_of fault) };
 
@@ -50,7 +50,7 @@ pub enum SettingError {
 
 impl fmt::Display for SettingError {
     ghost use Rattle.std.specs.Prelude.{Some};
-    ghost use Rattle.trial.specs.Telling.{told};
+    ghost use Rattle.trial.specs.ErrorText.{told};
 
     ghost output = { λ error. Some (told error) };
 

@@ -3,7 +3,7 @@ ghost use Rattle.std.specs.Prelude.{◌≡◌, ◌<◌, ◌≤◌, ◌++◌, ℕ
 ghost use Rattle.insn.specs.Program.{slots_of};
 ghost use Rattle.semantics.specs.Relay.{relayed};
 ghost use Rattle.trial.specs.Lines.{first_lines, put_line, label_lines, put_lines, word_line, word_lines};
-ghost use Rattle.trial.specs.Told.{IsTried};
+ghost use Rattle.trial.specs.Answers.{IsTried};
 
 use crate::running::{Exited, run_in};
 use crate::setting::Setting;

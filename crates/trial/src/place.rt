@@ -46,7 +46,7 @@ pub enum Place {
 
 impl fmt::Display for Place {
     ghost use Rattle.std.specs.Prelude.{Some};
-    ghost use Rattle.trial.specs.Telling.{place_text};
+    ghost use Rattle.trial.specs.ErrorText.{place_text};
 
     ghost output = { λ place. Some (place_text place) };
 

@@ -4,7 +4,7 @@ ghost use Rattle.toml.specs.Parse.{parse_document};
 ghost use Rattle.toml.specs.View.{table_view};
 ghost use Rattle.trial.specs.Flaws.{Gives};
 ghost use Rattle.trial.specs.Checks.{setting};
-ghost use Rattle.trial.specs.Told.{Reads};
+ghost use Rattle.trial.specs.Answers.{Reads};
 ghost use Rattle.trial.specs.declared.fault.SettingError.TheVariants.{Memory, Toml};
 
 use crate::fault::SettingError;

@@ -24,7 +24,7 @@ impl Model for Setting {
 
     ghost view = { λ s. record { shape = s.shape; bound = s.bound; taken = s.taken.items; board = s.board } };
 
-    ghost invariant = { λ s. IsTold (record { shape = s.shape; bound = s.bound; taken = s.taken.items; board = s.board }) };
+    ghost invariant = { λ s. IsTold s.shape s.bound s.taken.items };
 }
 
 impl Setting {

@@ -14,7 +14,7 @@ use Rattle.absval.specs.Contains.{Contains}
 use Rattle.helper.specs.declared.argument.Argument.{Argument}
 use Rattle.helper.specs.Table.{bound_of, arguments_of, refusal, test_of, or_else, refused}
 use Rattle.verify.specs.declared.reason.Reason.{Reason}
-use Rattle.verify.proofs.Gamma.{RegistersDescribe}
+use Rattle.verify.specs.Describes.{RegistersDescribe}
 use Rattle.verify.specs.Calls.{reason_if, argument_reason, arguments_reason, IsBelow, IsPointer}
 use Rattle.verify.proofs.Zips.{AllZip-at}
 use Rattle.absval.specs.declared.value.AbsVal.TheVariants.{Unset, Number, Pointer}

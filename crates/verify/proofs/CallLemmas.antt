@@ -28,7 +28,7 @@ use Rattle.helper.proofs.Tests.{copy_in, place_in, row_in, sway_in}
 use Rattle.helper.proofs.Accepts.{asked_trap, sent_trap}
 use Rattle.helper.proofs.Traps.{number_if, pointer_is}
 use Rattle.verify.specs.declared.state.AbsState.{AbsState}
-use Rattle.verify.proofs.Gamma.{RegistersDescribe, Describes}
+use Rattle.verify.specs.Describes.{RegistersDescribe, Describes}
 use Rattle.semantics.specs.Relay.{IsSetting, Relay}
 use Rattle.verify.proofs.Outcomes.{DescribesAt, GoesOn}
 use Rattle.verify.specs.Calls.{arguments_reason}

@@ -29,7 +29,7 @@ use Rattle.helper.proofs.Answered.{calls_return}
 use Rattle.verify.specs.declared.reason.Reason.{Reason}
 use Rattle.verify.specs.declared.reason.Reason.TheVariants as reason
 use Rattle.verify.specs.declared.state.AbsState.{AbsState}
-use Rattle.verify.proofs.Gamma.{RegistersDescribe, Describes}
+use Rattle.verify.specs.Describes.{RegistersDescribe, Describes}
 use Rattle.verify.proofs.Outcomes.{GoesOn}
 use Rattle.verify.specs.MemoryTable.{all_bytes, write_refused}
 use Rattle.verify.specs.Calls.{IsBelow, IsPointer, window_from, source_reason, copy_reason, row_reason, reason_if, arguments_reason, window_reason, helper_reason, is_certain, known_behind}

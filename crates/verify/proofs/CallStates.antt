@@ -14,7 +14,7 @@ use Rattle.absval.specs.Contains.{Contains}
 use Rattle.absmem.specs.Known.{Known}
 use Rattle.absmem.specs.Describes.{Describes as StackDescribes}
 use Rattle.verify.specs.declared.state.AbsState.{AbsState}
-use Rattle.verify.proofs.Gamma.{RegistersDescribe}
+use Rattle.verify.specs.Describes.{RegistersDescribe}
 use Rattle.verify.specs.Registers.{known_at}
 
 -- the registers behind a call that returns n

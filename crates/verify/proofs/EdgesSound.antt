@@ -18,7 +18,7 @@ use Rattle.absval.specs.declared.value.AbsVal.{AbsVal}
 use Rattle.absval.specs.Contains.{Contains}
 use Rattle.verify.specs.declared.comparison.Comparison.{Comparison}
 use Rattle.verify.specs.declared.state.AbsState.{AbsState}
-use Rattle.verify.proofs.Gamma.{RegistersDescribe, Describes}
+use Rattle.verify.specs.Describes.{RegistersDescribe, Describes}
 use Rattle.verify.specs.Registers.{known_at, refined_known, edge_by, edge_known}
 use Rattle.verify.specs.Transfer.{narrowed}
 use Rattle.verify.proofs.BranchLemmas.{decided_by, decided_used}

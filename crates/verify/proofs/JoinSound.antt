@@ -22,7 +22,7 @@ use Rattle.absmem.specs.Known.{byte_at, spill_at, joined_spill}
 use Rattle.absmem.specs.Describes.{IsByteIf, cell_at, StandsAt}
 use Rattle.absmem.proofs.Keeping.{described_left}
 use Rattle.verify.specs.declared.state.AbsState.{AbsState}
-use Rattle.verify.proofs.Gamma.{RegistersDescribe, Describes}
+use Rattle.verify.specs.Describes.{RegistersDescribe, Describes}
 use Rattle.verify.specs.Registers.{known_at, joined_all}
 use Rattle.verify.specs.Knowledge.{at_entry, met}
 use Rattle.absmem.proofs.TableLaws.{length-table, table_at}

@@ -41,12 +41,12 @@ use Rattle.verify.proofs.PassSound.{AreMeant, At, Lands, along_meant, along_take
 -- ---- a unit is passed
 
 -- what was described at the unit leads on to what is, and what was described further on still is
-record Passed (program : List Insn) (unit : ℕ) (old new : KnownSoFar) : Type 0 where
-  leads : (i : Insn) (context : List ℕ) (relay : Relay) (s : State) → IsSetting context relay → instruction_at program unit ≡ Some i → s.unit ≡ unit → At old unit s →
+pub record Passed (program : List Insn) (unit : ℕ) (old new : KnownSoFar) : Type 0 where
+  pub leads : (i : Insn) (context : List ℕ) (relay : Relay) (s : State) → IsSetting context relay → instruction_at program unit ≡ Some i → s.unit ≡ unit → At old unit s →
       LeadsTo (λ t. IsIn (pos t.unit) (leads_to i unit) × At new t.unit t) (executed context relay i s)
-  keeps : (v : ℕ) (s : State) → unit < v → At old v s → At new v s
-  meant : AreMeant new
-  count : length new ≡ length old
+  pub keeps : (v : ℕ) (s : State) → unit < v → At old v s → At new v s
+  pub meant : AreMeant new
+  pub count : length new ≡ length old
 
 -- nothing is done where no instruction starts, or no path leads
 passed_by : (program : List Insn) (unit : ℕ) (old : KnownSoFar) → AreMeant old → ((i : Insn) (s : State) → instruction_at program unit ≡ Some i → At old unit s → ⊥) → Passed program unit old old
@@ -72,7 +72,7 @@ inside_at program unit i old forward long at v e =
     let inside : start.0 < length (slots_of program) = start_inside program start.0 start.2 in
     omega arith
 
-unit_passed : (program : List Insn) (unit : ℕ) (o : Option Insn) (k : Option AbsState) (old new : KnownSoFar) → IsForward program → AllByRecursion IsInsn program → AreMeant old →
+pub unit_passed : (program : List Insn) (unit : ℕ) (o : Option Insn) (k : Option AbsState) (old new : KnownSoFar) → IsForward program → AllByRecursion IsInsn program → AreMeant old →
     length old ≡ length (slots_of program) → instruction_at program unit ≡ o → reached_at old unit ≡ k → passed_at unit o k old ≡ Ok new → Passed program unit old new
 unit_passed program unit None k old new forward well all long at known e =
     let same : old ≡ new = cc in
@@ -102,15 +102,15 @@ unit_passed program unit (Some i) (Some a) old new forward well all long at know
 
 -- ---- what a state owes at the units from one on
 
-abbrev Rest : List Insn → List ℕ → Relay → KnownSoFar → ℕ → Type 0
+abbrev pub Rest : List Insn → List ℕ → Relay → KnownSoFar → ℕ → Type 0
 Rest program context relay reached unit = (s : State) → unit ≤ s.unit → IsSome (instruction_at program s.unit) → At reached s.unit s → IsSafe program context relay (left program s.unit) s
 
 -- if that is paid, the entry is safe
-abbrev EntryRests : List Insn → KnownSoFar → ℕ → Type 0
+abbrev pub EntryRests : List Insn → KnownSoFar → ℕ → Type 0
 EntryRests program reached unit = (context : List ℕ) (relay : Relay) → IsContext context → IsRelay relay → Rest program context relay reached unit →
     IsSafe program context relay (length program) (entry (empty_outbox relay))
 
-step_at : (program : List Insn) (context : List ℕ) (relay : Relay) (unit : ℕ) (i : Insn) (s : State) → instruction_at program unit ≡ Some i → s.unit ≡ unit →
+pub step_at : (program : List Insn) (context : List ℕ) (relay : Relay) (unit : ℕ) (i : Insn) (s : State) → instruction_at program unit ≡ Some i → s.unit ≡ unit →
     step program context relay s ≡ executed context relay i s
 unfolding step
 step_at program context relay unit i s at e =
@@ -136,7 +136,7 @@ module _ (program : List Insn) (context : List ℕ) (relay : Relay) (old new : K
       IsSafe-longer program context relay (suc (left program (unit + 1))) (left program unit) s more
       (IsSafe-step program context relay (left program (unit + 1)) s steps)
 
-some_is : (o : Option Insn) → IsSome o → (i : Insn) × (o ≡ Some i)
+pub some_is : (o : Option Insn) → IsSome o → (i : Insn) × (o ≡ Some i)
 some_is None some = absurd (cc)
 some_is (Some i) some = (i, refl)
 
@@ -158,7 +158,7 @@ rests_step program old new unit forward passed rests context relay c h rest =
 
 -- ---- the entry
 
-first_start : (program : List Insn) → 0 < length (slots_of program) → IsSome (instruction_at program 0)
+pub first_start : (program : List Insn) → 0 < length (slots_of program) → IsSome (instruction_at program 0)
 first_start [] lt = absurd (omega arith)
 first_start (i ∷ is) lt = refl
 
@@ -168,7 +168,7 @@ rests_start program reached lt kept context relay c h rest =
     IsSafe-longer program context relay (left program 0) (length program) start (left-bound program 0) (rest start (omega arith) (first_start program lt) (kept relay))
 
 -- nothing is reached yet
-abbrev empty : List Insn → KnownSoFar
+abbrev pub empty : List Insn → KnownSoFar
 empty program = replicate (length (slots_of program)) None
 
 nothing_at : (program : List Insn) (v : ℕ) → reached_at (empty program) v ≡ None
@@ -177,16 +177,16 @@ nothing_at program v = ⊎_elim (λ lt. get_or-replicate (length (slots_of progr
     let out : length (empty program) ≤ v = omega (arith, length-replicate (length (slots_of program)) none) in get_or-eq_default (empty program) None out)
     (cases_lt v (length (slots_of program)))
 
-nothing_meant : (program : List Insn) → AreMeant (empty program)
+pub nothing_meant : (program : List Insn) → AreMeant (empty program)
 nothing_meant program v = subst (λ (o : Option AbsState). IfSome o IsMeant) (sym (nothing_at program v)) tt
 
 -- ---- the pass
 
 -- what is reached at the units below one
-record Walks (program : List Insn) (unit : ℕ) (reached : KnownSoFar) : Type 0 where
-  meant : AreMeant reached
-  count : length reached ≡ length (slots_of program)
-  rests : EntryRests program reached unit
+pub record Walks (program : List Insn) (unit : ℕ) (reached : KnownSoFar) : Type 0 where
+  pub meant : AreMeant reached
+  pub count : length reached ≡ length (slots_of program)
+  pub rests : EntryRests program reached unit
 
 starts : (program : List Insn) → 0 < length (slots_of program) → Walks program 0 (along (pos 0, at_entry) (empty program))
 starts program some =
@@ -205,7 +205,7 @@ walks_on program unit old new forward well w e =
     let passed = unit_passed program unit (instruction_at program unit) (reached_at old unit) old new forward well w.meant w.count refl refl e in
     record { meant = passed.meant; count = passed.count ∙ w.count; rests = rests_step program old new unit forward passed w.rests }
 
-walks : (program : List Insn) → IsForward program → AllByRecursion IsInsn program → 0 < length (slots_of program) → (unit : ℕ) (reached : KnownSoFar) → passed_to program unit ≡ Ok reached → Walks program unit reached
+pub walks : (program : List Insn) → IsForward program → AllByRecursion IsInsn program → 0 < length (slots_of program) → (unit : ℕ) (reached : KnownSoFar) → passed_to program unit ≡ Ok reached → Walks program unit reached
 unfolding passed_to
 walks program forward well some zero reached e =
     let same : along (pos 0, at_entry) (empty program) ≡ reached = cc in subst (λ (r : KnownSoFar). Walks program 0 r) same (starts program some)
@@ -222,7 +222,7 @@ ends program reached w = record {
       let inside : s.unit < length (slots_of program) = start_inside program s.unit some in absurd (omega arith));
 }
 
-first_none : (o : Option VerifyError) (r : Result KnownSoFar VerifyError) → first_of o r ≡ None → (o ≡ None) × (reached : KnownSoFar) × (r ≡ Ok reached)
+pub first_none : (o : Option VerifyError) (r : Result KnownSoFar VerifyError) → first_of o r ≡ None → (o ≡ None) × (reached : KnownSoFar) × (r ≡ Ok reached)
 first_none None (Ok reached) e = (refl, reached, refl)
 first_none None (Err fault) e = cc
 first_none (Some fault) r e = cc

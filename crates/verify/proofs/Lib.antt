@@ -1,4 +1,3 @@
-pub mod Gamma
 pub mod Outcomes
 pub mod Stores
 pub mod CallStates
@@ -43,5 +42,7 @@ pub mod EdgesSound
 pub mod PassSound
 pub mod JudgedSound
 pub mod JudgedAnswers
+pub mod KnownLaws
+pub mod ReadyLemmas
 pub mod HandLaws
 pub mod CombineLemmas

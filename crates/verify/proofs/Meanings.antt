@@ -11,7 +11,7 @@ use Rattle.semantics.specs.State.{value_at, operand_value}
 use Rattle.semantics.specs.Step.{first_operand}
 use Rattle.absval.specs.declared.value.AbsVal.{AbsVal}
 use Rattle.absval.specs.Contains.{Contains}
-use Rattle.verify.proofs.Gamma.{RegistersDescribe}
+use Rattle.verify.specs.Describes.{RegistersDescribe}
 use Rattle.verify.specs.Registers.{known_at, operand_known, first_known}
 use Rattle.absval.proofs.SetRows.{single_set, single_of}
 use Rattle.absval.proofs.ValueRows.{IsWell}

@@ -8,7 +8,7 @@ use Rattle.semantics.specs.Call.{fits, resumed}
 use Rattle.semantics.specs.Execution.{executed}
 use Rattle.semantics.specs.Relay.{IsSetting, Relay}
 use Rattle.verify.specs.declared.state.AbsState.{AbsState}
-use Rattle.verify.proofs.Gamma.{Describes}
+use Rattle.verify.specs.Describes.{Describes}
 
 -- the state is at the unit, and described
 abbrev pub DescribesAt : AbsState → ℕ → State → Type 0

@@ -18,7 +18,7 @@ use Rattle.semantics.specs.Plain.{IsIn, leads_to}
 use Rattle.absval.specs.Contains.{Contains}
 use Rattle.verify.specs.declared.comparison.Comparison.{Comparison}
 use Rattle.verify.specs.declared.state.AbsState.{AbsState}
-use Rattle.verify.proofs.Gamma.{Describes}
+use Rattle.verify.specs.Describes.{Describes}
 use Rattle.verify.specs.Registers.{known_at, operand_known}
 use Rattle.verify.specs.Reasons.{first_reason, compare_checks, exit_checks}
 use Rattle.verify.proofs.Outcomes.{DescribesAt, GoesOn}

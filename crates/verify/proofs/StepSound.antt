@@ -29,7 +29,7 @@ use Rattle.verify.specs.declared.reason.Reason.{Reason}
 use Rattle.verify.specs.declared.reason.Reason.TheVariants as reason
 use Rattle.word.specs.Arithmetic.{negated, sign_extended, swapped}
 use Rattle.verify.specs.declared.state.AbsState.{AbsState}
-use Rattle.verify.proofs.Gamma.{Describes}
+use Rattle.verify.specs.Describes.{Describes}
 use Rattle.verify.specs.Registers.{known_at, operand_known, first_known}
 use Rattle.verify.specs.Reasons.{first_reason, made_checks, is_unset}
 use Rattle.verify.specs.MemoryTable.{unset_or, frame_or, load_given, signed_load_given, store_refused}

@@ -21,7 +21,7 @@ use Rattle.absmem.specs.Known.{Known}
 use Rattle.absmem.specs.Describes.{Describes as StackDescribes, AreBytes}
 use Rattle.absmem.proofs.Overwriting.{length-overwritten}
 use Rattle.verify.specs.declared.state.AbsState.{AbsState}
-use Rattle.verify.proofs.Gamma.{RegistersDescribe}
+use Rattle.verify.specs.Describes.{RegistersDescribe}
 use Rattle.verify.proofs.Outcomes.{GoesOn}
 use Rattle.verify.proofs.Stores.{Leads}
 use Rattle.absval.proofs.WindowRows.{Lies}

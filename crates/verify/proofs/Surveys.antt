@@ -22,7 +22,7 @@ use Rattle.verify.proofs.PassLaws.{stays, judged_pass, structural_judged}
 abbrev pub AreKnown : List Insn → List (Option AbsState) → Type 0
 AreKnown program states = (unit : ℕ) → unit < length states → slice_get states unit ≡ known_on_the_pass program unit
 
-on_the_pass : (program : List Insn) (unit : ℕ) (r : Result KnownSoFar VerifyError) → passed_to program unit ≡ r → known_on_the_pass program unit ≡ option_map (λ (reached : KnownSoFar). reached_at reached unit) (result_ok r)
+pub on_the_pass : (program : List Insn) (unit : ℕ) (r : Result KnownSoFar VerifyError) → passed_to program unit ≡ r → known_on_the_pass program unit ≡ option_map (λ (reached : KnownSoFar). reached_at reached unit) (result_ok r)
 on_the_pass program unit r e = ap (λ (x : Result KnownSoFar VerifyError). option_map (λ (reached : KnownSoFar). reached_at reached unit) (result_ok x)) e
 
 pub none_known : (program : List Insn) (states : List (Option AbsState)) → states ≡ [] → AreKnown program states
@@ -50,7 +50,7 @@ known_more program states pending here unit known e comes same v h = ⊎_elim be
         ∙ sym (on_the_pass program v (Ok pending) (ap (passed_to program) (at ∙ e) ∙ comes)))
 
 -- without a structural fault
-before_is : (program : List Insn) (unit : ℕ) → structural_fault program ≡ None → known_before program unit ≡ known_on_the_pass program unit
+pub before_is : (program : List Insn) (unit : ℕ) → structural_fault program ≡ None → known_before program unit ≡ known_on_the_pass program unit
 before_is program unit none = ap (λ (o : Option VerifyError). if is_none o then known_on_the_pass program unit else None) none
 
 -- the pass comes to the end

@@ -1,5 +1,5 @@
 -- Laws of the verifier as one function.
-use Rattle.std.specs.Prelude.{◌≡◌, ◌<◌, List, None, Some, length}
+use Rattle.std.specs.Prelude.{ℕ, ◌≡◌, ◌<◌, List, None, Some, length}
 use Rattle.insn.specs.declared.insn.Insn.{Insn}
 use Rattle.verify.specs.declared.error.VerifyError.{VerifyError}
 use Rattle.verify.specs.Structure.{structural_fault}
@@ -8,8 +8,13 @@ use Rattle.std.specs.List.{AllByRecursion}
 use Rattle.insn.specs.Insn.{IsInsn}
 use Rattle.insn.specs.Program.{slots_of}
 use Rattle.semantics.specs.Plain.{IsPlain}
-use Rattle.semantics.specs.Run.{IsSound}
+use Rattle.semantics.specs.Relay.{IsRelay, Relay}
+use Rattle.semantics.specs.State.{State}
+use Rattle.semantics.specs.Run.{IsContext, IsSound}
+use Rattle.semantics.specs.Reached.{Reached}
 use Rattle.verify.specs.Judgement.{judged}
+use Rattle.verify.specs.KnownAtUnits.{known_before}
+use Rattle.verify.specs.Describes.{IsAsKnown}
 
 -- the pass over a program without a structural fault agrees with what is judged: none has both an end to which the pass
 -- comes and a first fault, and none has two first faults
@@ -30,3 +35,10 @@ PlainIsAccepted = (program : List Insn) → AllByRecursion IsInsn program → Is
 abbrev pub AcceptedIsSound : Type 0
 AcceptedIsSound = (program : List Insn) → AllByRecursion IsInsn program → 0 < length (slots_of program) →
     judged program ≡ None → IsSound program
+
+-- in such a program every state of every run is as is known at its unit
+abbrev pub StatesAreAsKnown : Type 0
+StatesAreAsKnown = (program : List Insn) → AllByRecursion IsInsn program → 0 < length (slots_of program) →
+    judged program ≡ None → (context : List ℕ) (relay : Relay) (answers : List (List ℕ)) (s : State) →
+    IsContext context → IsRelay relay → Reached program context relay answers s →
+    IsAsKnown (known_before program s.unit) s

@@ -9,8 +9,10 @@ pub mod MemoryTable
 pub mod Instructions
 pub mod Passes
 pub mod Knowledge
+pub mod Describes
 pub mod Transfer
 pub mod Judgement
 pub mod Laws
-pub mod Telling
+pub mod ErrorText
 pub mod KnownAtUnits
+pub mod Ready

@@ -38,7 +38,8 @@ assigned a dst (Some value) = record { registers = slice_set a.registers dst val
 -- a number is stored at one address, where the window is no wider than it is, or at one of several
 abbrev pub number_stored : ℕ → Option Window → Known → Known
 number_stored size None known = known
-number_stored size (Some w) known = if w.size == size then put_bytes w.place w.size known else spread_bytes w.place w.size known
+number_stored size (Some w) known =
+    if w.size == size then put_bytes w.place w.size known else spread_bytes w.place w.size known
 
 abbrev pub pointer_stored : Region → ℤ → Option Window → Known → Known
 pointer_stored region offset None known = known

@@ -15,7 +15,7 @@ pub enum VerifyError {
 
 impl fmt::Display for VerifyError {
     ghost use Rattle.std.specs.Prelude.{Some};
-    ghost use Rattle.verify.specs.Telling.{told};
+    ghost use Rattle.verify.specs.ErrorText.{told};
 
     ghost output = { λ fault. Some (told fault) };
 

@@ -1,5 +1,5 @@
 //! Laws of the verifier: each function does nothing, and its contract is the law.
-ghost use Rattle.verify.specs.Laws.{PassesAgree, PlainIsAccepted, AcceptedIsSound};
+ghost use Rattle.verify.specs.Laws.{PassesAgree, PlainIsAccepted, AcceptedIsSound, StatesAreAsKnown};
 
 /// The pass over a program comes to its end, or is stopped by one first fault, and that is what is judged.
 pub fn passes_agree()
@@ -15,4 +15,9 @@ pub fn plain_is_accepted()
 /// answers, it never traps, and is over within as many steps as it has instructions.
 pub fn accepted_is_sound()
     ensures { AcceptedIsSound }
+{}
+
+/// In a program that has no fault every state of every run is as is known at its unit, whichever path led there.
+pub fn states_are_as_known()
+    ensures { StatesAreAsKnown }
 {}

@@ -10,6 +10,7 @@ mod laws;
 mod memory;
 mod pass;
 mod pending;
+mod ready;
 mod reason;
 mod recalling;
 mod registers;
@@ -21,7 +22,8 @@ mod verifier;
 
 pub use error::{Refused, VerifyError};
 pub use known::{Survey, known_at_units};
-pub use laws::{accepted_is_sound, passes_agree, plain_is_accepted};
+pub use laws::{accepted_is_sound, passes_agree, plain_is_accepted, states_are_as_known};
+pub use ready::{Change, Other, Ready};
 pub use reason::Reason;
 pub use state::AbsState;
 pub use verified::Verified;

@@ -1,5 +1,5 @@
 //! The forward pass.
-ghost use Rattle.std.specs.Prelude.{◌≡◌, ◌<◌, ◌≤◌, ◌+◌, ◌^◌, pos, ◌<ℤ◌, ◌+ℤ◌, length, IfOk, Ok, Result, if◌then◌else◌, Some, None};
+ghost use Rattle.std.specs.Prelude.{ℕ, ◌≡◌, ◌≢◌, ◌<◌, ◌≤◌, ◌+◌, ◌^◌, pos, ◌<ℤ◌, ◌+ℤ◌, length, IfErr, IfOk, Ok, Result, if◌then◌else◌, Some, None};
 ghost use Rattle.std.specs.Result.{result_err};
 ghost use Rattle.verify.specs.Instructions.{IsStraight, reason_of};
 ghost use Rattle.verify.specs.Transfer.{edge_to};
@@ -8,11 +8,14 @@ ghost use Rattle.verify.specs.Passes.{Does, Comes, Answers};
 ghost use Rattle.insn.specs.Program.{slots_of, instruction_at};
 ghost use Rattle.verify.specs.Forward.{IsForward};
 ghost use Rattle.verify.specs.Branches.{branch_of};
-ghost use Rattle.verify.specs.Kept.{EdgesInside, EdgesForward, AtHand};
+ghost use Rattle.verify.specs.declared.error.VerifyError.TheVariants.{Memory};
+ghost use Rattle.verify.specs.Kept.{EdgesInside, EdgesForward, AtHand, unboxed};
+ghost use Rattle.verify.specs.Ready.{IsMade, AreMade, ready_at};
 
 use crate::comparison::Comparison;
 use crate::error::VerifyError;
 use crate::pending::{Pending, boxed, come, empty, flow, put_back, second, take_next};
+use crate::ready::{Change, Other, Ready, halves, put_ready};
 use crate::state::AbsState;
 use crate::structure::forward_target;
 use crate::{branches, registers, steps};
@@ -29,7 +32,8 @@ fn pass_straight(
     requires straight { IsStraight insn.now }
     requires bound { unit < 4096 }
     requires edges { EdgesInside insn.now unit (length pending.old.items) }
-    ensures { Comes (followed unit insn.now state.value pending.old.items) (unit + 1) result pending.new.items }
+    ensures comes { Comes (followed unit insn.now state.value pending.old.items) (unit + 1) result pending.new.items }
+    ensures memory { IfErr result (λ e. e ≢ Memory) }
 {
     if let Err(reason) = steps::straight(&mut state, insn) {
         return Err(VerifyError::At(reason, unit));
@@ -92,7 +96,8 @@ fn pass_branch(
 
 /// The program ends.
 fn pass_exit(unit: usize, state: Box<AbsState>) -> Result<(), VerifyError>
-    ensures { (reached : KnownSoFar) → Does (followed unit Insn.Exit state.value reached) result reached }
+    ensures does { (reached : KnownSoFar) → Does (followed unit Insn.Exit state.value reached) result reached }
+    ensures memory { IfErr result (λ e. e ≢ Memory) }
 {
     if let Err(reason) = steps::exit(&state) {
         return Err(VerifyError::At(reason, unit));
@@ -160,7 +165,8 @@ fn pass_state(
     }
 }
 
-/// The next unit, at which what is known is at hand; behind it that of the unit that follows.
+/// The next unit, at which what is known is at hand; behind it that of the unit that follows. It is made ready by what
+/// is known there.
 #[inline(always)]
 fn pass_unit(
     alloc: Global,
@@ -168,15 +174,22 @@ fn pass_unit(
     unit: usize,
     hand: Option<Box<AbsState>>,
     pending: &mut Pending,
+    codes: &mut Vec<Ready>,
 ) -> Result<Option<Box<AbsState>>, VerifyError>
     requires forward { IsForward program.now }
     requires unit { unit < length (slots_of program.now) }
     requires fits { unit + 1 < 2 ^ 64 }
     requires room { length pending.old.items ≡ length (slots_of program.now) }
-    ensures { (reached : KnownSoFar) → AtHand reached unit hand pending.old.items →
+    requires codes { length codes.old.items ≡ length (slots_of program.now) }
+    ensures comes { (reached : KnownSoFar) → AtHand reached unit hand pending.old.items →
         Comes (passed_at unit (instruction_at program.now unit) (reached_at reached unit) reached) (unit + 1) result
         pending.new.items }
+    ensures made { IsMade (instruction_at program.now unit) (unboxed hand) (ready_at codes.new.items unit) }
+    ensures others { (other : ℕ) → other ≢ unit → ready_at codes.new.items other ≡ ready_at codes.old.items other }
+    ensures long { length codes.new.items ≡ length codes.old.items }
 {
+    // The borrow checker's proof finds a type inside a code only where it is named.
+    let _named: Option<(Change, Other)> = None;
     let Some(state) = hand else {
         return Ok(take_next(pending, unit + 1));
     };
@@ -184,10 +197,12 @@ fn pass_unit(
         put_back(pending, unit, Some(state));
         return Ok(take_next(pending, unit + 1));
     };
+    put_ready(&mut codes[unit], &insn, &state);
     pass_state(alloc, unit, &insn, state, pending)
 }
 
-/// The units from the first on, up to the end, in their order. Its code stands once, and what passes a unit within it.
+/// The units from the first on, up to the end, in their order, each made ready. Its code stands once, and what passes a
+/// unit within it.
 #[inline(never)]
 pub fn pass_units(
     alloc: Global,
@@ -195,18 +210,23 @@ pub fn pass_units(
     first: usize,
     end: usize,
     pending: &mut Pending,
+    codes: &mut Vec<Ready>,
 ) -> Result<(), VerifyError>
     requires forward { IsForward program.now }
     requires ordered { first ≤ end }
     requires within { end ≤ length (slots_of program.now) }
     requires room { length pending.old.items ≡ length (slots_of program.now) }
+    requires codes { length codes.old.items ≡ length (slots_of program.now) }
     requires comes { passed_to program.now first ≡ Ok pending.old.items }
     ensures passed { IfOk result (λ _. passed_to program.now end ≡ Ok pending.new.items) }
     ensures answers { Answers (result_err (passed_to program.now end)) result }
+    ensures made { IfOk result (λ _. AreMade program.now codes.new.items first end) }
+    ensures long { length codes.new.items ≡ length codes.old.items }
 {
+    let _named: Option<(Change, Other)> = None;
     let mut hand = take_next(pending, first);
     for unit in first..end {
-        hand = pass_unit(alloc, program, unit, hand, pending)?;
+        hand = pass_unit(alloc, program, unit, hand, pending, codes)?;
     }
     put_back(pending, end, hand);
     Ok(())
@@ -221,11 +241,15 @@ pub fn opened(alloc: Global, program: &Program) -> Result<Pending, AllocError>
     Ok(pending)
 }
 
-/// The forward pass over a program whose every edge leads forward.
-pub fn pass(alloc: Global, program: &Program) -> Result<(), VerifyError>
+/// The forward pass over a program whose every edge leads forward, which is made ready.
+pub fn pass(alloc: Global, program: &Program, codes: &mut Vec<Ready>) -> Result<(), VerifyError>
     requires { IsForward program.now }
-    ensures { Answers (result_err (passed_to program.now (length (slots_of program.now)))) result }
+    ensures answers { Answers (result_err (passed_to program.now (length (slots_of program.now)))) result }
+    ensures made { IfOk result (λ _. AreMade program.now codes.new.items 0 (length (slots_of program.now))) }
+    ensures long { IfOk result (λ _. length codes.new.items ≡ length (slots_of program.now)) }
 {
+    let _named: Option<(Change, Other)> = None;
     let mut pending = opened(alloc, program)?;
-    pass_units(alloc, program, 0, program.units(), &mut pending)
+    *codes = halves(alloc, program.units())?;
+    pass_units(alloc, program, 0, program.units(), &mut pending, codes)
 }

@@ -34,7 +34,7 @@ pub enum Reason {
 
 impl fmt::Display for Reason {
     ghost use Rattle.std.specs.Prelude.{Some};
-    ghost use Rattle.verify.specs.Telling.{code_of};
+    ghost use Rattle.verify.specs.ErrorText.{code_of};
 
     ghost output = { λ reason. Some (code_of reason) };
 

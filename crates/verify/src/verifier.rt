@@ -1,27 +1,33 @@
-ghost use Rattle.std.specs.Prelude.{◌≡◌, ◌⊎◌, None, Some, IfOk, IfErr, IsErrAnd, IfSome, Err};
+ghost use Rattle.std.specs.Prelude.{◌≡◌, ◌⊎◌, None, Some, IfOk, IfErr, IsErrAnd, IfSome, Err, length};
 ghost use Rattle.semantics.specs.Run.{IsSound};
 ghost use Rattle.semantics.specs.Plain.{IsPlain};
 ghost use Rattle.verify.specs.Structure.{structural_fault, IsOwnFault};
 ghost use Rattle.verify.specs.Judgement.{judged};
 ghost use Rattle.verify.specs.Passes.{Answers, IsFirstFault, ComesThrough};
+ghost use Rattle.verify.specs.Ready.{AreMade};
+ghost use Rattle.insn.specs.Program.{slots_of};
 
 use crate::error::{Refused, VerifyError};
 use crate::pass::pass;
+use crate::ready::Ready;
 use crate::recalling::recall_program;
 use crate::structure::find_fault;
 use crate::verified::Verified;
 use insn::Program;
 use std::alloc::Global;
 
-/// The first fault: those of structure, and behind them those of the pass.
-fn check(alloc: Global, program: &Program) -> Result<(), VerifyError>
+/// The first fault: those of structure, and behind them those of the pass. Where there is none, the program is made
+/// ready.
+fn check(alloc: Global, program: &Program, codes: &mut Vec<Ready>) -> Result<(), VerifyError>
     ensures judged { Answers (judged program.now) result }
     ensures structural { IfSome (structural_fault program.now) (λ fault. result ≡ Err fault) }
+    ensures made { IfOk result (λ _. AreMade program.now codes.new.items 0 (length (slots_of program.now))) }
+    ensures long { IfOk result (λ _. length codes.new.items ≡ length (slots_of program.now)) }
 {
     if let Some(fault) = find_fault(program) {
         return Err(fault);
     }
-    pass(alloc, program)
+    pass(alloc, program, codes)
 }
 
 /// The program, if it is accepted, else the first fault. Only the pass takes memory.
@@ -49,8 +55,9 @@ pub fn verify(alloc: Global, program: Program) -> Result<Verified, Refused>
     ensures passed { IfOk result (λ v. ComesThrough v) }
 {
     recall_program(&program);
-    match check(alloc, &program) {
-        Ok(()) => Ok(Verified::of(program)),
+    let mut codes = Vec::new(alloc);
+    match check(alloc, &program, &mut codes) {
+        Ok(()) => Ok(Verified::of(program, codes)),
         Err(fault) => Err(Refused { program, fault }),
     }
 }

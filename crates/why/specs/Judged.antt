@@ -1,7 +1,8 @@
 -- What is said of a traitor's program that the verifier refuses, behind the report: what `check --explain` says of it,
 -- with each unit's line in the scenario's own text.
-use Rattle.std.specs.Prelude.{ℕ, ◌≡◌, ◌⊎◌, ◌-◌, ◌==◌, Bool, true, false, if◌then◌else◌, List, [], ◌++◌, Option, None, Some, String, codes, drop, length, map, option_and_then, replicate, string_bytes}
+use Rattle.std.specs.Prelude.{ℕ, ◌≡◌, ◌≢◌, ◌⊎◌, ◌-◌, ◌==◌, Bool, true, false, if◌then◌else◌, List, [], ◌++◌, Option, None, Some, Result, Ok, Err, String, codes, drop, length, map, option_and_then, replicate, string_bytes}
 use Rattle.std.specs.Str.{IsUtf8}
+use Rattle.std.specs.declared.alloc.AllocError.{AllocError}
 use Rattle.std.specs.declared.alloc.Global.{Global}
 use Rattle.toml.specs.Parse.{parse_document}
 use Rattle.insn.specs.declared.insn.Insn.{Insn}
@@ -12,7 +13,7 @@ use Rattle.explain.specs.Explained.{explained_at}
 use Rattle.explain.specs.Units.{in_lists}
 use Rattle.scenario.specs.Sources.{source_by}
 use Rattle.scenario.specs.Tables.{Source, Assembly, Hex}
-use Rattle.scenario.specs.Told.{IsFaultOf, IsProgramOf}
+use Rattle.scenario.specs.Reading.{IsFaultOf, IsProgramOf}
 use Rattle.scenario.specs.declared.fault.ProgramFault.{ProgramFault}
 use Rattle.scenario.specs.declared.fault.ProgramFault.TheVariants as programs
 use Rattle.scenario.specs.declared.fault.ScenarioError.{ScenarioError}
@@ -46,6 +47,18 @@ ArePlaced (Hex text) (Some f) program places = ArePlacedFrom false text f progra
 abbrev pub AreStated : Source → List (List ℕ) → Type 0
 AreStated (Assembly text) statements = statements ≡ statements_of text
 AreStated (Hex text) statements = statements ≡ []
+
+-- the program that was made so, none where its source has a fault; or want of memory
+abbrev pub IsMadeBy : {T : Type 0} → Result T ScenarioError → Result (Option T) AllocError → Type 0
+IsMadeBy (Ok program) (Ok (Some own)) = own ≡ program
+IsMadeBy (Err error) (Ok None) = error ≢ scenario.Memory
+IsMadeBy (Err error) (Err _) = error ≡ scenario.Memory
+IsMadeBy _ _ = ⊥
+
+-- the source has this program, or a fault
+abbrev pub GivesProgram : Source → Option (List Insn) → Type 0
+GivesProgram source (Some program) = IsProgramOf source program
+GivesProgram source None = (fault : ProgramFault) × IsFaultOf fault source
 
 -- the source has this program, and an empty line and its explanation are told; or it has none, and nothing is
 abbrev pub IsExplainedOf : Source → Option Found → List ℕ → Type 0

@@ -1,14 +1,17 @@
 -- What is said of a fault of a scenario: the sentence of each code, and the place in the text.
-use Rattle.std.specs.Prelude.{ℕ, suc, zero, ◌≡◌, ◌⊎◌, List, [], ◌∷◌, ◌++◌, Bool, true, false, ◌+◌, ◌-◌, ◌*◌, ◌^◌, ◌==◌, ◌&&◌, ◌||◌, nat_eq, nat_le, nat_lt, if◌then◌else◌, Option, None, Some, codes, drop, length, option_and_then, option_map, take}
+use Rattle.std.specs.Prelude.{ℕ, suc, zero, ◌≡◌, ◌⊎◌, List, [], ◌∷◌, ◌++◌, Bool, true, false, ◌+◌, ◌-◌, ◌*◌, ◌^◌, ◌==◌, ◌&&◌, ◌||◌, nat_eq, nat_le, nat_lt, if◌then◌else◌, Option, None, Some, Result, Ok, Err, codes, drop, length, option_and_then, option_map, take}
 use Rattle.std.specs.Fmt.{decimal}
 use Rattle.std.specs.List.{starts_with}
 use Rattle.std.specs.Str.{IsUtf8, bytes_eq}
+use Rattle.std.specs.declared.alloc.AllocError.{AllocError}
 use Rattle.toml.specs.Data.{Members}
+use Rattle.toml.specs.Errors.{IsMemory}
+use Rattle.toml.specs.declared.de.error.Error.{Error}
 use Rattle.toml.specs.Parse.{parse_document}
 use Rattle.asm.specs.declared.fault.Fault.{Fault as AsmFault}
 use Rattle.combine.specs.Names.{rule_names}
 use Rattle.codec.specs.declared.fault.Fault.{Fault as CodecFault}
-use Rattle.verify.specs.Telling.{code_of}
+use Rattle.verify.specs.ErrorText.{code_of}
 use Rattle.verify.specs.declared.reason.Reason.{Reason}
 use Rattle.scenario.specs.Names.{text_of}
 use Rattle.scenario.specs.Sources.{source_by}
@@ -251,6 +254,13 @@ IsRefusedAt text general unit None mark = mark ≡ source_shown general text
 IsRefusedAt text general unit (Some (Hex digits)) mark = mark ≡ bytecode_shown general text
 IsRefusedAt text general unit (Some (Assembly asm)) mark =
     IsUnitShown text unit asm (program_line general (codes "asm") text) mark
+
+-- the table of a text that was parsed so, none where it is no TOML, or want of memory
+abbrev pub IsTableBy : {T : Type 0} → Result T Error → Result (Option T) AllocError → Type 0
+IsTableBy (Ok table) (Ok (Some own)) = own ≡ table
+IsTableBy (Err error) (Ok None) = ¬ IsMemory error
+IsTableBy (Err error) (Err _) = IsMemory error
+IsTableBy _ _ = ⊥
 
 -- the tables that the bytes say, which are perhaps no text
 abbrev pub IsDocumentOf : List ℕ → Option Members → Type 0

@@ -8,18 +8,19 @@ ghost use Rattle.asm.specs.Places.{AreWritten, line_text};
 ghost use Rattle.asm.specs.Program.{lines_of, nothing, read_on};
 ghost use Rattle.insn.specs.Program.{slots_of};
 ghost use Rattle.scenario.specs.Seen.{source_of};
-ghost use Rattle.why.specs.Judged.{ArePlaced, AreStated, IsExplained, IsExplainedBy, IsExplainedOf, IsJudged, judged_of, lines_before, pushed_down};
+ghost use Rattle.why.specs.Judged.{ArePlaced, AreStated, GivesProgram, IsExplained, IsExplainedBy, IsExplainedOf, IsJudged, IsMadeBy, judged_of, lines_before, pushed_down};
 ghost use Rattle.why.specs.Keys.{found_view};
 
 use crate::keys::{Found, value_end};
 use crate::lines::trimmed;
 use crate::report::behind;
 use crate::seated::{is_long, source_line};
+use crate::sources::table_in;
 use explain::explanation_at;
 use insn::Program;
 use scenario::{ProgramFault, ScenarioError, Written, program, written_by};
 use std::alloc::{AllocError, Global};
-use toml::{Table, table_from_str};
+use toml::Table;
 
 /// How many lines of the file stand before the first line of a text that goes on over lines from this one.
 fn lines_before(line: Found<'_>) -> u64
@@ -95,7 +96,31 @@ fn stated(alloc: Global, written: Written<'_>) -> Result<Vec<String>, AllocError
     }
 }
 
+/// The program that was made so, none where its source has a fault.
+fn made(program: Result<Program, ScenarioError>) -> Result<Option<Program>, AllocError>
+    ensures { IsMadeBy program result }
+{
+    match program {
+        Ok(program) => Ok(Some(program)),
+        Err(ScenarioError::Memory) => Err(AllocError),
+        Err(_) => Ok(None),
+    }
+}
+
+/// The program that is written so, none where it has a fault.
+#[tactic(auto, using(crate::proofs::MadeLemmas::made_is_had))]
+fn program_of(
+    alloc: Global,
+    general: u8,
+    written: Written<'_>,
+) -> Result<Option<Program>, AllocError>
+    ensures { IfOk result (GivesProgram (source_of written.entry)) }
+{
+    made(program(alloc, general, written))
+}
+
 /// What is known of a program that is written so, whose key stands in this line: an empty line and its explanation.
+#[tactic(auto, using(crate::proofs::MadeLemmas::unmade_is_silent))]
 pub(crate) fn explained_of(
     alloc: Global,
     general: u8,
@@ -105,13 +130,8 @@ pub(crate) fn explained_of(
     ensures { IfOk result (λ told. IsExplainedOf (source_of written.entry) (option_map found_view line.entry)
         (string_bytes told)) }
 {
-    let program = match program(alloc, general, written) {
-        Ok(program) => program,
-        Err(ScenarioError::Program(_, _)) => return Ok(String::new(alloc)),
-        Err(ScenarioError::Memory) => return Err(AllocError),
-        Err(ScenarioError::Toml) => unreachable!(),
-        Err(ScenarioError::Unknown(_, _)) => unreachable!(),
-        Err(ScenarioError::At(_, _)) => unreachable!(),
+    let Some(program) = program_of(alloc, general, written)? else {
+        return Ok(String::new(alloc));
     };
     let places = placed(alloc, written, line, &program)?;
     let statements = stated(alloc, written)?;
@@ -148,14 +168,9 @@ fn explained(alloc: Global, text: &[u8], general: u8) -> Result<String, AllocErr
     let Ok(text) = str::from_utf8(text) else {
         return Ok(String::new(alloc));
     };
-    match table_from_str(alloc, text) {
-        Ok(table) => explained_in(alloc, general, &table, line),
-        Err(error) => {
-            if error.is_memory() {
-                return Err(AllocError);
-            }
-            Ok(String::new(alloc))
-        }
+    match table_in(alloc, text)? {
+        Some(table) => explained_in(alloc, general, &table, line),
+        None => Ok(String::new(alloc)),
     }
 }
 

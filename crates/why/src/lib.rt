@@ -4,6 +4,7 @@
 mod assembly;
 mod bytecode;
 mod chronicles;
+mod errors;
 mod judged;
 mod keys;
 mod laws;
@@ -18,15 +19,14 @@ mod scenarios;
 mod seated;
 mod settings;
 mod sources;
-mod telling;
 mod units;
 mod unread;
 
 pub use assembly::of_assembly;
 pub use bytecode::of_bytecode;
 pub use chronicles::{of_chronicle, of_schedule};
+pub use errors::{of_scenario, of_setting};
 pub use laws::refusals_are_told;
 pub use made::of_made;
 pub use messages::{of_stranger, of_table};
 pub use musters::of_muster;
-pub use telling::{of_scenario, of_setting};

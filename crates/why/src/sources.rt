@@ -4,21 +4,29 @@ ghost use Rattle.toml.specs.Parse.{parse_document};
 ghost use Rattle.toml.specs.View.{table_view};
 ghost use Rattle.scenario.specs.Seen.{source_of};
 ghost use Rattle.scenario.specs.Sources.{source_by};
-ghost use Rattle.why.specs.Scenarios.{IsDocumentOf};
+ghost use Rattle.why.specs.Scenarios.{IsDocumentOf, IsTableBy};
 
 use scenario::{Written, written_by};
 use std::alloc::{AllocError, Global};
+use toml::de::Error;
 use toml::{Table, table_from_str};
+
+/// The table of a text that was parsed so, if it is one.
+fn table_of(parsed: Result<Table, Error>) -> Result<Option<Table>, AllocError>
+    ensures { IsTableBy parsed result }
+{
+    match parsed {
+        Ok(table) => Ok(Some(table)),
+        Err(error) if error.is_memory() => Err(AllocError),
+        Err(_) => Ok(None),
+    }
+}
 
 /// The table that a text is, if it is one.
 pub(crate) fn table_in(alloc: Global, text: &str) -> Result<Option<Table>, AllocError>
     ensures { IfOk result (λ table. option_map table_view table ≡ parse_document text.now) }
 {
-    match table_from_str(alloc, text) {
-        Ok(table) => Ok(Some(table)),
-        Err(error) if error.is_memory() => Err(AllocError),
-        Err(_) => Ok(None),
-    }
+    table_of(table_from_str(alloc, text))
 }
 
 /// The table that bytes are, if they are a text and it is one.

@@ -8,7 +8,7 @@ use Rattle.label.proofs.Ranks.{others-more_no, others-more_yes}
 use Rattle.label.specs.Oral.{om}
 use Rattle.label.specs.Lieutenants.{lieutenants}
 use Rattle.combine.specs.declared.chosen.Rule.{Rule}
-use Rattle.combine.specs.Chosen.{combined_by}
+use Rattle.combine.specs.Rule.{combined_by}
 use Rattle.board.specs.Ledger.{RecordedBoard as Board}
 use Rattle.tree.specs.LieutenantTree.{LieutenantTree}
 use Rattle.resolve.specs.Decided.{Decides}

@@ -4,7 +4,8 @@ use Rattle.std.specs.Prelude.{◌↔◌, ◌==◌, nat_lt, nat_le, count_by, sli
 use Rattle.std.specs.List.{list_all}
 use Rattle.std.proofs.lemmas.Bool.{and_parts, and_from, eq-eqb, eqb-true, lt-ltb, ltb-true, le-leb, leb-true, cases_Bool}
 use Rattle.std.proofs.lemmas.List.{length-map}
-use Rattle.combine.specs.Chosen.{combined_by, chosen_is_rule}
+use Rattle.combine.specs.Rule.{combined_by}
+use Rattle.combine.specs.Laws.{chosen_is_rule}
 use Rattle.label.specs.Labels.{generals}
 use Rattle.label.specs.Oral.{IsBound}
 use Rattle.label.specs.Lieutenants.{lieutenants, AgreeInList}

@@ -89,13 +89,20 @@ loyal_letter K s before g =
     faithful_letter_with g (suc (length before)) (K.context s before g)
     (record { relay = K.relay s before g; rows = K.rows s before g; entries = K.entries s before g })
 
+-- the letter of a part, or none: an activation's, or a loyal general's who has posted it
+abbrev pub letter_of_part : (Activation → Letter) → Letter → Option Part → List Letter
+letter_of_part acted loyal (Some (Acting a)) = acted a ∷ []
+letter_of_part acted loyal (Some Silent) = []
+letter_of_part acted loyal (Some Posted) = loyal ∷ []
+letter_of_part acted loyal None = []
+
 -- a general's letter as he stands, or none
 abbrev pub letters_at : Kind → World → ℕ → Option Part → List Letter
-letters_at K w g (Some (Acting a)) =
-    traitor_letter_with K w.scenario w.closed g (program_of w.scenario g) (accesses_of g (drop w.opened w.ledger)) a.state.steps a ∷ []
-letters_at K w g (Some Silent) = []
-letters_at K w g (Some Posted) = loyal_letter K w.scenario w.closed g ∷ []
-letters_at K w g None = []
+letters_at K w g part =
+    letter_of_part
+    (λ a. traitor_letter_with K w.scenario w.closed g (program_of w.scenario g)
+    (accesses_of g (drop w.opened w.ledger)) a.state.steps a)
+    (loyal_letter K w.scenario w.closed g) part
 
 -- the letters of the open round, by general: what closing it makes of where each stands
 abbrev pub round_letters : Kind → World → List Letter
@@ -108,7 +115,8 @@ served w g (Asks request answered) =
     let answer = reply w.words request in
     record w {
       words = next w.words request;
-      ledger = w.ledger ++ record { general = g; round = suc (length w.closed); request = request; reply = answer } ∷ [];
+      ledger =
+          w.ledger ++ record { general = g; round = suc (length w.closed); request = request; reply = answer } ∷ [];
       parts = slice_set w.parts g (Acting (answered answer));
     }
 served w g Ended = w
@@ -125,7 +133,8 @@ posting w g _ = w
 
 -- the letters of the round are made and kept, and the next round begins
 abbrev pub closing : Kind → World → World
-closing K w = begun K w.scenario (w.closed ++ round_letters K w ∷ []) w.words w.ledger (w.full && list_all owes_no_letter w.parts)
+closing K w =
+    begun K w.scenario (w.closed ++ round_letters K w ∷ []) w.words w.ledger (w.full && list_all owes_no_letter w.parts)
 
 -- what an event does; a refused one, a tick of an ended activation and a second post change nothing
 abbrev pub happen : Kind → World → Event → World

@@ -48,4 +48,5 @@ rounds_of s letters = each (suc s.bound) (λ r. letters_by s.generals (suc r) le
 
 -- the letters, in whatever order, are one for each general and round, and the ledger has their accesses and no others
 abbrev pub IsAccounted : Kind → Scenario → List Access → List Letter → Type 0
-IsAccounted K s ledger letters = (length letters ≡ suc s.bound * s.generals) × AreAccounted K s [] ledger (rounds_of s letters)
+IsAccounted K s ledger letters =
+    (length letters ≡ suc s.bound * s.generals) × AreAccounted K s [] ledger (rounds_of s letters)

@@ -1,6 +1,5 @@
 -- How code holds a world of some kind, and what one event leaves of its parts and its board (own). `apply` of both
--- worlds cites `IsAnswer` of this:
--- which error comes. What a world is and does, Kind.antt says.
+-- worlds cites `IsAnswer` of this: which error comes. What a world is and does, Kind.antt says.
 use Rattle.std.specs.Prelude.{ℕ, suc, ◌≡◌, ◌≤◌, ◌-◌, cond, Bool, List, [], ◌∷◌, length, slice_set, slice_get, Option, None, Some}
 use Rattle.board.specs.Board.{Access}
 use Rattle.board.specs.Ledger.{RecordedBoard}
@@ -14,7 +13,7 @@ use Rattle.world.specs.declared.event.Event.TheVariants.{Post}
 use Rattle.world.specs.declared.event.EventError.{EventError}
 use Rattle.world.specs.declared.event.EventError.TheVariants.{Memory}
 use Rattle.world.specs.Part.{Part, Acting, Silent, Posted}
-use Rattle.world.specs.Kind.{Kind, World, each, accesses_of, begins, round_open, opening, run, loyal_letter}
+use Rattle.world.specs.Kind.{Kind, World, each, accesses_of, begins, round_open, opening, run, loyal_letter, letter_of_part}
 
 -- a tick enters an access, and a close keeps letters; a post takes no memory
 abbrev pub TakesMemory : Event → Type 0
@@ -53,11 +52,8 @@ steps_of _ = 0
 
 -- a general's letter, or none, from his part and the round's accesses
 abbrev pub letter_held : Kind → Scenario → List (List Letter) → List Access → ℕ → Option Part → List Letter
-letter_held K s closed accesses g (Some (Acting a)) =
-    letter_left g (suc (length closed)) (accesses_of g accesses) a ∷ []
-letter_held K s closed accesses g (Some Silent) = []
-letter_held K s closed accesses g (Some Posted) = loyal_letter K s closed g ∷ []
-letter_held K s closed accesses g None = []
+letter_held K s closed accesses g part =
+    letter_of_part (λ a. letter_left g (suc (length closed)) (accesses_of g accesses) a) (loyal_letter K s closed g) part
 
 -- the letters of a round
 abbrev pub letters_held : Kind → Scenario → List (List Letter) → List Access → List Part → List Letter

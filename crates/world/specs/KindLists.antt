@@ -72,7 +72,9 @@ ticks_of g (Some program) = replicate (length program) (Tick g)
 
 -- all loyal generals post, all traitors are ticked to their ends, the round is closed
 abbrev pub wound_up : Scenario → List Event
-wound_up s = each s.generals (λ g. post_of g (program_of s g)) ++ (each s.generals (λ g. ticks_of g (program_of s g)) ++ Close ∷ [])
+wound_up s =
+    each s.generals (λ g. post_of g (program_of s g))
+    ++ (each s.generals (λ g. ticks_of g (program_of s g)) ++ Close ∷ [])
 
 -- what an entry of a schedule says
 abbrev pub event_of : ℕ → Option (List Insn) → Event

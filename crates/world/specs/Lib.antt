@@ -18,4 +18,4 @@ pub mod Replay
 pub mod Refusals
 pub mod Playing
 pub mod Closing
-pub mod Telling
+pub mod ErrorText

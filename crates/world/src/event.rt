@@ -26,7 +26,7 @@ pub enum EventError {
 
 impl fmt::Display for EventError {
     ghost use Rattle.std.specs.Prelude.{Some};
-    ghost use Rattle.world.specs.Telling.{told};
+    ghost use Rattle.world.specs.ErrorText.{told};
 
     ghost output = { λ error. Some (told error) };
 

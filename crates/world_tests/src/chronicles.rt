@@ -102,18 +102,18 @@ fn has_refused(alloc: Global, reading: Reading, text: &str, refused: u32) -> boo
     }
 }
 
-/// Whether the scenario of two colluders has 433 bytes, and so many of its beginnings are not taken.
+/// Whether the scenario of two colluders has 431 bytes, and so many of its beginnings are not taken.
 fn has_refused_of_scenario(alloc: Global, refused: u32) -> bool {
     match joined(alloc, SEVEN, COLLUDING) {
         Ok(scenario) => {
-            scenario.len() == 433
+            scenario.len() == 431
                 && has_refused(alloc, Reading::Scenario, scenario.as_str(), refused)
         }
         Err(_) => false,
     }
 }
 
-/// A scenario has 434 beginnings: it is taken behind the four lines of the head, and behind each traitor, with the line
+/// A scenario has 432 beginnings: it is taken behind the four lines of the head, and behind each traitor, with the line
 /// feeds that follow.
 #[test]
 fn beginnings_of_texts(rt: HostRuntime) {

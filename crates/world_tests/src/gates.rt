@@ -1,7 +1,9 @@
 //! What a gate is asked before each access, and that the generals of a muster act at once.
 
-use crate::texts::{COLLUDING_AND_LOOKING, LOOKING, SETTING, SEVEN, SEVEN_AND_SIXTEEN_STEPS};
-use crate::threaded::{AGREED, count, mustered, replays, seven_adders, word};
+use crate::texts::{
+    COLLUDING_AND_LOOKING, LOOKING, SETTING, SEVEN, SEVEN_ADDERS, SEVEN_AND_SIXTEEN_STEPS,
+};
+use crate::threaded::{AGREED, count, mustered, replays, word};
 use board::Access;
 use letter::Letter;
 use semantics::Request;
@@ -159,10 +161,10 @@ const BEYOND_BOUND: Verdict = Verdict {
     bound: false,
 };
 
-/// Whether seven generals with these tables, who meet before their first access of each round, add one after another.
-fn add_together<R: Threads + Wait + Sync>(rt: &R, alloc: Global, traitors: &str) -> bool {
+/// Whether seven generals who all add, and meet before their first access of each round, add one after another.
+fn add_together<R: Threads + Wait + Sync>(rt: &R, alloc: Global) -> bool {
     let gate = Meeting::of(0, 3, 7);
-    match mustered(rt, alloc, SEVEN, traitors, &gate) {
+    match mustered(rt, alloc, SEVEN, SEVEN_ADDERS, &gate) {
         Some(chronicle) => {
             gate.is_met((7, 7, 7))
                 && count(chronicle.accesses(), 21, 0)
@@ -173,17 +175,9 @@ fn add_together<R: Threads + Wait + Sync>(rt: &R, alloc: Global, traitors: &str)
     }
 }
 
-/// Whether that is so of seven who all add.
-fn seven_come_together<R: Threads + Wait + Sync>(rt: &R, alloc: Global) -> bool {
-    match seven_adders(alloc) {
-        Ok(traitors) => add_together(rt, alloc, traitors.as_str()),
-        Err(_) => false,
-    }
-}
-
 #[test]
 fn seven_traitors_come_to_the_board_together(rt: HostRuntime) {
-    assert!(rt; seven_come_together(&rt, rt.alloc()));
+    assert!(rt; add_together(&rt, rt.alloc()));
 }
 
 /// Holds general 0 at his first access of a round until general 4 has come to his second.

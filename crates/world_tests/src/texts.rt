@@ -1,5 +1,7 @@
 //! The texts of campaigns: their keys, and the tables of their traitors.
 
+use fixtures::{campaign, counting, swaying};
+
 /// Four generals, bound 1, whose commander 0 has order 1.
 pub(crate) const FOUR: &str = "generals = 4\nbound = 1\ncommander = 0\norder = 1\n";
 
@@ -60,18 +62,7 @@ pub(crate) const SEVEN_AND_SIXTEEN_STEPS: &str =
     "generals = 7\nbound = 2\ncommander = 0\norder = 0\npatience = 16\n";
 
 /// General 3 tells 1 and 2 to retreat, in seven instructions.
-pub(crate) const SWAYING: &str = "[[traitor]]
-general = 3
-asm = '''
-mov r1, 1
-mov r2, 0
-call sway
-mov r1, 2
-mov r2, 0
-call sway
-exit
-'''
-";
+pub(crate) const SWAYING: &str = swaying!(campaign "exit\n", "", [3]);
 
 /// General 3 tells 1 to attack and 2 to retreat, in seven instructions.
 pub(crate) const TORN: &str = "[[traitor]]
@@ -169,92 +160,14 @@ exit
 ";
 
 /// Generals 0 and 4 count on the board who comes first, and tell 1, 2 and 3 whether they came second.
-pub(crate) const COLLUDING: &str = "
-[[traitor]]
-general = 0
-asm = '''
-mov r1, 0
-mov r2, 1
-call board_add
-mov r6, r0
-and r6, 1
-mov r1, 1
-mov r2, r6
-call sway
-mov r1, 2
-mov r2, r6
-call sway
-mov r1, 3
-mov r2, r6
-call sway
-exit
-'''
-
-[[traitor]]
-general = 4
-asm = '''
-mov r1, 0
-mov r2, 1
-call board_add
-mov r6, r0
-and r6, 1
-mov r1, 1
-mov r2, r6
-call sway
-mov r1, 2
-mov r2, r6
-call sway
-mov r1, 3
-mov r2, r6
-call sway
-exit
-'''
-";
+pub(crate) const COLLUDING: &str = counting!(campaign "exit\n", "", [0, 4]);
 
 /// The same, and each then gets word 63: seventeen steps.
-pub(crate) const COLLUDING_AND_LOOKING: &str = "[[traitor]]
-general = 0
-asm = '''
-mov r1, 0
-mov r2, 1
-call board_add
-mov r6, r0
-and r6, 1
-mov r1, 1
-mov r2, r6
-call sway
-mov r1, 2
-mov r2, r6
-call sway
-mov r1, 3
-mov r2, r6
-call sway
-mov r1, 63
-call board_get
-exit
-'''
-[[traitor]]
-general = 4
-asm = '''
-mov r1, 0
-mov r2, 1
-call board_add
-mov r6, r0
-and r6, 1
-mov r1, 1
-mov r2, r6
-call sway
-mov r1, 2
-mov r2, r6
-call sway
-mov r1, 3
-mov r2, r6
-call sway
-mov r1, 63
-call board_get
-exit
-'''
-";
+pub(crate) const COLLUDING_AND_LOOKING: &str =
+    counting!(campaign "mov r1, 63\ncall board_get\nexit\n", "", [0, 4]);
+
+/// Seven generals, all of whom count so, and tell 1, 2 and 3 whether the count was odd.
+pub(crate) const SEVEN_ADDERS: &str = counting!(campaign "exit\n", "", [0, 1, 2, 3, 4, 5, 6]);
 
 /// Generals 5 and 6 each set the word of their number to 1, and get the other's.
 pub(crate) const SETTING: &str = "[[traitor]]

@@ -10,53 +10,12 @@ use std::thread::Threads;
 use threads::{Gate, muster};
 use world::{Chronicle, Verdict, replay};
 
-/// Adds 1 to word 0, and tells 1, 2 and 3 the last bit of what the word was.
-const ADDER: &str = "asm = '''
-mov r1, 0
-mov r2, 1
-call board_add
-mov r6, r0
-and r6, 1
-mov r1, 1
-mov r2, r6
-call sway
-mov r1, 2
-mov r2, r6
-call sway
-mov r1, 3
-mov r2, r6
-call sway
-exit
-'''
-";
-
 /// What stands of a verdict where the commander is a traitor, and the bound holds.
 pub(crate) const AGREED: Verdict = Verdict {
     alike: true,
     obeyed: None,
     bound: true,
 };
-
-/// The heads of the tables of seven traitors.
-const ALL: &[&str] = &[
-    "[[traitor]]\ngeneral = 0\n",
-    "[[traitor]]\ngeneral = 1\n",
-    "[[traitor]]\ngeneral = 2\n",
-    "[[traitor]]\ngeneral = 3\n",
-    "[[traitor]]\ngeneral = 4\n",
-    "[[traitor]]\ngeneral = 5\n",
-    "[[traitor]]\ngeneral = 6\n",
-];
-
-/// The tables of seven traitors, all of whom add.
-pub(crate) fn seven_adders(alloc: Global) -> Result<String, AllocError> {
-    let mut text = String::new(alloc);
-    for head in ALL {
-        text.push_str(*head)?;
-        text.push_str(ADDER)?;
-    }
-    Ok(text)
-}
 
 /// The chronicle of a campaign whose generals act in threads; none where it is not mustered.
 pub(crate) fn mustered<R: Threads + Wait + Sync, G: Gate + Sync>(

@@ -1,9 +1,9 @@
 //! The call that audits a chronicle, and chronicles that are cut off or changed.
+use crate::chronicles::{Messages, audited, told, told_freely};
 use crate::hostile::campaign::Campaign;
 use crate::hostile::changes::{next, with_byte};
 use crate::hostile::marks::{back, ready};
 use crate::hostile::outcome::{Outcome, Told, compared};
-use crate::told::{Messages, audited, told, told_freely};
 use anyhow::{Result, bail};
 use roster::Scenario;
 use std::alloc::{AllocError, Global};

@@ -1,4 +1,4 @@
-use crate::told::Messages;
+use crate::chronicles::Messages;
 
 /// A call that takes memory.
 #[derive(Clone, Copy)]

@@ -1,8 +1,10 @@
 //! The campaigns on which the calls are made.
-use crate::told::{Messages, scenario_of};
+use crate::chronicles::{Messages, scenario_of};
+use crate::texts::COLLUDING;
 use anyhow::{Result, bail};
 use asm::assemble;
 use codec::encode;
+use fixtures::{campaign, counting, swaying};
 use insn::Program;
 use roster::Scenario;
 use std::alloc::{AllocError, Global};
@@ -24,36 +26,16 @@ pub enum Campaign {
 pub const CAMPAIGNS: &[Campaign] = &[Campaign::Four, Campaign::Seven, Campaign::Copying];
 
 /// Tells 1 and 2 the order 0.
-const SWAYING: &str = "mov r1, 1
-mov r2, 0
-call sway
-mov r1, 2
-mov r2, 0
-call sway
-exit
-";
+const SWAYING: &str = swaying!(concat "exit\n");
 
 /// Adds 1 to word 0, and tells 1, 2 and 3 the last bit of what the word was.
-const COUNTING: &str = "mov r1, 0
-mov r2, 1
-call board_add
-mov r6, r0
-and r6, 1
-mov r1, 1
-mov r2, r6
-call sway
-mov r1, 2
-mov r2, r6
-call sway
-mov r1, 3
-mov r2, r6
-call sway
-exit
-";
+const COUNTING: &str = counting!(concat "exit\n");
 
 /// Copies four words of the board to the stack. In round 1 it then leaves 9 in word 0, later it tells 1 what it found
-/// there.
-const COPYING: &str = "ldw r6, [r1+16]
+/// there. So much of a program stands before these words in what this macro is given.
+macro_rules! copying {
+    ($form:ident $($words:tt)*) => {
+        $form!("ldw r6, [r1+16]
 mov r1, 0
 mov r2, r10
 add r2, -64
@@ -69,195 +51,65 @@ first: mov r1, 0
 mov r2, 9
 call board_swap
 done: mov r0, 0
-exit
-";
+", $($words)*)
+    };
+}
+
+/// The program that copies.
+const COPYING: &str = copying!(concat "exit\n");
+
+/// The same of one that signs: the order 1 for 1 and the order 0 for 2, which the commander alone can, and passes on to
+/// all the first two chains that he holds.
+macro_rules! signing {
+    ($form:ident $($words:tt)*) => {
+        $form!("mov r1, 1
+mov r2, 2
+call sign_order
+mov r1, 0
+mov r2, 4
+call sign_order
+mov r1, 0
+mov r2, 8191
+call pass_on
+mov r1, 1
+mov r2, 8191
+call pass_on
+", $($words)*)
+    };
+}
 
 /// The scenario of `Four`.
-const FOUR: &str = "generals = 4
-bound = 1
-commander = 0
-order = 1
-[[traitor]]
-general = 3
-asm = '''
-mov r1, 1
-mov r2, 0
-call sway
-mov r1, 2
-mov r2, 0
-call sway
-exit
-'''
-";
-
-/// The scenario of `Seven`.
-const SEVEN: &str = "generals = 7
-bound = 2
-commander = 0
-order = 0
-[[traitor]]
-general = 0
-asm = '''
-mov r1, 0
-mov r2, 1
-call board_add
-mov r6, r0
-and r6, 1
-mov r1, 1
-mov r2, r6
-call sway
-mov r1, 2
-mov r2, r6
-call sway
-mov r1, 3
-mov r2, r6
-call sway
-exit
-'''
-[[traitor]]
-general = 4
-asm = '''
-mov r1, 0
-mov r2, 1
-call board_add
-mov r6, r0
-and r6, 1
-mov r1, 1
-mov r2, r6
-call sway
-mov r1, 2
-mov r2, r6
-call sway
-mov r1, 3
-mov r2, r6
-call sway
-exit
-'''
-";
+const FOUR: &str = swaying!(
+    campaign "exit\n", "generals = 4\nbound = 1\ncommander = 0\norder = 1\n", [3]
+);
 
 /// The scenario of `Copying`.
-const FOUR_WHO_COPY: &str = "generals = 4
-bound = 1
-commander = 0
-order = 1
-patience = 20
-rule = \"median\"
-[[traitor]]
-general = 3
-asm = '''
-ldw r6, [r1+16]
-mov r1, 0
-mov r2, r10
-add r2, -64
-mov r3, 4
-call board_copy
-ldd r7, [r10-64]
-jeq r6, 1, first
-mov r1, 1
-mov r2, r7
-call sway
-ja done
-first: mov r1, 0
-mov r2, 9
-call board_swap
-done: mov r0, 0
-exit
-'''
-";
+const FOUR_WHO_COPY: &str = copying!(
+    campaign "exit\n",
+    "generals = 4\nbound = 1\ncommander = 0\norder = 1\npatience = 20\nrule = \"median\"\n",
+    [3]
+);
 
-/// The scenario of `Four`, in which the same general signs his orders: the order 1 for 1 and the order 0 for 2, which
-/// the commander alone can, and passes on to all the first two chains that he holds.
-const FOUR_SIGNED: &str = "generals = 4
-bound = 1
-commander = 0
-order = 1
-messages = \"signed\"
-[[traitor]]
-general = 3
-asm = '''
-mov r1, 1
-mov r2, 2
-call sign_order
-mov r1, 0
-mov r2, 4
-call sign_order
-mov r1, 0
-mov r2, 8191
-call pass_on
-mov r1, 1
-mov r2, 8191
-call pass_on
-exit
-'''
-";
+/// The scenario of `Four`, in which the same general signs.
+const FOUR_SIGNED: &str = signing!(
+    campaign "exit\n",
+    "generals = 4\nbound = 1\ncommander = 0\norder = 1\nmessages = \"signed\"\n",
+    [3]
+);
 
 /// The same of `Seven`.
-const SEVEN_SIGNED: &str = "generals = 7
-bound = 2
-commander = 0
-order = 0
-messages = \"signed\"
-[[traitor]]
-general = 0
-asm = '''
-mov r1, 1
-mov r2, 2
-call sign_order
-mov r1, 0
-mov r2, 4
-call sign_order
-mov r1, 0
-mov r2, 8191
-call pass_on
-mov r1, 1
-mov r2, 8191
-call pass_on
-exit
-'''
-[[traitor]]
-general = 4
-asm = '''
-mov r1, 1
-mov r2, 2
-call sign_order
-mov r1, 0
-mov r2, 4
-call sign_order
-mov r1, 0
-mov r2, 8191
-call pass_on
-mov r1, 1
-mov r2, 8191
-call pass_on
-exit
-'''
-";
+const SEVEN_SIGNED: &str = signing!(
+    campaign "exit\n",
+    "generals = 7\nbound = 2\ncommander = 0\norder = 0\nmessages = \"signed\"\n",
+    [0, 4]
+);
 
 /// The same of `Copying`.
-const FOUR_SIGNED_WITH_PATIENCE: &str = "generals = 4
-bound = 1
-commander = 0
-order = 1
-patience = 20
-messages = \"signed\"
-[[traitor]]
-general = 3
-asm = '''
-mov r1, 1
-mov r2, 2
-call sign_order
-mov r1, 0
-mov r2, 4
-call sign_order
-mov r1, 0
-mov r2, 8191
-call pass_on
-mov r1, 1
-mov r2, 8191
-call pass_on
-exit
-'''
-";
+const FOUR_SIGNED_WITH_PATIENCE: &str = signing!(
+    campaign "exit\n",
+    "generals = 4\nbound = 1\ncommander = 0\norder = 1\npatience = 20\nmessages = \"signed\"\n",
+    [3]
+);
 
 /// Events, each so many times.
 type Turns = &'static [(Event, u32)];
@@ -325,7 +177,7 @@ impl Campaign {
     pub fn text(self) -> &'static str {
         match self {
             Campaign::Four => FOUR,
-            Campaign::Seven => SEVEN,
+            Campaign::Seven => COLLUDING,
             Campaign::Copying => FOUR_WHO_COPY,
         }
     }

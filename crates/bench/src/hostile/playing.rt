@@ -1,9 +1,9 @@
 //! The calls on worlds: opened, led on event by event, played, and mustered.
+use crate::chronicles::{Messages, text, told_freely};
 use crate::hostile::campaign::Campaign;
 use crate::hostile::marks::{back, ready};
 use crate::hostile::outcome::{Outcome, Told, compared, led};
 use crate::hostile::worlds::{Led, Made};
-use crate::told::{Messages, text, told_freely};
 use anyhow::{Result, bail};
 use roster::Scenario;
 use std::alloc::{AllocError, Global};

@@ -1,9 +1,9 @@
 //! The calls that read scenarios and schedules, and schedules that chance has made.
+use crate::chronicles::{Messages, played, told, told_freely};
 use crate::hostile::campaign::Campaign;
 use crate::hostile::changes::next;
 use crate::hostile::marks::{back, ready};
 use crate::hostile::outcome::{Outcome, Told, compared};
-use crate::told::{Messages, played, told, told_freely};
 use anyhow::{Result, bail};
 use roster::Scenario;
 use scenario::{ScenarioError, read};

@@ -1,5 +1,5 @@
 //! Worlds and chronicles of oral or of signed messages.
-use crate::told::{Messages, signed_text, text};
+use crate::chronicles::{Messages, signed_text, text};
 use anyhow::{Result, bail};
 use arrayvec::ArrayVec;
 use roster::Scenario;

@@ -1,7 +1,7 @@
 //! Writers that fail, and what they have taken then.
+use crate::chronicles::{Messages, freely, signed_text, text};
 use crate::hostile::campaign::Campaign;
 use crate::hostile::writer::Writer;
-use crate::told::{Messages, freely, signed_text, text};
 use anyhow::{Result, bail};
 use signed::{SignedChronicle, play_signed};
 use std::alloc::Global;

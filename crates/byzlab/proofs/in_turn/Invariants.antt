@@ -1,4 +1,4 @@
-use Rattle.byzlab.specs.Telling.{IsStatus}
+use Rattle.byzlab.specs.Failures.{IsStatus}
 use Rattle.byzlab.proofs.in_turn.Given as goal
 
 abbrev pub invariant-loop-index : goal.invariant-loop-index

@@ -2,7 +2,8 @@ use Rattle.std.proofs.Common.{◌≡◌, ◌<◌, ◌∙◌, ◌-◌, ◌++◌, 
 use Rattle.std.specs.Fmt.{decimal}
 use Rattle.std.specs.String.{string_bytes}
 use Rattle.label.specs.Labels.{others}
-use Rattle.combine.specs.Outcome.{outcome_of, outcome_words}
+use Rattle.combine.specs.Rule.{outcome_of}
+use Rattle.combine.specs.Outcome.{outcome_words}
 use Rattle.book.specs.Explained.{element, held, list_lines, part}
 use Rattle.book.proofs.Gathering.{few_others, text_yes, text_no, lines_yes, lines_no, map_no, on_first, on_behind, off_first}
 use Rattle.book.proofs.ListLemmas.{place_off, held_last, lines_last, own_more, other_more, held_all, lines_all}

@@ -6,5 +6,5 @@ use Rattle.campaign_page.proofs.sections.put_each_program.Goals as goal
 
 pub loop-general-preserved : goal.loop-general-preserved
 loop-general-preserved c =
-    let piece = program_part c.args.scenario.now in
+    let piece = program_part c.args.room c.args.scenario.now in
     c.in_ok-put_program_of.ensures ∙ (ap (λ xs. xs ++ piece c.loop-general.general) c.loop-general.invariant ∙ range_text piece c.loop-general.general (string_bytes c.args.out.now))

@@ -5,4 +5,4 @@ use Rattle.campaign_page.specs.Account.{program_part}
 use Rattle.campaign_page.proofs.sections.put_each_program.Given as goal
 
 abbrev pub invariant-loop-general : goal.invariant-loop-general
-invariant-loop-general l = string_bytes l.out ≡ string_bytes l.fn.out ++ flat_map (program_part l.scenario) (range_with_len 0 l.general)
+invariant-loop-general l = string_bytes l.out ≡ string_bytes l.fn.out ++ flat_map (program_part l.room l.scenario) (range_with_len 0 l.general)

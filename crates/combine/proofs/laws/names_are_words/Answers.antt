@@ -1,4 +1,4 @@
-use Rattle.combine.proofs.NameLaws.{names_law}
+use Rattle.combine.proofs.RuleLaws.{names_law}
 use Rattle.combine.proofs.laws.names_are_words.Goals as goal
 
 pub returns : goal.returns

@@ -1,4 +1,4 @@
-use Rattle.combine.proofs.Found.{outcomes_law}
+use Rattle.combine.proofs.RuleLaws.{outcomes_law}
 use Rattle.combine.proofs.laws.outcomes_combine.Goals as goal
 
 pub returns : goal.returns

@@ -1,10 +1,9 @@
-use Rattle.std.proofs.Common.{rules, ◌≡◌, ◌≢◌, ◌∙◌, Some, subst, sym, true}
-use Rattle.clap.specs.Words.{kind_of, subcommand_rows_of}
-use Rattle.clap.specs.declared.error.kind.ErrorKind.TheVariants.{OutOfMemory}
+use Rattle.std.proofs.Common.{◌≡◌, ◌∙◌, Some, subst, sym, true}
+use Rattle.clap.specs.Words.{subcommand_rows_of}
 use Rattle.command_line.specs.Asked.{words_of}
 use Rattle.command_line.specs.Met.{has_places, told_by}
-use Rattle.command_line.specs.Told.{Told}
-use Rattle.command_line.proofs.CallLemmas.{error_is_refused, kind_among, misuse_is_told, none_found, some_met, task_found, request_is_asked}
+use Rattle.command_line.specs.Tasks.{Told}
+use Rattle.command_line.proofs.CallLemmas.{error_is_refused, misuse_is_told, some_met, task_found, told_among, told_no_misuse, told_not_memory, told_unasked, request_is_asked}
 use Rattle.command_line.proofs.reading.request.Goals as goal
 
 pub of-requires : goal.of-requires
@@ -39,12 +38,18 @@ returns-in-Ok-clause-misused c =
     c.in-Ok.ensures.kinds (λ e. (c.in-Ok.ensures.matches e).1) in
     misuse_is_told (words_of c.args.words.now) (told_by c.of.result) (found.spelt_is ∙ sym (c.of.ensures ∙ found.met_is)) c.request.result c.request.ensures.refused
 
-pub returns-else-eq-clause-refused : goal.returns-else-eq-clause-refused
-returns-else-eq-clause-refused c =
-    let apart : kind_of c.in-Err.error ≢ OutOfMemory = search rules in
-    none_found _ (words_of c.args.words.now) (kind_of c.in-Err.error) c.in_ok-lab.ensures.shape c.in-Err.ensures.kinds apart
+pub returns-in-Err-clause-refused : goal.returns-in-Err-clause-refused
+returns-in-Err-clause-refused c =
+    told_unasked _ (words_of c.args.words.now) c.in-Err.error c.refused.result c.refused.ensures
+    c.in_ok-lab.ensures.shape c.in-Err.ensures.kinds
 
-pub returns-else-eq-clause-kind : goal.returns-else-eq-clause-kind
-returns-else-eq-clause-kind c =
-    let apart : kind_of c.in-Err.error ≢ OutOfMemory = search rules in
-    kind_among _ (words_of c.args.words.now) (kind_of c.in-Err.error) c.in_ok-lab.ensures.shape c.in-Err.ensures.kinds apart
+pub returns-in-Err-clause-kind : goal.returns-in-Err-clause-kind
+returns-in-Err-clause-kind c =
+    told_among _ (words_of c.args.words.now) c.in-Err.error c.refused.result c.refused.ensures
+    c.in_ok-lab.ensures.shape c.in-Err.ensures.kinds
+
+pub returns-in-Err-clause-not_memory : goal.returns-in-Err-clause-not_memory
+returns-in-Err-clause-not_memory c = told_not_memory c.in-Err.error c.refused.result c.refused.ensures
+
+pub returns-in-Err-clause-misused : goal.returns-in-Err-clause-misused
+returns-in-Err-clause-misused c = told_no_misuse _ c.in-Err.error c.refused.result c.refused.ensures

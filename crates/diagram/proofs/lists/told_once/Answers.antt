@@ -1,8 +1,9 @@
 use Rattle.std.proofs.Common.{◌≡◌, ◌∙◌, ◌∷◌, ◌++◌, [], List, ap, sym, arith, get_or, cond, refl, append-nil}
 use Rattle.std.proofs.lemmas.List.{take_all}
 use Rattle.diagram.specs.declared.telling.Telling.{Telling}
-use Rattle.diagram.specs.Lists.{firsts, is_same}
-use Rattle.diagram.proofs.ListLemmas.{firsts_more}
+use Rattle.diagram.specs.Lists.{is_same}
+use Rattle.diagram.specs.Order.{firsts}
+use Rattle.diagram.proofs.OrderLemmas.{firsts_more}
 use Rattle.diagram.proofs.TallyLemmas.{nothing_told, seen_more, was_new, was_seen}
 use Rattle.diagram.proofs.lists.told_once.Goals as goal
 use Rattle.diagram.proofs.lists.told_once.Goals.{then-branch+in_ok-push, else-branch}

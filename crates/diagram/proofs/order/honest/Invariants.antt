@@ -1,8 +1,8 @@
-use Rattle.std.proofs.Common.{◌≡◌, take}
+use Rattle.std.proofs.Common.{◌≡◌, not, take}
 use Rattle.std.specs.Prelude.{filter}
-use Rattle.diagram.specs.Lists.{is_honest}
+use Rattle.diagram.specs.Lists.{is_lie}
 use Rattle.diagram.proofs.order.honest.Given as goal
 
 -- those so far
 abbrev pub invariant-loop-telling : goal.invariant-loop-telling
-invariant-loop-telling l = l.kept.items ≡ filter is_honest (take l.telling-index l.list)
+invariant-loop-telling l = l.kept.items ≡ filter (λ x. not (is_lie x)) (take l.telling-index l.list)

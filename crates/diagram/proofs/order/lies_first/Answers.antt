@@ -1,6 +1,8 @@
 use Rattle.std.proofs.Common.{◌∙◌, arith, get_or, refl}
 use Rattle.diagram.specs.declared.telling.Telling.{Telling}
-use Rattle.diagram.proofs.ListLemmas.{parted_all, parted_more}
+use Rattle.diagram.specs.Lists.{teller}
+use Rattle.diagram.proofs.ListLemmas.{parted_all}
+use Rattle.diagram.proofs.OrderLemmas.{parted_more}
 use Rattle.diagram.proofs.TallyLemmas.{nothing_told}
 use Rattle.diagram.proofs.order.lies_first.Goals as goal
 
@@ -9,7 +11,7 @@ loop-lie-preserved c =
     let xs = c.deref-lie-items.result.now in
     let i = c.loop-lie.lie-index in
     let x : Telling = get_or xs i nothing_told in
-    parted_more xs i x nothing_told c.is_by_one_of-is_other.result c.as_slice.result.now c.loop-lie.rows.items c.loop-lie.others.items c.push_if.new.kept.items c.push_if-in-loop-lie.new.kept.items
+    parted_more teller xs i x nothing_told c.is_by_one_of-is_other.result c.as_slice.result.now c.loop-lie.rows.items c.loop-lie.others.items c.push_if.new.kept.items c.push_if-in-loop-lie.new.kept.items
     (let l = c.loop-lie-test.true in omega arith) refl c.as_slice.ensures.value c.is_by_one_of-is_other.ensures c.loop-lie.invariant.0 c.loop-lie.invariant.1
     c.in_ok-push_if.ensures c.in_ok-push_if-2.ensures
 

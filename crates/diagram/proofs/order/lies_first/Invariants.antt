@@ -1,8 +1,9 @@
 use Rattle.std.proofs.Common.{◌≡◌, [], take}
-use Rattle.diagram.specs.Lists.{firsts, is_by_same, repeats}
+use Rattle.diagram.specs.Lists.{teller}
+use Rattle.diagram.specs.Order.{firsts, is_by_one, repeats}
 use Rattle.diagram.proofs.order.lies_first.Given as goal
 
 -- those of the first so many lies
 abbrev pub invariant-loop-lie : goal.invariant-loop-lie
 invariant-loop-lie l =
-    (l.rows.items ≡ firsts is_by_same [] (take l.lie-index l.lie-items)) × (l.others.items ≡ repeats is_by_same [] (take l.lie-index l.lie-items))
+    (l.rows.items ≡ firsts (is_by_one teller) [] (take l.lie-index l.lie-items)) × (l.others.items ≡ repeats (is_by_one teller) [] (take l.lie-index l.lie-items))

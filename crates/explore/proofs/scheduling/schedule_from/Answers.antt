@@ -9,7 +9,7 @@ use Rattle.explore.proofs.scheduling.schedule_from.Goals as goal
 pub returns-in-Stuck : goal.returns-in-Stuck
 returns-in-Stuck g c =
     let K = g.W.Plays.kind in
-    let start = g.W.Plays.seen c.args.world.now in
+    let start = g.W.Plays.seen c.args.world in
     let w = g.W.Plays.seen c.loop-round.world in
     let lt : c.loop-round.round < length c.args.names.now = omega arith in
     let at = lists_at c.args.names.now c.loop-round.round c.index-names-round.result lt c.index-names-round.is in
@@ -20,7 +20,7 @@ returns-in-Stuck g c =
 pub loop-round-preserved : goal.loop-round-preserved
 loop-round-preserved g c =
     let K = g.W.Plays.kind in
-    let start = g.W.Plays.seen c.args.world.now in
+    let start = g.W.Plays.seen c.args.world in
     let w = g.W.Plays.seen c.loop-round.world in
     let v = g.W.Plays.seen c.line_of.new.world in
     let lt : c.loop-round.round < length c.args.names.now = omega arith in

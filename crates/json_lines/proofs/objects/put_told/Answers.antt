@@ -1,5 +1,5 @@
 use Rattle.serde_json.specs.View.{members_view}
-use Rattle.json_lines.proofs.ToldLemmas.{all_fit}
+use Rattle.json_lines.proofs.ValueLemmas.{all_fit}
 use Rattle.json_lines.proofs.objects.put_told.Goals as goal
 
 pub returns : goal.returns

@@ -1,7 +1,7 @@
 use Rattle.std.specs.Prelude.{option_map}
 use Rattle.lab.specs.Serving.{IsRefusedLater}
 use Rattle.lab.specs.declared.first_answer.FirstAnswer.TheVariants.{DrawRecorded}
-use Rattle.lab.specs.Whys.{Nothing}
+use Rattle.faults.specs.Whys.{Nothing}
 use Rattle.lab.proofs.WhyLemmas.{stops_later}
 use Rattle.lab.proofs.behind.draw_record.Goals as goal
 

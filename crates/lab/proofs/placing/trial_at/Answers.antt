@@ -1,8 +1,7 @@
 use Rattle.std.specs.Prelude.{option_map}
 use Rattle.lab.specs.Serving.{IsRefusedLater}
-use Rattle.lab.specs.Whys.{is_explained}
+use Rattle.faults.specs.Whys.{is_explained, Nothing}
 use Rattle.lab.specs.declared.first_answer.FirstAnswer.TheVariants.{Trial}
-use Rattle.lab.specs.Whys.{Nothing}
 use Rattle.lab.proofs.WhyLemmas.{stops_later}
 use Rattle.lab.proofs.placing.trial_at.Goals as goal
 

@@ -2,7 +2,7 @@ use Rattle.std.proofs.Common.{List, ℕ, refl, subst}
 use Rattle.std.proofs.lemmas.Result.{IfErr-weaker, IfOk-weaker}
 use Rattle.lab.specs.Hints.{explained_in}
 use Rattle.lab.specs.Serving.{Files, IsTrialAt, files}
-use Rattle.lab.specs.Whys.{is_explained}
+use Rattle.faults.specs.Whys.{is_explained}
 use Rattle.lab.specs.declared.first_answer.FirstAnswer.TheVariants.{Trial}
 use Rattle.lab.proofs.FilesLemmas.{prevented_later, second_named}
 use Rattle.lab.proofs.FirstLemmas.{prevented_first}

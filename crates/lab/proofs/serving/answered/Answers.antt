@@ -2,16 +2,16 @@ use Rattle.std.proofs.Common.{ℕ, ◌≡◌, [], List, ap, refl, subst, sym}
 use Rattle.std.proofs.lemmas.Result.{IfErr-weaker, IfOk-weaker}
 use Rattle.lab.specs.Answers.{ComesTo, Prints}
 use Rattle.lab.specs.Hints.{explained_in}
-use Rattle.lab.specs.Whys.{Nothing, TellsWhyOf, is_explained}
+use Rattle.faults.specs.Whys.{Nothing, TellsWhyOf, is_explained}
 use Rattle.lab.specs.Serving.{Files, IsTrialOf, files}
 use Rattle.lab.specs.declared.first_answer.FirstAnswer.TheVariants.{Text, Bytes, Trial, Play, Muster, Audit, Draw, DrawRecorded, Page, PageRecorded, Retrace}
 use Rattle.lab.proofs.FilesLemmas.{answered_alone, answered_audited, answered_drawn, answered_mustered, answered_page_recorded, answered_paged, answered_played, answered_recorded, answered_retraced, answered_tried, prevented_later, second_named}
-use Rattle.lab.specs.Faults.{IsToldIf}
-use Rattle.lab.specs.declared.failure.Failure.{Failure}
-use Rattle.lab.specs.declared.refusal.Refusal.{Refusal}
-use Rattle.lab.specs.Refusals.{RefusesMuster}
+use Rattle.faults.specs.Faults.{IsToldIf}
+use Rattle.faults.specs.declared.failure.Failure.{Failure}
+use Rattle.inputs.specs.declared.refusal.Refusal.{Refusal}
+use Rattle.campaign_tasks.specs.Refusals.{RefusesMuster}
 use Rattle.lab.proofs.FirstLemmas.{prevented_first}
-use Rattle.lab.proofs.RefusalLemmas.{either_err, either_ok}
+use Rattle.lab.proofs.MusterLemmas.{either_err, either_ok}
 use Rattle.lab.proofs.WhyLemmas.{unmustered}
 use Rattle.lab.proofs.serving.answered.Goals as goal
 

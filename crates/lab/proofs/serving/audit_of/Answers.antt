@@ -1,7 +1,7 @@
 use Rattle.std.specs.Prelude.{option_map}
 use Rattle.lab.specs.Serving.{IsRefusedLater}
 use Rattle.lab.specs.declared.first_answer.FirstAnswer.TheVariants.{Audit}
-use Rattle.lab.specs.Whys.{Chronicle}
+use Rattle.faults.specs.Whys.{Chronicle}
 use Rattle.lab.proofs.WhyLemmas.{stops_later}
 use Rattle.lab.proofs.serving.audit_of.Goals as goal
 

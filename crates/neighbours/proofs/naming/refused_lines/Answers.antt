@@ -1,7 +1,7 @@
 use Rattle.std.proofs.Common.{◌≡◌, ◌∙◌, ◌++◌, ℕ, List, ap, append_assoc, string_bytes}
 use Rattle.std.specs.Prelude.{codes, decimal}
 use Rattle.std.proofs.lemmas.Result.{IfOk-weaker}
-use Rattle.elf.specs.Telling.{told}
+use Rattle.elf.specs.ErrorText.{told}
 use Rattle.references.specs.Names.{reference_of}
 use Rattle.neighbours.proofs.naming.refused_lines.Goals as goal
 

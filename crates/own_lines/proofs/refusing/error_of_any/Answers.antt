@@ -1,5 +1,5 @@
 use Rattle.toml.specs.Parse.{parse_document}
-use Rattle.scenario.specs.Told.{ReadsAny}
+use Rattle.scenario.specs.Reading.{ReadsAny}
 use Rattle.own_lines.specs.Refused.{IsErrorOf}
 use Rattle.own_lines.specs.declared.refusing.Taken.TheVariants.{Any}
 use Rattle.own_lines.proofs.Errors.{error_told}

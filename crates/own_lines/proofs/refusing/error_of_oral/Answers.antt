@@ -1,5 +1,5 @@
 use Rattle.toml.specs.Parse.{parse_document}
-use Rattle.scenario.specs.Told.{Reads}
+use Rattle.scenario.specs.Reading.{Reads}
 use Rattle.own_lines.specs.Refused.{IsErrorOf}
 use Rattle.own_lines.specs.declared.refusing.Taken.TheVariants.{Oral}
 use Rattle.own_lines.proofs.Errors.{error_told}

@@ -4,7 +4,7 @@ use Rattle.std.specs.List.{range_with_len}
 use Rattle.label.specs.Labels.{labels}
 use Rattle.label.specs.Oral.{order_of}
 use Rattle.resolve.specs.Decided.{decided, child, order_at_rank}
-use Rattle.combine.specs.Told.{with_own}
+use Rattle.combine.specs.Orders.{with_own}
 use Rattle.resolve.proofs.Steps.{step-last, step-more, more-before, own-put, more-behind, few-before, few-behind, rank-small, first-fits}
 use Rattle.label.proofs.Parts.{part-within, part-long, rank-within}
 use Rattle.resolve.proofs.Lowest.{step-one}

@@ -4,7 +4,7 @@ use Rattle.toml.specs.Data.{get_member}
 use Rattle.toml.specs.View.{table_view, items_view}
 use Rattle.scenario.specs.declared.messages.Kinds.TheVariants.{Both}
 use Rattle.scenario.specs.Checks.{head, tables}
-use Rattle.scenario.specs.Told.{campaign_of}
+use Rattle.scenario.specs.Reading.{campaign_of}
 use Rattle.scenario.proofs.Answering.{headed_fails, begun_fails, campaign_told, campaign_failed}
 use Rattle.scenario.proofs.reader.campaign.Goals as goal
 

@@ -2,7 +2,7 @@ use Rattle.std.proofs.Common.{rules, ◌≡◌, None}
 use Rattle.toml.specs.Parse.{parse_document}
 use Rattle.scenario.specs.declared.messages.Kinds.TheVariants.{Both}
 use Rattle.scenario.specs.Checks.{head}
-use Rattle.scenario.specs.Told.{campaign_of}
+use Rattle.scenario.specs.Reading.{campaign_of}
 use Rattle.scenario.proofs.Answering.{reads_unparsed}
 use Rattle.scenario.proofs.reader.read_any.Goals as goal
 

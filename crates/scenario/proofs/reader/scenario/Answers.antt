@@ -4,7 +4,7 @@ use Rattle.toml.specs.Data.{get_member}
 use Rattle.toml.specs.View.{table_view}
 use Rattle.scenario.specs.declared.messages.Kinds.TheVariants.{OralAlone}
 use Rattle.scenario.specs.Checks.{head, tables}
-use Rattle.scenario.specs.Told.{scenario_of}
+use Rattle.scenario.specs.Reading.{scenario_of}
 use Rattle.scenario.proofs.Answering.{headed_fails, begun_fails}
 use Rattle.scenario.proofs.reader.scenario.Goals as goal
 

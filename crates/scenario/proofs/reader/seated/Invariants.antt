@@ -2,7 +2,7 @@ use Rattle.std.proofs.Common.{◌≡◌, length, drop, Result}
 use Rattle.toml.specs.View.{items_view}
 use Rattle.roster.specs.Scenario.{Scenario}
 use Rattle.scenario.specs.declared.fault.ScenarioError.{ScenarioError}
-use Rattle.scenario.specs.Told.{Answers, scenario_of, unseated}
+use Rattle.scenario.specs.Reading.{Answers, scenario_of, unseated}
 use Rattle.scenario.proofs.reader.seated.Given as goal
 
 abbrev pub invariant-loop-index : goal.invariant-loop-index

@@ -1,7 +1,11 @@
-use Rattle.signed_diagram.specs.Strokes.{between}
-use Rattle.signed_diagram.proofs.StrokeLemmas.{list_more}
+use Rattle.std.proofs.Common.{List, ◌≡◌, ◌∙◌, ap}
+use Rattle.std.proofs.lemmas.Result.{IfOk-weaker}
+use Rattle.diagram.specs.Order.{arranged}
+use Rattle.signed_diagram.specs.Strokes.{Drawn, is_lie, numbered, sender, told_to}
 use Rattle.signed_diagram.proofs.strokes.list_to.Goals as goal
 
-pub loop-general-preserved : goal.loop-general-preserved
-loop-general-preserved c =
-    list_more (between c.args.chronicle.now c.args.round c.args.receiver) c.loop-general.general c.loop-general.list.items c.push_between.new.list.items c.loop-general.invariant c.in_ok-push_between.ensures
+pub returns : goal.returns
+returns c =
+    let a = c.args in
+    let rows : c.in_ok-rows.rows.items ≡ arranged is_lie sender (told_to a.chronicle.now a.round a.receiver) = c.in_ok-rows.ensures ∙ ap (arranged is_lie sender) c.in_ok-told.ensures in
+    IfOk-weaker c.numbered.result _ _ (λ v e. e ∙ ap (λ (xs : List Drawn). numbered xs 0) rows) c.numbered.ensures

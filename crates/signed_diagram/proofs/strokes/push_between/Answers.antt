@@ -1,7 +1,7 @@
-use Rattle.std.proofs.Common.{List, ◌≡◌, ◌++◌, ◌∙◌, ap, length}
+use Rattle.std.proofs.Common.{List, ◌≡◌, ◌++◌, ◌∙◌, ap}
 use Rattle.signed.specs.Chains.{Chain}
 use Rattle.signed_diagram.specs.Owed.{owed_to, sent_to}
-use Rattle.signed_diagram.specs.Strokes.{numbered, told_between}
+use Rattle.signed_diagram.specs.Strokes.{told_between}
 use Rattle.signed_diagram.proofs.strokes.push_between.Goals as goal
 
 pub returns : goal.returns
@@ -11,5 +11,5 @@ returns c =
     let sent : c.as_slice.result.now ≡ sent_to a.chronicle.now a.round a.general a.receiver = c.as_slice.ensures.value ∙ c.in_ok-sent.ensures in
     let owed : c.as_slice-2.result.now ≡ owed_to a.chronicle.now a.round a.general a.receiver = c.as_slice-2.ensures.value ∙ c.in_ok-owed.ensures in
     c.in_ok-push_told.ensures
-    ∙ (ap (λ (xs : List Chain). old ++ numbered (told_between a.round a.receiver a.general xs c.as_slice-2.result.now) (length old)) sent
-    ∙ ap (λ (ys : List Chain). old ++ numbered (told_between a.round a.receiver a.general (sent_to a.chronicle.now a.round a.general a.receiver) ys) (length old)) owed)
+    ∙ (ap (λ (xs : List Chain). old ++ told_between a.round a.receiver a.general xs c.as_slice-2.result.now) sent
+    ∙ ap (λ (ys : List Chain). old ++ told_between a.round a.receiver a.general (sent_to a.chronicle.now a.round a.general a.receiver) ys) owed)

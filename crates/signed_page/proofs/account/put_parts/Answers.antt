@@ -1,35 +1,22 @@
-use Rattle.std.proofs.Common.{◌++◌}
+use Rattle.std.proofs.Common.{◌∙◌, ◌++◌, ap}
 use Rattle.std.specs.Prelude.{option_map}
 use Rattle.std.specs.String.{string_bytes}
-use Rattle.campaign_page.specs.Account.{accesses_part, chronicle_shown, programs_part, scenario_part, schedule_part, verdict_told}
-use Rattle.campaign_page.proofs.ChainLemmas.{chained}
-use Rattle.signed_page.specs.Account.{bound_told, lieutenants_part, parts, picture_part}
+use Rattle.page.specs.Sections.{sections_in}
+use Rattle.campaign_page.specs.Account.{verdict_told}
+use Rattle.campaign_page.specs.Room.{room_for_sections}
+use Rattle.campaign_page.proofs.ChainLemmas.{chained, same_sections}
+use Rattle.signed_page.specs.Account.{bound_told, parts, sections}
 use Rattle.signed_page.proofs.account.put_parts.Goals as goal
-use Rattle.trace.specs.SignedText.{signed_text}
 
 pub returns : goal.returns
 unfolding parts
 returns c =
     let start = string_bytes c.args.out.now in
     let told = c.args.chronicle.now in
-    let one = scenario_part c.args.scenario_text.now in
-    let time = schedule_part (option_map (λ s. s.now) c.args.schedule) in
-    let two = programs_part told.scenario in
-    let three = picture_part told in
-    let four = lieutenants_part told in
-    let five = accesses_part told.accesses in
-    let six = chronicle_shown (signed_text told) in
-    let seven = verdict_told told.verdict (bound_told told.verdict.bound) in
-    chained start (one ++ time ++ two ++ three ++ four ++ five ++ six) seven _ _
-    (chained start (one ++ time ++ two ++ three ++ four ++ five) six _ _
-    (chained start (one ++ time ++ two ++ three ++ four) five _ _
-    (chained start (one ++ time ++ two ++ three) four _ _
-    (chained start (one ++ time ++ two) three _ _
-    (chained start (one ++ time) two _ _
-    (chained start one time _ _ c.in_ok-put_scenario.ensures c.in_ok-put_schedule.ensures)
-    c.in_ok-put_programs_of.ensures)
-    c.in_ok-put_diagram.ensures)
-    c.in_ok-put_lieutenants.ensures)
-    c.in_ok-put_accesses.ensures)
-    c.in_ok-put_chronicle.ensures)
+    let all = sections c.args.scenario_text.now (option_map (λ s. s.now) c.args.schedule) told in
+    chained start (sections_in room_for_sections all) (verdict_told told.verdict (bound_told told.verdict.bound)) _ _
+    (c.in_ok-put_sections.ensures
+    ∙ ap (λ ss. start ++ sections_in room_for_sections ss)
+    (same_sections _ _ _ _ _ _ _ _ _ _ _ _ _ _ c.in_ok-scenario.ensures c.in_ok-time.ensures c.in_ok-programs.ensures c.in_ok-picture.ensures
+    c.in_ok-lieutenants.ensures c.in_ok-accesses.ensures c.in_ok-text.ensures))
     c.in_ok-put_verdict_of.ensures

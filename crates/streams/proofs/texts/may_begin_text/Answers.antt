@@ -1,11 +1,12 @@
-use Rattle.streams.proofs.CutTexts.{begins, no_text, refused}
+use Rattle.std.proofs.lemmas.Bool.{both_ways}
+use Rattle.streams.proofs.CutTexts.{answered}
 use Rattle.streams.proofs.texts.may_begin_text.Goals as goal
 
-pub returns-clause-begins : goal.returns-clause-begins
-returns-clause-begins c =
-    begins _ _ c.args.front.now c.last_start.result c.from_utf8.result c.is_ok.result c.last_start.ensures c.is_ok.ensures.value c.from_utf8.ensures.cases
+pub returns-in-Err-clause-begins : goal.returns-in-Err-clause-begins
+returns-in-Err-clause-begins c =
+    answered c.args.front.now _ _ c.error_len.result c.is_none.result c.in-Err.ensures.cases.1 c.in-Err.ensures.fault c.error_len.ensures c.is_none.ensures
 
-pub returns-clause-no_text : goal.returns-clause-no_text
-returns-clause-no_text c is rest =
-    no_text c.args.front.now rest c.last_start.result c.last_start.ensures.start
-    (refused _ _ _ c.from_utf8.result c.is_ok.result c.is_ok.ensures.value is c.from_utf8.ensures.cases)
+pub returns-in-Err-clause-no_text : goal.returns-in-Err-clause-no_text
+returns-in-Err-clause-no_text c is rest text =
+    let begins = answered c.args.front.now _ _ c.error_len.result c.is_none.result c.in-Err.ensures.cases.1 c.in-Err.ensures.fault c.error_len.ensures c.is_none.ensures in
+    both_ways c.is_none.result is (begins.1 (rest, text))

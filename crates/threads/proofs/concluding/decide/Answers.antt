@@ -1,6 +1,6 @@
 use Rattle.std.proofs.Common.{List, length, ◌∙◌, ap, subst, arith}
 use Rattle.std.specs.List.{AllZip}
-use Rattle.combine.specs.Chosen.{combined_by}
+use Rattle.combine.specs.Rule.{combined_by}
 use Rattle.combine.specs.declared.chosen.Rule.{Rule}
 use Rattle.tree.specs.LieutenantTree.{LieutenantTree}
 use Rattle.resolve.specs.Decided.{Decides}

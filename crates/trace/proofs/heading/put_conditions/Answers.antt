@@ -1,5 +1,5 @@
 use Rattle.std.specs.Prelude.{codes}
-use Rattle.combine.specs.Names.{rule_name}
+use Rattle.combine.specs.Rule.{rule_name}
 use Rattle.trace.specs.Text.{place}
 use Rattle.trace.proofs.WrittenLemmas.{then_wrote, wrote-same}
 use Rattle.trace.proofs.LineLemmas.{four_words}

@@ -9,7 +9,7 @@ use Rattle.trial.proofs.laws.contexts_are_settings.Goals as goal
 pub returns : goal.returns
 returns c = record {
   possible = λ s before g words is within le. record {
-    shape = shape_is s g (length before) is within le;
+    limits = shape_is s g (length before) is within le;
     rounds = omega arith;
     few = is.rounds;
     enough = is.enough;

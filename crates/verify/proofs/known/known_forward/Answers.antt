@@ -17,6 +17,7 @@ pass_units-requires-clause-forward c = forward_of_structure c.args.program.now c
 pub loop-unit-init : goal.loop-unit-init
 loop-unit-init c = record {
   room = length-opens c.args.program.now c.in_ok-pending.pending.items c.in_ok-pending.ensures;
+  long = c.in_ok-codes.ensures ∙ c.units.ensures.units;
   comes = c.in_ok-pending.ensures;
   known = none_known c.args.program.now c.in_ok-states.states.items c.in_ok-states.ensures.items;
   so_far = ap (λ (states : List (Option AbsState)). length states) c.in_ok-states.ensures.items;
@@ -28,6 +29,7 @@ loop-unit-preserved c =
     let unit = c.loop-unit.unit in
     record {
       room = room_on c.args.program.now unit old c.pass_units.new.pending.items c.loop-unit.invariant.comes c.in-Ok.ensures.passed c.loop-unit.invariant.room;
+      long = c.in-Ok.ensures.long ∙ c.loop-unit.invariant.long;
       comes = c.in-Ok.ensures.passed;
       known = subst (λ (s : List (Option AbsState)). AreKnown c.args.program.now s) (sym c.in_ok-push.ensures.items)
           (known_more c.args.program.now c.loop-unit.states.items old c.kept.result unit c.loop-unit.invariant.known c.loop-unit.invariant.so_far c.loop-unit.invariant.comes c.kept.ensures);

@@ -8,6 +8,7 @@ use Rattle.verify.proofs.known.known_forward.Given as goal
 abbrev pub invariant-loop-unit : goal.invariant-loop-unit
 invariant-loop-unit l = record {
   room : length l.pending.items ≡ length (slots_of l.program);
+  long : length l.codes.items ≡ length (slots_of l.program);
   comes : passed_to l.program l.unit ≡ Ok l.pending.items;
   known : (unit : ℕ) → unit < length l.states.items → slice_get l.states.items unit ≡ known_on_the_pass l.program unit;
   so_far : length l.states.items ≡ l.unit;

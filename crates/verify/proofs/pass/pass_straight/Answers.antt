@@ -21,13 +21,13 @@ come-requires c =
     let one : 1 ≡ units_of c.args.insn.now = sym c.if-units-eq1.true ∙ c.units.ensures.units in
     rw one inside
 
-pub returns-in-Err : goal.returns-in-Err
-returns-in-Err c =
+pub returns-in-Err-clause-comes : goal.returns-in-Err-clause-comes
+returns-in-Err-clause-comes c =
     straight_stops c.args.insn.now c.args.unit c.args.state.value c.straight.new.state c.args.pending.now.items c.in-Err.reason c.requires.straight
     (c.in-Err.ensures ∙ ap (stepped c.args.insn.now) c.deref_mut.ensures.value)
 
-pub returns-then-units-eq1 : goal.returns-then-units-eq1
-returns-then-units-eq1 c =
+pub returns-then-units-eq1-clause-comes : goal.returns-then-units-eq1-clause-comes
+returns-then-units-eq1-clause-comes c =
     let next = c.args.unit + 1 in
     let one : 1 ≡ units_of c.args.insn.now = sym c.if-units-eq1.true ∙ c.units.ensures.units in
     let inside : c.args.unit + units_of c.args.insn.now < length c.args.pending.now.items =
@@ -39,8 +39,8 @@ returns-then-units-eq1 c =
       comes_next c.args.pending.now.items c.come.new.pending.items next c.straight.new.state c.come.result there c.come.ensures.value c.come.ensures.rest,
     )
 
-pub returns : goal.returns
-returns c =
+pub returns-clause-comes : goal.returns-clause-comes
+returns-clause-comes c =
     taken_next _ (c.args.unit + 1) c.flow.new.pending.items c.take_next.new.pending.items c.take_next.result
     (straight_runs c.args.insn.now c.args.unit (c.args.unit + c.units-2.result) c.args.state.value c.straight.new.state tt c.args.pending.now.items c.flow.new.pending.items
     c.requires.straight (c.in_default.ensures ∙ ap (stepped c.args.insn.now) c.deref_mut.ensures.value) (ap (λ (n : ℕ). c.args.unit + n) c.units-2.ensures.units) c.flow.ensures)

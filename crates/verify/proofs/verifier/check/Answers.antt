@@ -16,4 +16,4 @@ returns-in-Some-clause-judged c =
 
 pub returns-clause-judged : goal.returns-clause-judged
 returns-clause-judged c =
-    subst (λ (wanted : Option VerifyError). Answers wanted c.pass.result) (sym (judged_pass c.args.program.now (sym c.find_fault.ensures ∙ c.in_default.is))) c.pass.ensures
+    subst (λ (wanted : Option VerifyError). Answers wanted c.pass.result) (sym (judged_pass c.args.program.now (sym c.find_fault.ensures ∙ c.in_default.is))) c.pass.ensures.answers

@@ -1,4 +1,4 @@
-use Rattle.std.proofs.Common.{◌≡◌, ◌∙◌, None, sym, ap, subst, List, Result}
+use Rattle.std.proofs.Common.{◌≡◌, ◌∙◌, None, sym, ap, subst, List, Result, IfOk, length, arith}
 use Rattle.insn.specs.declared.insn.Insn.{Insn}
 use Rattle.semantics.specs.Run.{IsSound}
 use Rattle.verify.specs.declared.error.VerifyError.{VerifyError}
@@ -8,12 +8,23 @@ use Rattle.verify.proofs.JudgedAnswers.{answer_of, plain_refused, own_fault}
 use Rattle.verify.proofs.JudgedSound.{judged_sound}
 use Rattle.verify.proofs.PassLaws.{judged_through}
 use Rattle.verify.proofs.UnitRuns.{wanted_of}
+use Rattle.verify.proofs.ReadyLemmas.{is_ready}
+use Rattle.verify.specs.Ready.{AreMade}
+use Rattle.insn.specs.Program.{slots_of}
 use Rattle.verify.proofs.verifier.verify.Goals as goal
 
 pub of-requires : goal.of-requires
 of-requires c =
     let accepted : judged c.args.program ≡ None = subst (λ (r : Result (Unit {0}) VerifyError). Answers (judged c.args.program) r) c.in-Ok.is c.check.ensures.judged in
-    record { sound = judged_sound c.args.program c.recall_program.ensures.well c.recall_program.ensures.some accepted }
+    let made = subst (λ (r : Result (Unit {0}) VerifyError). IfOk r (λ _. AreMade c.args.program c.check.new.codes.items 0 (length (slots_of c.args.program)))) c.in-Ok.is c.check.ensures.made in
+    let long = subst (λ (r : Result (Unit {0}) VerifyError). IfOk r (λ _. length c.check.new.codes.items ≡ length (slots_of c.args.program))) c.in-Ok.is c.check.ensures.long in
+    record {
+      sound = record {
+        sound = judged_sound c.args.program c.recall_program.ensures.well c.recall_program.ensures.some accepted;
+        ready = is_ready c.args.program c.check.new.codes.items c.recall_program.ensures.well c.recall_program.ensures.some accepted made long;
+        bound = let most = c.recall_program.ensures.bound in omega (arith, long, most);
+      };
+    }
 
 pub returns-in-Ok-clause-accepted : goal.returns-in-Ok-clause-accepted
 returns-in-Ok-clause-accepted c = ap judged c.of.ensures ∙ subst (λ (r : Result (Unit {0}) VerifyError). Answers (judged c.args.program) r) c.in-Ok.is c.check.ensures.judged

@@ -12,14 +12,14 @@ use Rattle.trial.proofs.setting.Setting.context.Goals as goal
 
 pub overflow_cast-header : goal.overflow_cast-header
 overflow_cast-header c =
-    let few : length (relay c.self.inside.shape) ≤ 990 = relays_few (oral c.self.inside.shape) c.self.invariant.shape in
+    let few : length (relay c.self.inside.shape) ≤ 990 = relays_few (oral c.self.inside.shape) c.self.invariant.limits in
     let each : length c.self.inside.taken.items ≡ length (relay c.self.inside.shape) = c.self.invariant.each in
     let len : length c.as_slice-taken.result.now ≡ length c.self.inside.taken.items = ap length c.as_slice-taken.ensures.value in
     omega arith
 
 pub context_telling-requires : goal.context_telling-requires
 context_telling-requires c =
-    let few : length (relay c.self.inside.shape) ≤ 990 = relays_few (oral c.self.inside.shape) c.self.invariant.shape in
+    let few : length (relay c.self.inside.shape) ≤ 990 = relays_few (oral c.self.inside.shape) c.self.invariant.limits in
     let each : length c.self.inside.taken.items ≡ length (relay c.self.inside.shape) = c.self.invariant.each in
     let len : length c.as_slice-taken.result.now ≡ length c.self.inside.taken.items = ap length c.as_slice-taken.ensures.value in
     record { few = omega arith }

@@ -1,0 +1,49 @@
+-- What is said where no task is served, and where a file or the output fails.
+use Rattle.std.specs.Prelude.{ℕ, ◌≡◌, ◌≢◌, ◌⊎◌, ◌++◌, List, Option, None, Some, Bool, true, codes}
+use Rattle.clap.specs.Words.{kind_of}
+use Rattle.clap.specs.declared.error.kind.ErrorKind.{ErrorKind}
+use Rattle.clap.specs.declared.error.kind.ErrorKind.TheVariants.{DisplayHelp, DisplayVersion}
+use Rattle.std.specs.Borrow.{Bor}
+use Rattle.std.specs.Fmt.{◌++?◌}
+use Rattle.faults.specs.Reasons.{reason_text}
+use Rattle.command_line.specs.Asked.{asked, words_of}
+use Rattle.command_line.specs.declared.errors.TaskError.{TaskError}
+use Rattle.command_line.specs.declared.errors.TaskError.TheVariants as task
+use Rattle.std.specs.declared.io.ErrorKind.{ErrorKind as IoKind}
+use Rattle.std.specs.declared.io.ErrorKind.TheVariants.{OutOfMemory, InvalidData}
+
+-- the line, and the exit status: the words could not be had, help not be written, or memory to open a file not be had
+abbrev pub failure_of : IoKind → List ℕ × ℕ
+failure_of OutOfMemory = (codes "out of memory", 3)
+failure_of InvalidData = (codes "error: the words are not UTF-8", 2)
+failure_of _ = (codes "fault write", 1)
+
+-- the words are refused, and do not ask for help or the version
+abbrev pub IsMistake : ErrorKind → Type 0
+IsMistake kind = (kind ≢ DisplayHelp) × (kind ≢ DisplayVersion)
+
+-- the exit status where the words name no task: 0 where they ask for help or the version, else 2
+abbrev pub IsUnasked : TaskError → ℕ → Type 0
+IsUnasked (task.Words refusal) status =
+    (IsMistake (kind_of refusal) × (status ≡ 2)) ⊎ (¬ IsMistake (kind_of refusal) × (status ≡ 0))
+IsUnasked (task.Misuse misuse) status = status ≡ 2
+IsUnasked task.Memory status = ⊥
+
+-- these words of a request ask for nothing
+abbrev pub AsksNothing : List (Bor (List ℕ)) → Type 0
+AsksNothing words = asked (words_of words) ≡ None
+
+-- how a request ends: done, refused or a fault of a file, want of memory
+abbrev pub IsStatus : ℕ → Type 0
+IsStatus status = (status ≡ 0) ⊎ ((status ≡ 1) ⊎ (status ≡ 3))
+
+-- lines, and behind them the sentence for an error of this kind, if one is to be told
+abbrev pub explained_text : Option (List ℕ) → Option IoKind → Option (List ℕ)
+explained_text lines None = lines
+explained_text lines (Some kind) = lines ++? Some (codes "\nerror: " ++ reason_text kind)
+
+-- the sentence that is told of an output that failed: where the status is 1, and the task explains what it refuses
+abbrev pub IsWhy : ℕ → Bool → Option IoKind → Option (List ℕ) → Type 0
+IsWhy status true (Some kind) why =
+    ((status ≡ 1) × (why ≡ Some (reason_text kind))) ⊎ ((status ≢ 1) × (why ≡ None))
+IsWhy status _ _ why = why ≡ None

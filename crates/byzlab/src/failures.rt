@@ -1,0 +1,96 @@
+//! What is said behind the line of a file that is not read, and of an output that failed.
+
+ghost use Rattle.std.specs.Prelude.{◌≡◌, ◌↔◌, IfOk, IsErr, None, Some, if◌then◌else◌, option_map};
+ghost use Rattle.std.specs.IoError.{error_kind};
+ghost use Rattle.faults.specs.Whys.{is_explained};
+ghost use Rattle.faults.specs.declared.failure.Failure.TheVariants.{Read as unreadable};
+ghost use Rattle.byzlab.specs.Failures.{IsWhy};
+
+use command_line::Task;
+use lab::{Failure, is_explained, reason};
+use std::alloc::AllocError;
+use std::fmt::{self, Display};
+use std::io::{self, ErrorKind};
+
+/// Lines, and behind them the sentence for an error of this kind, if one is to be told.
+#[derive(Drop)]
+pub struct Explained<D: Display + Drop> {
+    pub lines: D,
+    pub kind: Option<ErrorKind>,
+}
+
+impl<D: Display + Drop> Display for Explained<D> {
+    ghost use Rattle.byzlab.specs.Failures.{explained_text};
+
+    ghost output = { λ explained. explained_text (D.output explained.lines) explained.kind };
+
+    fn fmt<W: fmt::Write>(&self, f: &mut fmt::Formatter<W>) -> fmt::Result {
+        self.lines.fmt(f)?;
+        match self.kind {
+            Some(kind) => write!(f, "\nerror: {}", reason(kind)),
+            None => Ok(()),
+        }
+    }
+}
+
+impl<D: Display + Drop> Explained<D> {
+    ghost use Rattle.std.specs.Prelude.{◌≡◌, None, if◌then◌else◌};
+    ghost use Rattle.faults.specs.Whys.{is_explained};
+
+    /// The lines and, where the task explains what it refuses, the sentence for an error of this kind, if there is one.
+    pub fn by(task: &Task, lines: D, kind: Option<ErrorKind>) -> Explained<D>
+        ensures lines { result.lines ≡ lines }
+        ensures kind { result.kind ≡ (if is_explained task.now then kind else None) }
+    {
+        let kind = if is_explained(task) { kind } else { None };
+        Explained { lines, kind }
+    }
+}
+
+/// That a file of this name was not written.
+#[derive(Drop)]
+pub struct Unwritten<D: Display + Drop> {
+    pub name: D,
+}
+
+impl<D: Display + Drop> Display for Unwritten<D> {
+    ghost use Rattle.std.specs.Prelude.{Some, codes};
+    ghost use Rattle.std.specs.Fmt.{◌++?◌};
+
+    ghost output = { λ unwritten. Some (codes "fault write ") ++? D.output unwritten.name };
+
+    fn fmt<W: fmt::Write>(&self, f: &mut fmt::Formatter<W>) -> fmt::Result {
+        write!(f, "fault write {}", self.name)
+    }
+}
+
+/// What is told of a file of this name whose opening or reading failed so.
+///
+/// # Errors
+///
+/// `AllocError` where it is want of memory.
+pub fn unread<'a>(
+    task: &Task,
+    name: &'a str,
+    error: io::Error,
+) -> Result<Explained<Failure<'a>>, AllocError>
+    ensures line { IfOk result (λ told. told.lines ≡ unreadable name.entry) }
+    ensures why { IfOk result (λ told. told.kind ≡ (if is_explained task.now then Some (error_kind error) else None)) }
+    ensures memory { IsErr result ↔ (error_kind error ≡ ErrorKind.OutOfMemory) }
+{
+    let kind = error.kind();
+    if kind == ErrorKind::OutOfMemory {
+        return Err(AllocError);
+    }
+    Ok(Explained::by(task, Failure::Read(name), Some(kind)))
+}
+
+/// Why the output of a task failed that ended with this status, where that is to be told.
+pub fn why_unwritten(status: u8, task: &Task, fault: Option<ErrorKind>) -> Option<&'static str>
+    ensures { IsWhy status (is_explained task.now) fault (option_map (λ why. why.now) result) }
+{
+    match fault {
+        Some(kind) if status == 1 && is_explained(task) => Some(reason(kind)),
+        _ => None,
+    }
+}

@@ -1,0 +1,34 @@
+//! Bytes that are written whole.
+ghost use Rattle.std.specs.Prelude.{IfOk, OnOk};
+ghost use Rattle.std.specs.Io.KnownBytes.{Appends};
+ghost use Rattle.byzlab.specs.Kept.{IsFilledBy};
+
+use std::alloc::Global;
+use std::io;
+use streams::Output;
+
+/// That bytes were written whole to some stream, for the file of this name: `fill` alone tells it.
+#[derive(Drop)]
+pub struct Filled<'a> {
+    name: String,
+    bytes: &'a [u8],
+}
+
+/// Writes all of the file of this name.
+///
+/// # Errors
+///
+/// A write that failed, or want of memory.
+pub fn fill<'a, O: Output>(
+    alloc: Global,
+    file: &mut O,
+    name: &str,
+    bytes: &'a [u8],
+) -> io::Result<Filled<'a>>
+    ensures whole { OnOk result (Appends (O.contents file.old) (O.contents file.new) bytes.now) }
+    ensures told { IfOk result (IsFilledBy name.now bytes.now) }
+{
+    let name = String::from_str(alloc, name)?;
+    file.put(bytes)?;
+    Ok(Filled { name, bytes })
+}

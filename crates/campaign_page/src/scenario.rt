@@ -1,0 +1,73 @@
+//! The scenario of a campaign, with the story at its head.
+ghost use Rattle.std.specs.Prelude.{◌≡◌, string_bytes, IfOk};
+ghost use Rattle.campaign_page.specs.Account.{scenario_heading, scenario_instead, scenario_section, scenario_told, story_told};
+
+use crate::printers::scenario_printer;
+use crate::room::{ROOM_FOR_SCENARIO, ROOM_FOR_SECTIONS, ROOM_FOR_STORY, put_fitted, put_over};
+use crate::story::parted;
+use page::{Section, put_lines};
+use std::alloc::{AllocError, Global};
+
+/// The scenario's text, its story apart; or, where there is no room for it, the story.
+///
+/// # Errors
+///
+/// No memory for the text; so of every function here.
+pub fn scenario_section(alloc: Global, text: &str) -> Result<Section, AllocError>
+    ensures { IfOk result (λ section. section ≡ scenario_section text.now) }
+{
+    let told = scenario_told(alloc, text)?;
+    let instead = scenario_instead(alloc, text)?;
+    Ok(Section {
+        title: scenario_heading(),
+        told,
+        room: ROOM_FOR_SCENARIO,
+        instead,
+    })
+}
+
+/// The story, and the lines behind it; of a text that is longer than all sections together what stands in its place.
+fn scenario_told(alloc: Global, text: &str) -> Result<String, AllocError>
+    ensures { IfOk result (λ told. string_bytes told ≡ scenario_told text.now) }
+{
+    if text.len() > ROOM_FOR_SECTIONS {
+        return scenario_instead(alloc, text);
+    }
+    let (story, behind) = parted(text);
+    let mut told = story_told(alloc, story)?;
+    put_lines(&mut told, behind)?;
+    Ok(told)
+}
+
+/// The story, if there is room for it, and that there is none for the text.
+fn scenario_instead(alloc: Global, text: &str) -> Result<String, AllocError>
+    ensures { IfOk result (λ told. string_bytes told ≡ scenario_instead text.now) }
+{
+    let (story, _) = parted(text);
+    let who = scenario_printer();
+    let lines = story_told(alloc, story)?;
+    let mut told = String::new(alloc);
+    put_fitted(alloc, &mut told, ROOM_FOR_STORY, who, lines.as_str())?;
+    put_over(alloc, &mut told, ROOM_FOR_SCENARIO, who)?;
+    Ok(told)
+}
+
+/// The lines of a story, if there is one.
+fn story_told(alloc: Global, story: &str) -> Result<String, AllocError>
+    ensures { IfOk result (λ told. string_bytes told ≡ story_told story.now) }
+{
+    let mut told = String::new(alloc);
+    if story.is_empty() {
+        return Ok(told);
+    }
+    put_lines(&mut told, story)?;
+    Ok(told)
+}
+
+/// The heading of the scenario.
+#[tactic(auto, unfolding(crate::specs::Account::scenario_heading))]
+fn scenario_heading() -> &'static str
+    ensures { result.now ≡ scenario_heading }
+{
+    "Story and scenario"
+}

@@ -1,0 +1,35 @@
+//! The story of a scenario, the comments and blank lines at its head, and the text behind it.
+ghost use Rattle.std.specs.Prelude.{◌≡◌};
+ghost use Rattle.campaign_page.specs.Story.{behind_story, is_blank, story, story_bytes};
+
+/// The story of a scenario, and the text behind it.
+pub(crate) fn parted(text: &str) -> (&str, &str)
+    ensures story { result.0.now ≡ story text.now }
+    ensures behind { result.1.now ≡ behind_story text.now }
+{
+    let end = story_bytes(text.as_bytes());
+    (&text[..end], &text[end..])
+}
+
+/// How many bytes of a text are its story.
+fn story_bytes(text: &[u8]) -> usize
+    ensures { result ≡ story_bytes text.now }
+{
+    let mut within = false;
+    let mut end = 0;
+    for byte in text {
+        if !within && !is_blank(*byte) && *byte != b'#' {
+            return end;
+        }
+        end += 1;
+        within = *byte != b'\n' && (within || *byte == b'#');
+    }
+    end
+}
+
+/// Whether a byte is a blank, a tab, or ends a line.
+fn is_blank(byte: u8) -> bool
+    ensures { result ≡ is_blank byte }
+{
+    byte == b' ' || byte == b'\t' || byte == b'\r' || byte == b'\n'
+}

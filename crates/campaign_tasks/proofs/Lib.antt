@@ -1,0 +1,3 @@
+pub mod CampaignLemmas
+pub mod ExploringLemmas
+pub mod ListedLemmas

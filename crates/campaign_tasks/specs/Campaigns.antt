@@ -1,0 +1,130 @@
+-- What is printed of a campaign.
+use Rattle.std.specs.Prelude.{ℕ, suc, ◌≡◌, List, [], ◌∷◌, ◌++◌, Option, None, Some, unwrap_or}
+use Rattle.board.specs.Board.{IsLegal}
+use Rattle.command_line.specs.declared.tasks.Account.{Account}
+use Rattle.command_line.specs.declared.tasks.Account.TheVariants as accounts
+use Rattle.command_line.specs.declared.tasks.Lieutenants.{Lieutenants}
+use Rattle.command_line.specs.declared.tasks.Lieutenants.TheVariants as lieutenants
+use Rattle.retold.specs.Retold.{Explains, IsRetold}
+use Rattle.roster.specs.Scenario.{Scenario}
+use Rattle.world.specs.declared.schedule.Repeat.{Repeat}
+use Rattle.world.specs.Chronicle.{Chronicle, chronicle_of}
+use Rattle.world.specs.KindLists as generic
+use Rattle.world.specs.Lists.{IsComplete, listed, names_in, replayed}
+use Rattle.world.specs.Promises.{AgreeUnderBound, IsVerdictOn, IsWellUnderBound}
+use Rattle.world.specs.Replay.{replay_of}
+use Rattle.world.specs.Schedules.{lines_by}
+use Rattle.scenario.specs.Reading.{TellsAny}
+use Rattle.scenario.specs.Reading as oral
+use Rattle.scenario.specs.declared.messages.Campaign.{Campaign}
+use Rattle.scenario.specs.declared.messages.Campaign.TheVariants.{Oral, Signed}
+use Rattle.signed.specs.Kind.{signed_kind}
+use Rattle.signed.specs.Explained.{signed_explained}
+use Rattle.signed.specs.Promises.{AgreeUnderSignedBound, AreSafeThroughout, AreWhole, IsSignedVerdictOn}
+use Rattle.trace.specs.Names.{chronicle_told}
+use Rattle.trace.specs.Laws.{IsSoundText}
+use Rattle.trace.specs.SignedAudit.{IsSoundSignedText, signed_chronicle_told}
+use Rattle.trace.specs.SignedText.{signed_text}
+use Rattle.trace.specs.Text.{chronicle_text}
+use Rattle.campaign_tasks.specs.Lines.{sound_lines}
+use Rattle.inputs.specs.Schedules.{played, signed_played, is_chronicle, TellsCampaign, IsSchedule}
+
+-- the text gives this account of an oral campaign: its chronicle, or the message table that its letters tell, which
+-- decides what the chronicle says
+abbrev pub IsAccount : Account → Chronicle → List ℕ → Type 0
+IsAccount accounts.Chronicle c text = text ≡ chronicle_text c
+IsAccount accounts.Table c text = IsRetold c text
+
+-- the general who is asked for, or none where all are
+abbrev pub asked : Lieutenants → Option ℕ
+asked lieutenants.All = None
+asked (lieutenants.One g) = Some g
+
+-- behind it stands, where it is asked for, an empty line, and how the decisions come about
+abbrev pub IsBehind : Option Lieutenants → Chronicle → List ℕ → Type 0
+IsBehind None c behind = behind ≡ []
+IsBehind (Some who) c behind = (lines : List ℕ) × (behind ≡ 10 ∷ lines) × Explains c (asked who) lines
+
+-- the text is a front, and behind it the explanation that is asked for
+abbrev pub IsFollowed : Option Lieutenants → Chronicle → List ℕ → List ℕ → Type 0
+IsFollowed explained c front text = (behind : List ℕ) × (text ≡ front ++ behind) × IsBehind explained c behind
+
+-- the text gives this account of the oral campaign, and behind it the explanation; its decisions agree under the bound,
+-- and its verdict means what it says
+pub record IsOralPlayed (s : Scenario) (schedule : List (List Repeat)) (account : Account)
+    (explained : Option Lieutenants) (text : List ℕ) : Type 0 where
+  pub front : List ℕ
+  pub told : IsAccount account (played s schedule) front
+  pub behind : IsFollowed explained (played s schedule) front text
+  pub agree : AgreeUnderBound s (played s schedule).decisions
+  pub verdict : IsVerdictOn s (played s schedule).decisions (played s schedule).verdict
+  pub well : IsWellUnderBound (played s schedule).verdict
+
+-- behind a signed campaign's text stands, where it is asked for, an empty line, and how the decisions come about
+abbrev pub signed_behind : Option Lieutenants → Chronicle → List ℕ
+signed_behind None c = []
+signed_behind (Some who) c = 10 ∷ signed_explained c (asked who)
+
+-- the text is that of the signed campaign's chronicle, and behind it the explanation, and so of a complete run, in
+-- which no activation traps or takes more steps than its program has instructions, and whose letters are whole; its
+-- decisions agree for at most m traitors among n at least m + 2 generals, and its verdict means what it says
+pub record IsSignedPlayed (s : Scenario) (schedule : List (List Repeat)) (explained : Option Lieutenants)
+    (text : List ℕ) : Type 0 where
+  pub told : text ≡ signed_text (signed_played s schedule) ++ signed_behind explained (signed_played s schedule)
+  pub complete : generic.IsComplete signed_kind s (listed s (lines_by schedule))
+  pub safe : AreSafeThroughout s (listed s (lines_by schedule))
+  pub whole : AreWhole s (signed_played s schedule).accesses (signed_played s schedule).letters
+  pub agree : AgreeUnderSignedBound s (signed_played s schedule).decisions
+  pub verdict : IsSignedVerdictOn s (signed_played s schedule).decisions (signed_played s schedule).verdict
+  pub well : IsWellUnderBound (signed_played s schedule).verdict
+
+-- the text is that of the campaign by a schedule
+abbrev pub IsPlayed : Campaign → List (List Repeat) → Account → Option Lieutenants → List ℕ → Type 0
+IsPlayed (Oral s) schedule account explained text = IsOralPlayed s schedule account explained text
+IsPlayed (Signed s) schedule account explained text = IsSignedPlayed s schedule explained text
+
+-- the first file's bytes tell a campaign, the second's a schedule, and this is the text of the campaign
+abbrev pub Plays : Account → Option Lieutenants → List ℕ → Option (List ℕ) → List ℕ → Type 0
+Plays account explained first second text =
+    (c : Campaign) × TellsCampaign (is_chronicle account) first c
+    × ((schedule : List (List Repeat)) × IsSchedule second schedule × IsPlayed c schedule account explained text)
+
+-- the text is that of the chronicle of a complete run, which is the replay of its own accesses, a legal history of the
+-- board, and behind it the explanation; its decisions agree under the bound, and its verdict says of them what is so
+pub record IsMustered (s : Scenario) (explained : Option Lieutenants) (text : List ℕ) : Type 0 where
+  pub chronicle : Chronicle
+  pub told : IsFollowed explained chronicle (chronicle_text chronicle) text
+  pub replay : chronicle ≡ chronicle_of (replay_of s chronicle.accesses)
+  pub complete : IsComplete s (replayed s (names_in 1 chronicle.accesses (suc s.bound)))
+  pub legal : IsLegal s.board chronicle.accesses
+  pub agree : AgreeUnderBound s chronicle.decisions
+  pub verdict : IsVerdictOn s chronicle.decisions chronicle.verdict
+  pub well : IsWellUnderBound chronicle.verdict
+
+-- the file's bytes tell an oral campaign, and this is its text by threads
+abbrev pub Musters : Option Lieutenants → List ℕ → List ℕ → Type 0
+Musters explained first text = (s : Scenario) × oral.Tells first s × IsMustered s explained text
+
+-- the bytes are the text of a chronicle of the oral campaign, and the lines say so and give the verdict of its replay,
+-- and behind them the explanation
+pub record IsOralAudited (s : Scenario) (explained : Option Lieutenants) (bytes text : List ℕ) : Type 0 where
+  pub sound : IsSoundText s bytes
+  pub told : IsFollowed explained (chronicle_told s bytes) (sound_lines (chronicle_told s bytes).verdict) text
+
+-- those of the signed one
+pub record IsSignedAudited (s : Scenario) (explained : Option Lieutenants) (bytes text : List ℕ) : Type 0 where
+  pub sound : IsSoundSignedText s bytes
+  pub told : text ≡ sound_lines (signed_chronicle_told s bytes).verdict
+      ++ signed_behind explained (signed_chronicle_told s bytes)
+
+-- the bytes are the text of a chronicle of the campaign, and the lines say so and give the verdict of its replay, and
+-- behind them the explanation
+abbrev pub IsAudited : Campaign → Option Lieutenants → List ℕ → List ℕ → Type 0
+IsAudited (Oral s) explained bytes text = IsOralAudited s explained bytes text
+IsAudited (Signed s) explained bytes text = IsSignedAudited s explained bytes text
+
+-- the first file's bytes tell a campaign, and these are the lines of the audit of the second's; where there is no
+-- second file its bytes are none
+abbrev pub Audits : Option Lieutenants → List ℕ → Option (List ℕ) → List ℕ → Type 0
+Audits explained first second text =
+    (c : Campaign) × TellsAny first c × IsAudited c explained (unwrap_or second []) text

@@ -1,0 +1,5 @@
+pub mod Campaigns
+pub mod Exploring
+pub mod Lines
+pub mod Refusals
+pub mod Retracing

@@ -1,0 +1,81 @@
+ghost use Rattle.std.specs.Prelude.{◌≡◌, IfOk, IfErr};
+ghost use Rattle.scenario.specs.declared.messages.Campaign.TheVariants.{Oral, Signed};
+ghost use Rattle.campaign_tasks.specs.Campaigns.{IsAudited, IsSignedAudited};
+ghost use Rattle.campaign_tasks.specs.Lines.{sound_lines};
+ghost use Rattle.inputs.specs.Refusals.{RefusesChronicle, RefusesText};
+
+use crate::chronicle::{with_decisions, with_signed_decisions};
+use command_line::Lieutenants;
+use inputs::{Refusal, as_text};
+use roster::Scenario;
+use scenario::Campaign;
+use std::alloc::{AllocError, Global};
+use trace::{Latch, sound_chronicle, sound_signed_chronicle, write_verdict};
+use world::Verdict;
+
+/// The audit of the bytes: that they are the text of a chronicle of the campaign, and the verdict on it; behind them
+/// how these decisions come about.
+///
+/// # Errors
+///
+/// The first line that is not the chronicle's, or want of memory.
+pub fn audited(
+    alloc: Global,
+    campaign: &Campaign,
+    bytes: &[u8],
+    explained: Option<Lieutenants>,
+) -> Result<Vec<u8>, Refusal>
+    ensures audited { IfOk result (λ text. IsAudited campaign.now explained bytes.now text.items) }
+    ensures refused { IfErr result (RefusesText (RefusesChronicle campaign.now) bytes.now) }
+{
+    match campaign {
+        Campaign::Oral(scenario) => oral_audited(alloc, scenario, bytes, explained),
+        Campaign::Signed(scenario) => signed_audited(alloc, scenario, bytes, explained),
+    }
+}
+
+/// The audit of an oral campaign's.
+#[tactic(auto, using(crate::proofs::CampaignLemmas::is_audited, crate::proofs::CampaignLemmas::told_wholly))]
+fn oral_audited(
+    alloc: Global,
+    scenario: &Scenario,
+    bytes: &[u8],
+    explained: Option<Lieutenants>,
+) -> Result<Vec<u8>, Refusal>
+    ensures audited { IfOk result (λ text. IsAudited (Oral scenario.now) explained bytes.now text.items) }
+    ensures refused { IfErr result (RefusesText (RefusesChronicle (Oral scenario.now)) bytes.now) }
+{
+    scenario.recall();
+    let chronicle = sound_chronicle(alloc, scenario, as_text(bytes)?)?;
+    let lines = sound_text(alloc, chronicle.verdict())?;
+    Ok(with_decisions(alloc, lines, &chronicle, explained)?)
+}
+
+/// The audit of a signed one's.
+#[tactic(auto, using(crate::proofs::CampaignLemmas::is_signed_audited))]
+fn signed_audited(
+    alloc: Global,
+    scenario: &Scenario,
+    bytes: &[u8],
+    explained: Option<Lieutenants>,
+) -> Result<Vec<u8>, Refusal>
+    ensures audited { IfOk result (λ text. IsSignedAudited scenario.now explained bytes.now text.items) }
+    ensures refused { IfErr result (RefusesText (RefusesChronicle (Signed scenario.now)) bytes.now) }
+{
+    let chronicle = sound_signed_chronicle(alloc, scenario, as_text(bytes)?)?;
+    let front = sound_text(alloc, chronicle.verdict())?;
+    Ok(with_signed_decisions(alloc, front, &chronicle, explained)?)
+}
+
+/// A line that all is sound, and the verdict's.
+fn sound_text(alloc: Global, verdict: Verdict) -> Result<Vec<u8>, AllocError>
+    ensures { IfOk result (λ lines. lines.items ≡ sound_lines verdict) }
+{
+    let mut lines = Vec::new(alloc);
+    lines.extend_from_slice(b"sound\n")?;
+    let mut latch = Latch::new(lines);
+    match write_verdict(verdict, &mut latch) {
+        Ok(()) => Ok(latch.into_writer()),
+        Err(_) => Err(AllocError),
+    }
+}

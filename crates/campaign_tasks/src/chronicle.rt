@@ -1,0 +1,160 @@
+//! The text of a campaign by a schedule: its chronicle, or its table, and how its decisions come about.
+ghost use Rattle.std.specs.Prelude.{◌≡◌, ◌++◌, ◌∷◌, IfOk};
+ghost use Rattle.trace.specs.SignedText.{signed_text};
+ghost use Rattle.trace.specs.Text.{chronicle_text};
+ghost use Rattle.retold.specs.Retold.{IsWhole};
+ghost use Rattle.campaign_tasks.specs.Campaigns.{IsAccount, IsFollowed, IsOralPlayed, IsPlayed, IsSignedPlayed, asked, signed_behind};
+
+use command_line::{Account, Lieutenants};
+use retold::table;
+use roster::Scenario;
+use scenario::Campaign;
+use signed::{SignedChronicle, explain_signed, play_signed};
+use std::alloc::{AllocError, Global};
+use trace::{Latch, write_chronicle, write_signed};
+use world::{Chronicle, Schedule, play};
+
+/// The text of the campaign by a schedule: this account of it, of a signed one its chronicle, and behind it how these
+/// decisions come about. All of it is in memory, some bytes for each word and access that it tells.
+///
+/// # Errors
+///
+/// `AllocError` where memory is refused.
+pub fn played(
+    alloc: Global,
+    campaign: Campaign,
+    schedule: &Schedule,
+    account: Account,
+    explained: Option<Lieutenants>,
+) -> Result<Vec<u8>, AllocError>
+    ensures { IfOk result (λ text. IsPlayed campaign schedule.now account explained text.items) }
+{
+    match campaign {
+        Campaign::Oral(scenario) => oral_played(alloc, scenario, schedule, account, explained),
+        Campaign::Signed(scenario) => signed_played(alloc, scenario, schedule, explained),
+    }
+}
+
+/// That of an oral campaign.
+#[tactic(auto, using(crate::proofs::CampaignLemmas::played_wholly))]
+fn oral_played(
+    alloc: Global,
+    scenario: Scenario,
+    schedule: &Schedule,
+    account: Account,
+    explained: Option<Lieutenants>,
+) -> Result<Vec<u8>, AllocError>
+    ensures { IfOk result (λ text. IsOralPlayed scenario schedule.now account explained text.items) }
+{
+    scenario.recall();
+    let chronicle = play(alloc, scenario, schedule)?;
+    let front = account_text(alloc, &chronicle, account)?;
+    with_decisions(alloc, front, &chronicle, explained)
+}
+
+/// This account of an oral campaign.
+fn account_text(
+    alloc: Global,
+    chronicle: &Chronicle,
+    account: Account,
+) -> Result<Vec<u8>, AllocError>
+    requires { IsWhole chronicle.now }
+    ensures { IfOk result (λ text. IsAccount account chronicle.now text.items) }
+{
+    match account {
+        Account::Chronicle => chronicle_text(alloc, chronicle),
+        Account::Table => Ok(table(alloc, chronicle)?.into_bytes()),
+    }
+}
+
+/// That of a signed one.
+fn signed_played(
+    alloc: Global,
+    scenario: Scenario,
+    schedule: &Schedule,
+    explained: Option<Lieutenants>,
+) -> Result<Vec<u8>, AllocError>
+    ensures { IfOk result (λ text. IsSignedPlayed scenario schedule.now explained text.items) }
+{
+    let chronicle = play_signed(alloc, scenario, schedule)?;
+    let front = signed_chronicle_text(alloc, &chronicle)?;
+    with_signed_decisions(alloc, front, &chronicle, explained)
+}
+
+/// The text of an oral campaign's chronicle.
+pub(crate) fn chronicle_text(alloc: Global, chronicle: &Chronicle) -> Result<Vec<u8>, AllocError>
+    ensures { IfOk result (λ text. text.items ≡ chronicle_text chronicle.now) }
+{
+    let mut latch = Latch::new(Vec::new(alloc));
+    match write_chronicle(chronicle, &mut latch) {
+        Ok(()) => Ok(latch.into_writer()),
+        Err(_) => Err(AllocError),
+    }
+}
+
+/// The text, and behind it an empty line and these.
+#[tactic(auto, using(crate::proofs::CampaignLemmas::behind_lines))]
+fn with_lines(front: Vec<u8>, lines: &str) -> Result<Vec<u8>, AllocError>
+    ensures { IfOk result (λ text. text.items ≡ front.items ++ 10 ∷ lines.now) }
+{
+    let mut text = front;
+    text.push(b'\n')?;
+    text.extend_from_slice(lines.as_bytes())?;
+    Ok(text)
+}
+
+/// The text, and behind it an empty line and how these decisions of the campaign come about, if it is asked for.
+#[tactic(auto, using(crate::proofs::CampaignLemmas::alone, crate::proofs::CampaignLemmas::followed))]
+pub(crate) fn with_decisions(
+    alloc: Global,
+    front: Vec<u8>,
+    chronicle: &Chronicle,
+    explained: Option<Lieutenants>,
+) -> Result<Vec<u8>, AllocError>
+    requires { IsWhole chronicle.now }
+    ensures { IfOk result (λ text. IsFollowed explained chronicle.now front.items text.items) }
+{
+    let Some(who) = explained else {
+        return Ok(front);
+    };
+    let lines = retold::explained(alloc, chronicle, asked(who))?;
+    with_lines(front, lines.as_str())
+}
+
+/// The same of a signed campaign.
+#[tactic(auto, using(crate::proofs::CampaignLemmas::signed_alone, crate::proofs::CampaignLemmas::signed_followed))]
+pub(crate) fn with_signed_decisions(
+    alloc: Global,
+    front: Vec<u8>,
+    chronicle: &SignedChronicle,
+    explained: Option<Lieutenants>,
+) -> Result<Vec<u8>, AllocError>
+    ensures { IfOk result (λ text. text.items ≡ front.items ++ signed_behind explained chronicle.now) }
+{
+    let Some(who) = explained else {
+        return Ok(front);
+    };
+    let lines = explain_signed(alloc, chronicle, asked(who))?;
+    with_lines(front, lines.as_str())
+}
+
+/// The general who is asked for; none where all are.
+fn asked(who: Lieutenants) -> Option<u8>
+    ensures { result ≡ asked who }
+{
+    match who {
+        Lieutenants::All => None,
+        Lieutenants::One(general) => Some(general),
+    }
+}
+
+/// The text of a signed one's.
+fn signed_chronicle_text(alloc: Global, chronicle: &SignedChronicle) -> Result<Vec<u8>, AllocError>
+    ensures { IfOk result (λ text. text.items ≡ signed_text chronicle.now) }
+{
+    let mut latch = Latch::new(Vec::new(alloc));
+    match write_signed(chronicle, &mut latch) {
+        Ok(()) => Ok(latch.into_writer()),
+        Err(_) => Err(AllocError),
+    }
+}

@@ -1,9 +1,0 @@
-use Rattle.std.proofs.Common.{◌≡◌, ◌++◌, ◌∷◌, take, map}
-use Rattle.combine.specs.Told.{order_or_retreat}
-use Rattle.combine.proofs.told.orders_of.Given as goal
-
-abbrev pub invariant-loop-x : goal.invariant-loop-x
-invariant-loop-x l = l.orders.items ≡ map order_or_retreat (take l.x-index l.x-items)
-
-abbrev pub invariant-loop-y : goal.invariant-loop-y
-invariant-loop-y l = l.orders.items ≡ map order_or_retreat (take l.place l.told) ++ l.own ∷ map order_or_retreat (take l.y-index l.y-items)

@@ -1,0 +1,117 @@
+ghost use Rattle.std.specs.Prelude.{◌≡◌, ◌==◌, ◌<◌, ◌*◌, ℕ, count_by, find, length, map, ◌∷◌};
+ghost use Rattle.combine.specs.Rule.{majority, is_most};
+ghost use Rattle.combine.specs.Orders.{order_or_retreat};
+ghost use Rattle.combine.specs.Laws.{majority_is_rule};
+
+use crate::orders::orders_of;
+use crate::rule::Combine;
+
+/// The order in more than half of the places, else RETREAT, which is 0 (TOPLAS 1982, section 3).
+#[derive(Clone, Copy, Debug, PartialEq, Eq)]
+pub struct Majority;
+
+impl Combine for Majority {
+    ghost combined = { λ _. majority };
+
+    #[tactic(auto, unfolding(crate::specs::Rule::majority))]
+    fn combine(&self, orders: &[u32]) -> u32 {
+        most(orders).unwrap_or(0)
+    }
+
+    /// One's own order mostly wins, or where there are two the other one, and no list is made; else
+    /// there is a vote.
+    fn combine_told(&self, told: &[Option<u32>], place: usize, own: u32) -> u32 {
+        if is_in_most_told(told, own, own) {
+            return own;
+        }
+        let other = other_of_two(told, own);
+        if is_in_most_told(told, own, other) {
+            return other;
+        }
+        let orders = orders_of(told, place, own);
+        self.combine(orders.as_slice())
+    }
+
+    ghost most_decide = { λ _. majority_is_rule };
+}
+
+/// The order in more than half of the places.
+pub(crate) fn most(orders: &[u32]) -> Option<u32>
+    ensures { result ≡ find (is_most orders.now) orders.now }
+{
+    let candidate = candidate(orders);
+    if is_in_most(orders, candidate) {
+        Some(candidate)
+    } else {
+        None
+    }
+}
+
+/// The only order that can stand in more than half of the places: each two different ones are struck
+/// out together (Boyer and Moore 1981).
+fn candidate(orders: &[u32]) -> u32
+    ensures { (v : ℕ) → length orders.now < 2 * count_by (λ x. x == v) orders.now → result ≡ v }
+{
+    let mut candidate = 0;
+    let mut lead: usize = 0;
+    for x in orders {
+        if lead == 0 {
+            candidate = *x;
+        }
+        if *x == candidate {
+            lead += 1;
+        } else {
+            lead -= 1;
+        }
+    }
+    candidate
+}
+
+/// Whether the order stands in more than half of the places.
+fn is_in_most(orders: &[u32], order: u32) -> bool
+    ensures { result ≡ is_most orders.now order }
+{
+    let count = count(orders, order);
+    count > orders.len() - count
+}
+
+/// Where there are two different orders, one's own and another, the other one; where there are more,
+/// any number.
+fn other_of_two(told: &[Option<u32>], own: u32) -> u32 {
+    let mut differences = 0;
+    for x in told {
+        differences |= x.unwrap_or(0) ^ own;
+    }
+    own ^ differences
+}
+
+/// Whether the order stands in more than half of the places, one's own among them.
+fn is_in_most_told(told: &[Option<u32>], own: u32, order: u32) -> bool
+    requires few { length told.now < 13 }
+    ensures { result ≡ is_most (own ∷ map order_or_retreat told.now) order }
+{
+    let count = count_told(told, order) + usize::from(own == order);
+    count > told.len() + 1 - count
+}
+
+/// In how many places the order stands.
+fn count(orders: &[u32], order: u32) -> usize
+    ensures { result ≡ count_by (λ x. x == order) orders.now }
+{
+    let mut count = 0;
+    for x in orders {
+        count += usize::from(*x == order);
+    }
+    count
+}
+
+/// In how many places the order was told.
+fn count_told(told: &[Option<u32>], order: u32) -> usize
+    ensures { result ≡ count_by (λ x. order_or_retreat x == order) told.now }
+{
+    let mut count = 0;
+    for x in told {
+        count += usize::from(x.unwrap_or(0) == order);
+    }
+    count
+}

@@ -1,0 +1,355 @@
+-- What a task and its refusal say.
+use Rattle.std.specs.Prelude.{⊤, ℕ, ◌≡◌, ◌≢◌, ◌&&◌, ◌||◌, Bool, true, false, List, [], ◌∷◌, Option, None, Some, codes, is_some, option_map}
+use Rattle.std.specs.List.{list_any}
+use Rattle.std.specs.Str.{bytes_eq}
+use Rattle.std.specs.String.{string_bytes}
+use Rattle.text.specs.Options.{◌>>=◌}
+use Rattle.clap.specs.Words.{kind_of}
+use Rattle.clap.specs.declared.error.Error.{Error}
+use Rattle.clap.specs.declared.error.kind.ErrorKind.TheVariants.{OutOfMemory}
+use Rattle.command_line.specs.Generals.{count_in, depth_in, general_in, generals_in, order_in, seed_in}
+use Rattle.command_line.specs.Usage.{Text}
+use Rattle.command_line.specs.declared.tasks.Accesses.{Accesses}
+use Rattle.command_line.specs.declared.tasks.Accesses.TheVariants.{OfChronicle, Listed}
+use Rattle.command_line.specs.declared.tasks.Account.{Account}
+use Rattle.command_line.specs.declared.tasks.Account.TheVariants.{Chronicle, Table}
+use Rattle.command_line.specs.declared.tasks.Course.{Course}
+use Rattle.command_line.specs.declared.tasks.Course.TheVariants.{Scheduled, Recorded}
+use Rattle.command_line.specs.declared.tasks.Drawing.{Drawing}
+use Rattle.command_line.specs.declared.tasks.Drawing.TheVariants.{Boxes, Ascii, Graph, Svg}
+use Rattle.command_line.specs.declared.tasks.Filling.{Filling}
+use Rattle.command_line.specs.declared.tasks.Lieutenants.{Lieutenants}
+use Rattle.command_line.specs.declared.tasks.Lieutenants.TheVariants.{All, One}
+use Rattle.command_line.specs.declared.tasks.Notation.{Notation}
+use Rattle.command_line.specs.declared.tasks.Notation.TheVariants.{Bytecode, Assembly, Object}
+use Rattle.command_line.specs.declared.tasks.Request.{Request}
+use Rattle.command_line.specs.declared.tasks.Spelling.{Spelling}
+use Rattle.command_line.specs.declared.tasks.Spelling.TheVariants.{Hex, Raw}
+use Rattle.command_line.specs.declared.tasks.Task.{Task}
+use Rattle.command_line.specs.declared.tasks.Task.TheVariants.{Check, Assemble, AssemblePartly, Disassemble, DisassemblePartly, Book, ExplainDecisions, Form, Play, Muster, Audit, Explore, Tree, Draw, Page, Retrace}
+use Rattle.command_line.specs.declared.tasks.Turns.{Turns}
+use Rattle.command_line.specs.declared.tasks.Turns.TheVariants.{OfFile, OfSeed}
+use Rattle.command_line.specs.declared.errors.Misuse.{Misuse}
+use Rattle.command_line.specs.declared.errors.Misuse.TheVariants.{Traitors, Of, Lie, Loyal, Most, Depth, NobodyNamed, TwoDrawings, TwoNotations, UnitsOfParts, TwoCourses, EntryAlone, OfAlone, LieAlone, Seed, TwoSchedules, OutAlone}
+use Rattle.command_line.specs.declared.errors.TaskError.{TaskError}
+use Rattle.command_line.specs.declared.errors.TaskError.TheVariants as error
+
+-- a subcommand's name, and what was met behind it by each name: the word at a place, the value of an option, `true` of
+-- a switch
+pub record Told : Type 0 where
+  pub name : Text
+  pub value : Text → Option Text
+
+abbrev pub word_of : Text → Told → Option Text
+word_of name told = told.value name
+
+-- whether what has this name was met
+abbrev pub has : Text → Told → Bool
+has name told = is_some (word_of name told)
+
+-- the subcommand is one of these
+abbrev pub is_of : List Text → Told → Bool
+is_of names told = list_any (λ name. bytes_eq name told.name) names
+
+abbrev pub programs : List Text
+programs = codes "check" ∷ codes "dis" ∷ []
+
+abbrev pub campaigns : List Text
+campaigns = codes "play" ∷ codes "muster" ∷ codes "audit" ∷ []
+
+-- those that take the number of a lieutenant, and those that take names of traitors
+abbrev pub of_one : List Text
+of_one = codes "tree" ∷ campaigns
+
+abbrev pub of_traitors : List Text
+of_traitors = codes "book" ∷ codes "tree" ∷ []
+
+-- those whose campaign takes a course
+abbrev pub coursed : List Text
+coursed = codes "draw" ∷ codes "page" ∷ []
+
+-- ---- what the words say of a part of a task
+
+abbrev pub IsNotation : Told → Notation → Type 0
+IsNotation told Bytecode =
+    (has (codes "asm") told ≡ false) × (has (codes "elf") told ≡ false) × (word_of (codes "entry") told ≡ None)
+IsNotation told Assembly =
+    (has (codes "asm") told ≡ true) × (has (codes "elf") told ≡ false) × (word_of (codes "entry") told ≡ None)
+IsNotation told (Object entry) = (has (codes "asm") told ≡ false) × (has (codes "elf") told ≡ true)
+    × (word_of (codes "entry") told ≡ option_map string_bytes entry)
+
+abbrev pub is_raw : Spelling → Bool
+is_raw Hex = false
+is_raw Raw = true
+
+-- whom `--explain` or `--traitors` names as traitors, where an explanation is asked for
+abbrev pub named : Bool → Option Text → Option (List ℕ)
+named explained (Some word) = generals_in word
+named true None = Some []
+named false None = None
+
+-- the option names this general, and is not there where there is none
+abbrev pub NamesGeneral : Text → Told → Option ℕ → Type 0
+NamesGeneral name told None = word_of name told ≡ None
+NamesGeneral name told (Some g) = (word_of name told >>= general_in) ≡ Some g
+
+abbrev pub IsFilling : Told → Option Filling → Type 0
+IsFilling told None = (word_of (codes "loyal") told ≡ None) × (word_of (codes "lie") told ≡ None)
+IsFilling told (Some filling) =
+    ((word_of (codes "loyal") told >>= order_in) ≡ Some filling.order) × NamesGeneral (codes "lie") told filling.liar
+
+abbrev pub is_table : Account → Bool
+is_table Chronicle = false
+is_table Table = true
+
+abbrev pub AreExplained : Told → Option Lieutenants → Type 0
+AreExplained told None = (has (codes "explain") told ≡ false) × (word_of (codes "of") told ≡ None)
+AreExplained told (Some All) = (has (codes "explain") told ≡ true) × (word_of (codes "of") told ≡ None)
+AreExplained told (Some (One g)) = (has (codes "explain") told ≡ true) × NamesGeneral (codes "of") told (Some g)
+
+-- the option names this number, and is not there where there is none
+abbrev pub NamesCount : Text → Told → Option ℕ → Type 0
+NamesCount name told None = word_of name told ≡ None
+NamesCount name told (Some n) = (word_of name told >>= count_in) ≡ Some n
+
+-- the option names this seed, and is not there where there is none
+abbrev pub NamesSeed : Told → Option ℕ → Type 0
+NamesSeed told None = word_of (codes "seed") told ≡ None
+NamesSeed told (Some seed) = (word_of (codes "seed") told >>= seed_in) ≡ Some seed
+
+abbrev pub AreTurns : Told → Turns → Type 0
+AreTurns told (OfFile file) =
+    (word_of (codes "schedule") told ≡ option_map string_bytes file) × (word_of (codes "seed") told ≡ None)
+    × (word_of (codes "schedule-out") told ≡ None)
+AreTurns told (OfSeed seed target) = (word_of (codes "schedule") told ≡ None) × NamesSeed told (Some seed)
+    × (word_of (codes "schedule-out") told ≡ option_map string_bytes target)
+
+-- the word at the second place names a chronicle, or lists the accesses
+abbrev pub AreAccesses : Told → Accesses → Type 0
+AreAccesses told (OfChronicle file) =
+    (word_of (codes "CHRONICLE") told ≡ Some (string_bytes file)) × (has (codes "accesses") told ≡ false)
+AreAccesses told (Listed text) =
+    (word_of (codes "CHRONICLE") told ≡ Some (string_bytes text)) × (has (codes "accesses") told ≡ true)
+
+-- lines of text are asked for: they are drawn too where nothing is
+abbrev pub is_text : Told → Bool
+is_text told = has (codes "text") told || has (codes "ascii") told
+
+abbrev pub IsDrawing : Told → Drawing → Type 0
+IsDrawing told Boxes =
+    (has (codes "ascii") told ≡ false) × (has (codes "dot") told ≡ false) × (has (codes "svg") told ≡ false)
+IsDrawing told Ascii =
+    (has (codes "ascii") told ≡ true) × (has (codes "dot") told ≡ false) × (has (codes "svg") told ≡ false)
+IsDrawing told Graph = (is_text told ≡ false) × (has (codes "dot") told ≡ true) × (has (codes "svg") told ≡ false)
+IsDrawing told Svg = (is_text told ≡ false) × (has (codes "dot") told ≡ false) × (has (codes "svg") told ≡ true)
+
+-- so many levels, all where none are named
+abbrev pub levels_in : Option Text → Option ℕ
+levels_in None = Some 4
+levels_in (Some word) = depth_in word
+
+abbrev pub IsCourse : Told → Course → Type 0
+IsCourse told (Scheduled file) =
+    (word_of (codes "schedule") told ≡ option_map string_bytes file) × (word_of (codes "chronicle") told ≡ None)
+IsCourse told (Recorded file) =
+    (word_of (codes "schedule") told ≡ None) × (word_of (codes "chronicle") told ≡ Some (string_bytes file))
+
+-- ---- the words say this task
+
+abbrev pub Says : Told → Task → Type 0
+Says told (Check file notation context explained traced) = (told.name ≡ codes "check")
+    × (word_of (codes "FILE") told ≡ Some (string_bytes file)) × IsNotation told notation
+    × (word_of (codes "context") told ≡ option_map string_bytes context)
+    × (has (codes "explain") told ≡ explained) × (has (codes "trace") told ≡ traced)
+Says told (Assemble file spelling target explained) = (told.name ≡ codes "asm")
+    × (word_of (codes "FILE") told ≡ Some (string_bytes file)) × (has (codes "raw") told ≡ is_raw spelling)
+    × (word_of (codes "target") told ≡ option_map string_bytes target) × (has (codes "explain") told ≡ explained)
+    × (has (codes "partial") told ≡ false)
+Says told (AssemblePartly file spelling target explained) = (told.name ≡ codes "asm")
+    × (word_of (codes "FILE") told ≡ Some (string_bytes file)) × (has (codes "raw") told ≡ is_raw spelling)
+    × (word_of (codes "target") told ≡ option_map string_bytes target) × (has (codes "explain") told ≡ explained)
+    × (has (codes "partial") told ≡ true)
+Says told (Disassemble file notation units explained) = (told.name ≡ codes "dis")
+    × (word_of (codes "FILE") told ≡ Some (string_bytes file)) × IsNotation told notation
+    × (has (codes "units") told ≡ units) × (has (codes "explain") told ≡ explained)
+    × (has (codes "partial") told ≡ false)
+Says told (DisassemblePartly file notation explained) = (told.name ≡ codes "dis")
+    × (word_of (codes "FILE") told ≡ Some (string_bytes file)) × IsNotation told notation
+    × (has (codes "units") told ≡ false) × (has (codes "explain") told ≡ explained)
+    × (has (codes "partial") told ≡ true)
+Says told (Book file) = (told.name ≡ codes "book")
+    × (word_of (codes "FILE") told ≡ Some (string_bytes file))
+    × (has (codes "explain") told ≡ false) × (word_of (codes "traitors") told ≡ None)
+Says told (ExplainDecisions file traitors) = (told.name ≡ codes "book")
+    × (word_of (codes "FILE") told ≡ Some (string_bytes file))
+    × (named (has (codes "explain") told) (word_of (codes "traitors") told) ≡ Some traitors.items)
+Says told (Form n m c filling) = (told.name ≡ codes "table")
+    × (word_of (codes "GENERALS") told ≡ Some (string_bytes n)) × (word_of (codes "BOUND") told ≡ Some (string_bytes m))
+    × (word_of (codes "COMMANDER") told ≡ Some (string_bytes c)) × IsFilling told filling
+Says told (Play scenario turns account explained) = (told.name ≡ codes "play")
+    × (word_of (codes "SCENARIO") told ≡ Some (string_bytes scenario)) × AreTurns told turns
+    × (has (codes "table") told ≡ is_table account) × AreExplained told explained
+Says told (Muster scenario explained) = (told.name ≡ codes "muster")
+    × (word_of (codes "SCENARIO") told ≡ Some (string_bytes scenario)) × AreExplained told explained
+Says told (Audit scenario chronicle explained) = (told.name ≡ codes "audit")
+    × (word_of (codes "SCENARIO") told ≡ Some (string_bytes scenario))
+    × (word_of (codes "CHRONICLE") told ≡ Some (string_bytes chronicle)) × AreExplained told explained
+Says told (Explore scenario most folder) = (told.name ≡ codes "explore")
+    × (word_of (codes "SCENARIO") told ≡ Some (string_bytes scenario)) × NamesCount (codes "most") told most
+    × (word_of (codes "keep") told ≡ option_map string_bytes folder)
+Says told (Tree file general traitors drawing depth folded) = (told.name ≡ codes "tree")
+    × (word_of (codes "FILE") told ≡ Some (string_bytes file)) × NamesGeneral (codes "of") told (Some general)
+    × (named true (word_of (codes "traitors") told) ≡ Some traitors.items) × IsDrawing told drawing
+    × (levels_in (word_of (codes "depth") told) ≡ Some depth) × (has (codes "fold") told ≡ folded)
+Says told (Draw scenario course) = (told.name ≡ codes "draw")
+    × (word_of (codes "SCENARIO") told ≡ Some (string_bytes scenario)) × IsCourse told course
+Says told (Page scenario course target) = (told.name ≡ codes "page")
+    × (word_of (codes "SCENARIO") told ≡ Some (string_bytes scenario)) × IsCourse told course
+    × (word_of (codes "target") told ≡ option_map string_bytes target)
+Says told (Retrace scenario accesses) = (told.name ≡ codes "schedule")
+    × (word_of (codes "SCENARIO") told ≡ Some (string_bytes scenario)) × AreAccesses told accesses
+
+-- the words ask for this: the task, and whether its answer is to be JSON, or one line
+abbrev pub Asks : Told → Request → Type 0
+Asks told request =
+    Says told request.task × (has (codes "json") told ≡ request.json) × (has (codes "verdicts") told ≡ request.verdicts)
+
+-- ---- the names of the task's files: of its only or first, of the second, and of the one that it writes
+
+abbrev pub file_of : Task → Option Text
+file_of (Check file notation context explained traced) = Some (string_bytes file)
+file_of (Assemble file spelling target explained) = Some (string_bytes file)
+file_of (AssemblePartly file spelling target explained) = Some (string_bytes file)
+file_of (Disassemble file notation units explained) = Some (string_bytes file)
+file_of (DisassemblePartly file notation explained) = Some (string_bytes file)
+file_of (Book file) = Some (string_bytes file)
+file_of (ExplainDecisions file traitors) = Some (string_bytes file)
+file_of (Form n m c filling) = None
+file_of (Play scenario turns account explained) = Some (string_bytes scenario)
+file_of (Muster scenario explained) = Some (string_bytes scenario)
+file_of (Audit scenario chronicle explained) = Some (string_bytes scenario)
+file_of (Explore scenario most folder) = Some (string_bytes scenario)
+file_of (Tree file general traitors drawing depth folded) = Some (string_bytes file)
+file_of (Draw scenario course) = Some (string_bytes scenario)
+file_of (Page scenario course target) = Some (string_bytes scenario)
+file_of (Retrace scenario accesses) = Some (string_bytes scenario)
+
+abbrev pub course_file : Course → Option Text
+course_file (Scheduled schedule) = option_map string_bytes schedule
+course_file (Recorded chronicle) = Some (string_bytes chronicle)
+
+abbrev pub turns_file : Turns → Option Text
+turns_file (OfFile file) = option_map string_bytes file
+turns_file (OfSeed seed target) = None
+
+abbrev pub accesses_file : Accesses → Option Text
+accesses_file (OfChronicle file) = Some (string_bytes file)
+accesses_file (Listed text) = None
+
+abbrev pub second_of : Task → Option Text
+second_of (Check file notation context explained traced) = option_map string_bytes context
+second_of (Play scenario turns account explained) = turns_file turns
+second_of (Audit scenario chronicle explained) = Some (string_bytes chronicle)
+second_of (Draw scenario course) = course_file course
+second_of (Page scenario course target) = course_file course
+second_of (Retrace scenario accesses) = accesses_file accesses
+second_of _ = None
+
+abbrev pub target_of : Task → Option Text
+target_of (Assemble file spelling target explained) = option_map string_bytes target
+target_of (AssemblePartly file spelling target explained) = option_map string_bytes target
+target_of (Page scenario course target) = option_map string_bytes target
+target_of _ = None
+
+-- ---- what stands in place of a second file: the schedule of a seed; and what is written besides
+
+abbrev pub turns_seed : Turns → Option ℕ
+turns_seed (OfFile file) = None
+turns_seed (OfSeed seed target) = Some seed
+
+abbrev pub seed_of : Task → Option ℕ
+seed_of (Play scenario turns account explained) = turns_seed turns
+seed_of _ = None
+
+abbrev pub seed_target : Turns → Option Text
+seed_target (OfFile file) = None
+seed_target (OfSeed seed target) = option_map string_bytes target
+
+abbrev pub schedule_target_of : Task → Option Text
+schedule_target_of (Play scenario turns account explained) = seed_target turns
+schedule_target_of _ = None
+
+abbrev pub folder_of : Task → Option Text
+folder_of (Explore scenario most folder) = option_map string_bytes folder
+folder_of _ = None
+
+-- ---- refusals
+
+-- two of these are there
+abbrev pub are_two : Bool → Bool → Bool → Bool
+are_two true true c = true
+are_two true false c = c
+are_two false b c = b && c
+
+-- the words are misused so
+abbrev pub IsMisused : Told → Misuse → Type 0
+IsMisused told (Traitors word) = (is_of of_traitors told ≡ true)
+    × (word_of (codes "traitors") told ≡ Some (string_bytes word)) × (generals_in (string_bytes word) ≡ None)
+IsMisused told (Of word) = (is_of of_one told ≡ true)
+    × (word_of (codes "of") told ≡ Some (string_bytes word)) × (general_in (string_bytes word) ≡ None)
+IsMisused told (Lie word) = (is_of (codes "table" ∷ []) told ≡ true)
+    × (word_of (codes "lie") told ≡ Some (string_bytes word)) × (general_in (string_bytes word) ≡ None)
+IsMisused told (Loyal word) = (is_of (codes "table" ∷ []) told ≡ true)
+    × (word_of (codes "loyal") told ≡ Some (string_bytes word)) × (order_in (string_bytes word) ≡ None)
+IsMisused told (Most word) = (is_of (codes "explore" ∷ []) told ≡ true)
+    × (word_of (codes "most") told ≡ Some (string_bytes word)) × (count_in (string_bytes word) ≡ None)
+IsMisused told (Depth word) = (is_of (codes "tree" ∷ []) told ≡ true)
+    × (word_of (codes "depth") told ≡ Some (string_bytes word)) × (depth_in (string_bytes word) ≡ None)
+IsMisused told (Seed word) = (is_of (codes "play" ∷ []) told ≡ true)
+    × (word_of (codes "seed") told ≡ Some (string_bytes word)) × (seed_in (string_bytes word) ≡ None)
+IsMisused told NobodyNamed = (is_of (codes "tree" ∷ []) told ≡ true) × (has (codes "of") told ≡ false)
+IsMisused told TwoDrawings = (is_of (codes "tree" ∷ []) told ≡ true)
+    × (are_two (is_text told) (has (codes "dot") told) (has (codes "svg") told) ≡ true)
+IsMisused told TwoNotations =
+    (is_of programs told ≡ true) × (has (codes "asm") told ≡ true) × (has (codes "elf") told ≡ true)
+IsMisused told UnitsOfParts =
+    (is_of (codes "dis" ∷ []) told ≡ true) × (has (codes "units") told ≡ true) × (has (codes "partial") told ≡ true)
+IsMisused told TwoCourses = (is_of coursed told ≡ true)
+    × (has (codes "schedule") told ≡ true) × (has (codes "chronicle") told ≡ true)
+IsMisused told EntryAlone =
+    (is_of programs told ≡ true) × (has (codes "entry") told ≡ true) × (has (codes "elf") told ≡ false)
+IsMisused told OfAlone =
+    (is_of campaigns told ≡ true) × (has (codes "of") told ≡ true) × (has (codes "explain") told ≡ false)
+IsMisused told LieAlone =
+    (is_of (codes "table" ∷ []) told ≡ true) × (has (codes "lie") told ≡ true) × (has (codes "loyal") told ≡ false)
+IsMisused told TwoSchedules = (is_of (codes "play" ∷ []) told ≡ true)
+    × (has (codes "seed") told ≡ true) × (has (codes "schedule") told ≡ true)
+IsMisused told OutAlone = (is_of (codes "play" ∷ []) told ≡ true)
+    × (has (codes "schedule-out") told ≡ true) × (has (codes "seed") told ≡ false)
+
+-- an error of words that `clap` takes: they are misused so, or memory is wanting
+abbrev pub IsErrorOf : Told → TaskError → Type 0
+IsErrorOf told (error.Words refusal) = ⊥
+IsErrorOf told (error.Misuse misuse) = IsMisused told misuse
+IsErrorOf told error.Memory = ⊤
+
+-- `clap`'s error is told as its own, and as want of memory exactly where it is that
+abbrev pub IsToldBy : Error → TaskError → Type 0
+IsToldBy refusal (error.Words own) = (own ≡ refusal) × (kind_of refusal ≢ OutOfMemory)
+IsToldBy refusal error.Memory = kind_of refusal ≡ OutOfMemory
+IsToldBy refusal (error.Misuse misuse) = ⊥
+
+-- the fact holds of `clap`'s error, where it refused the words
+abbrev pub IfWords : TaskError → (Error → Type 0) → Type 0
+IfWords (error.Words refusal) P = P refusal
+IfWords _ P = ⊤
+
+-- the fact holds of the misuse, where `clap` took the words
+abbrev pub IfMisuse : TaskError → (Misuse → Type 0) → Type 0
+IfMisuse (error.Misuse misuse) P = P misuse
+IfMisuse _ P = ⊤
+
+-- the words are refused, and not for want of memory
+abbrev pub IfRefused : TaskError → Type 0 → Type 0
+IfRefused error.Memory P = ⊤
+IfRefused _ P = P

@@ -1,0 +1,79 @@
+-- What is said behind the line of a refusal where an explanation is asked for: the report of crate `why`, by the file's
+-- name and bytes.
+use Rattle.std.specs.Prelude.{ℕ, ◌≡◌, Bool, true, false, List, [], ◌++◌, Option, None, Some, IfSome, codes, is_some}
+use Rattle.command_line.specs.declared.tasks.Task.{Task}
+use Rattle.command_line.specs.declared.tasks.Task.TheVariants.{Assemble, AssemblePartly, Audit, Check, Disassemble, DisassemblePartly, ExplainDecisions, Muster, Play}
+use Rattle.asm.specs.declared.fault.AsmError.TheVariants as asm
+use Rattle.book.specs.declared.fault.TableError.TheVariants as book
+use Rattle.codec.specs.declared.fault.CodecError.TheVariants as codec
+use Rattle.trace.specs.declared.fault.TraceError.TheVariants as trace
+use Rattle.streams.specs.Names.{shown}
+use Rattle.why.specs.Assembly.{assembly_told}
+use Rattle.why.specs.Bytecode.{bytecode_told}
+use Rattle.why.specs.Chronicles.{replayed_told, schedule_told}
+use Rattle.why.specs.Errors.{TellsScenario, TellsSetting}
+use Rattle.why.specs.Messages.{stranger_told, table_told}
+use Rattle.faults.specs.Seeming.{seems_at_first, seems_text}
+use Rattle.inputs.specs.declared.refusal.Refusal.{Refusal}
+use Rattle.inputs.specs.declared.refusal.Refusal.TheVariants.{Codec, Assembly, Table, Scenario, Setting, Trace, Threads, Stranger}
+use Rattle.faults.specs.declared.seeming.Likeness.{Likeness}
+use Rattle.faults.specs.declared.whys.Traced.{Traced}
+use Rattle.faults.specs.declared.whys.Traced.TheVariants as traced
+use Rattle.scenario.specs.declared.messages.Campaign.{Campaign}
+use Rattle.scenario.specs.declared.messages.Campaign.TheVariants as campaigns
+use Rattle.trace.specs.Again.{signed_told_again, told_again}
+use Rattle.why.specs.Musters.{muster_told}
+
+-- the task is to explain what it refuses
+abbrev pub is_explained : Task → Bool
+is_explained (Check file notation context explained traced) = explained
+is_explained (Assemble file spelling target explained) = explained
+is_explained (AssemblePartly file spelling target explained) = explained
+is_explained (Disassemble file notation units explained) = explained
+is_explained (DisassemblePartly file notation explained) = explained
+is_explained (ExplainDecisions file traitors) = true
+is_explained (Play scenario schedule account explained) = is_some explained
+is_explained (Muster scenario explained) = is_some explained
+is_explained (Audit scenario chronicle explained) = is_some explained
+is_explained _ = false
+
+-- the line that bytes seem to be something else
+abbrev pub seems_line : Option Likeness → List ℕ
+seems_line None = []
+seems_line (Some likeness) = codes "\n" ++ seems_text likeness
+
+-- what a file is in which a line is at fault: a schedule, a chronicle of this campaign, or none of these
+pub data Role : Type 0 where
+  Schedule : Role
+  Chronicle : Campaign → Role
+  Nothing : Role
+
+-- the code's own role, seen so
+abbrev pub role_view : Traced → Role
+role_view traced.Schedule = Schedule
+role_view (traced.Chronicle campaign) = Chronicle campaign.now
+role_view traced.Nothing = Nothing
+
+-- the text that a campaign has in place of one that is not sound
+abbrev pub campaign_again : Campaign → List ℕ → List ℕ
+campaign_again (campaigns.Oral s) text = told_again s text
+campaign_again (campaigns.Signed s) text = signed_told_again s text
+
+-- this text stands behind the line of a refusal of a file with this name, which is to be shown so, and these bytes
+abbrev pub TellsWhy : Refusal → Role → List ℕ → List ℕ → List ℕ → Type 0
+TellsWhy (Trace (trace.At fault line)) Schedule name bytes told = told ≡ schedule_told name bytes line
+TellsWhy (Trace (trace.At fault line)) (Chronicle c) name bytes told =
+    told ≡ replayed_told name bytes fault line (campaign_again c bytes)
+TellsWhy (Codec (codec.At fault unit)) of name bytes told =
+    told ≡ seems_line (seems_at_first bytes) ++ bytecode_told name bytes fault unit
+TellsWhy (Assembly (asm.At fault line)) of name bytes told = told ≡ assembly_told name bytes fault line
+TellsWhy (Table (book.At fault line)) of name bytes told = told ≡ table_told name bytes fault line
+TellsWhy (Scenario error) of name bytes told = TellsScenario name bytes error told
+TellsWhy (Setting error) of name bytes told = TellsSetting name bytes error told
+TellsWhy (Threads error) of name bytes told = told ≡ muster_told error
+TellsWhy (Stranger general generals) of name bytes told = told ≡ stranger_told name bytes generals
+TellsWhy _ of name bytes told = told ≡ []
+
+-- the same of the file's name as it is given; of one past ASCII with a control character nothing is said
+abbrev pub TellsWhyOf : Refusal → Role → List ℕ → List ℕ → List ℕ → Type 0
+TellsWhyOf refusal of file bytes told = IfSome (shown file) (λ name. TellsWhy refusal of name bytes told)

@@ -1,0 +1,47 @@
+use crate::seeming::{Likeness, seems};
+use std::fmt;
+
+/// What is said behind the line of a refusal.
+#[derive(Debug, Drop)]
+pub enum Hint {
+    /// What the bytes seem to be.
+    Seems(Likeness),
+    /// Why an object has no code for the entry.
+    Fault(elf::Fault),
+    /// Why the program is refused: its explanation.
+    Explained(String),
+}
+
+impl fmt::Display for Hint {
+    ghost use Rattle.std.specs.Prelude.{Some};
+    ghost use Rattle.faults.specs.Hints.{hint_text};
+
+    ghost output = { λ hint. Some (hint_text hint) };
+
+    fn fmt<W: fmt::Write>(&self, f: &mut fmt::Formatter<W>) -> fmt::Result {
+        match self {
+            Hint::Seems(likeness) => write!(f, "\n{likeness}"),
+            Hint::Fault(fault) => {
+                f.write_str("\n")?;
+                f.write_str(elf::sentence(*fault))
+            }
+            Hint::Explained(text) => f.write_str(text.as_str()),
+        }
+    }
+}
+
+impl Hint {
+    ghost use Rattle.std.specs.Prelude.{◌≡◌, option_map};
+    ghost use Rattle.faults.specs.Seeming.{seems_at_first};
+    ghost use Rattle.faults.specs.declared.hint.Hint.TheVariants.{Seems};
+
+    /// What bytes seem to be that spell no program.
+    pub(crate) fn of_bytes(bytes: &[u8]) -> Option<Hint>
+        ensures { result ≡ option_map Seems (seems_at_first bytes.now) }
+    {
+        match seems(bytes) {
+            Some(likeness) => Some(Hint::Seems(likeness)),
+            None => None,
+        }
+    }
+}

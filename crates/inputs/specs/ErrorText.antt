@@ -1,0 +1,29 @@
+-- What is said of a refusal: its code and its place.
+use Rattle.std.specs.Prelude.{ℕ, List, ◌++◌, codes, decimal}
+use Rattle.asm.specs.ErrorText as asm
+use Rattle.book.specs.ErrorText as book
+use Rattle.codec.specs.ErrorText as codec
+use Rattle.elf.specs.ErrorText as elf
+use Rattle.retracing.specs.ErrorText.{fault_told}
+use Rattle.scenario.specs.ErrorText as scenario
+use Rattle.threads.specs.ErrorText as threads
+use Rattle.trace.specs.ErrorText as trace
+use Rattle.trial.specs.ErrorText as trial
+use Rattle.verify.specs.ErrorText as verify
+use Rattle.inputs.specs.declared.refusal.Refusal.{Refusal}
+use Rattle.inputs.specs.declared.refusal.Refusal.TheVariants.{Codec, Object, Verifier, Assembly, Table, Scenario, Setting, Trace, Threads, Accesses, Stranger, NotText, Memory}
+
+abbrev pub refusal_text : Refusal → List ℕ
+refusal_text (Codec error) = codec.told error
+refusal_text (Object fault) = elf.told fault
+refusal_text (Verifier fault) = verify.told fault
+refusal_text (Assembly error) = asm.told error
+refusal_text (Table error) = book.told error
+refusal_text (Scenario error) = scenario.told error
+refusal_text (Setting error) = trial.told error
+refusal_text (Trace error) = trace.told error
+refusal_text (Threads error) = threads.told error
+refusal_text (Accesses fault) = fault_told fault
+refusal_text (Stranger general generals) = codes "G1 general " ++ decimal general
+refusal_text NotText = codes "not UTF-8"
+refusal_text Memory = codes "out of memory"

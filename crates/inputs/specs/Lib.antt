@@ -1,0 +1,3 @@
+pub mod ErrorText
+pub mod Refusals
+pub mod Schedules

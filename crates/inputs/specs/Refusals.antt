@@ -1,0 +1,104 @@
+-- Why a text tells no campaign, no schedule or no chronicle, and the refusal of each error.
+use Rattle.std.specs.Prelude.{ℕ, ◌≡◌, ◌≢◌, Bool, true, false, List, Err}
+use Rattle.std.specs.Str.{IsUtf8}
+use Rattle.codec.specs.declared.fault.CodecError.{CodecError}
+use Rattle.codec.specs.declared.fault.CodecError.TheVariants as codec
+use Rattle.asm.specs.declared.fault.AsmError.{AsmError}
+use Rattle.asm.specs.declared.fault.AsmError.TheVariants as asm
+use Rattle.book.specs.declared.fault.TableError.{TableError}
+use Rattle.book.specs.declared.fault.TableError.TheVariants as table
+use Rattle.toml.specs.Parse.{parse_document}
+use Rattle.retracing.specs.declared.fault.AccessesError.{AccessesError}
+use Rattle.retracing.specs.declared.fault.AccessesError.TheVariants as accesses
+use Rattle.scenario.specs.Reading.{Reads, ReadsAny}
+use Rattle.scenario.specs.declared.messages.Campaign.{Campaign}
+use Rattle.scenario.specs.declared.messages.Campaign.TheVariants.{Oral, Signed}
+use Rattle.scenario.specs.declared.fault.ScenarioError.{ScenarioError}
+use Rattle.scenario.specs.declared.fault.ScenarioError.TheVariants as scenario
+use Rattle.trial.specs.declared.fault.SettingError.{SettingError}
+use Rattle.trial.specs.declared.fault.SettingError.TheVariants as setting
+use Rattle.threads.specs.declared.error.MusterError.{MusterError}
+use Rattle.threads.specs.declared.error.MusterError.TheVariants as muster
+use Rattle.trace.specs.Audit.{IsFaultOf}
+use Rattle.trace.specs.Laws.{IsSoundText}
+use Rattle.trace.specs.SignedAudit.{IsSignedFaultOf, IsSoundSignedText}
+use Rattle.trace.specs.Schedules.{schedule_told}
+use Rattle.trace.specs.declared.fault.TraceError.{TraceError}
+use Rattle.trace.specs.declared.fault.TraceError.TheVariants as trace
+use Rattle.verify.specs.declared.error.VerifyError.{VerifyError}
+use Rattle.verify.specs.declared.error.VerifyError.TheVariants as verifier
+use Rattle.inputs.specs.declared.refusal.Refusal.{Refusal}
+use Rattle.inputs.specs.declared.refusal.Refusal.TheVariants.{Codec, Verifier, Assembly, Table, Scenario, Setting, Trace, Threads, Accesses, NotText, Memory}
+
+-- the refusal of each error: want of memory is the same everywhere
+abbrev pub codec_refusal : CodecError → Refusal
+codec_refusal codec.Memory = Memory
+codec_refusal error = Codec error
+
+abbrev pub verifier_refusal : VerifyError → Refusal
+verifier_refusal verifier.Memory = Memory
+verifier_refusal fault = Verifier fault
+
+abbrev pub assembly_refusal : AsmError → Refusal
+assembly_refusal asm.Memory = Memory
+assembly_refusal error = Assembly error
+
+abbrev pub table_refusal : TableError → Refusal
+table_refusal table.Memory = Memory
+table_refusal error = Table error
+
+abbrev pub scenario_refusal : ScenarioError → Refusal
+scenario_refusal scenario.Memory = Memory
+scenario_refusal error = Scenario error
+
+abbrev pub setting_refusal : SettingError → Refusal
+setting_refusal setting.Memory = Memory
+setting_refusal error = Setting error
+
+abbrev pub trace_refusal : TraceError → Refusal
+trace_refusal trace.Memory = Memory
+trace_refusal error = Trace error
+
+abbrev pub muster_refusal : MusterError → Refusal
+muster_refusal muster.Memory = Memory
+muster_refusal error = Threads error
+
+-- the text tells no oral campaign, by this first fault
+abbrev pub RefusesScenario : List ℕ → Refusal → Type 0
+RefusesScenario text (Scenario error) = (error ≢ scenario.Memory) × Reads (parse_document text) (Err error)
+RefusesScenario text Memory = Unit {0}
+RefusesScenario text _ = ⊥
+
+-- the text tells no campaign, oral or signed, by this first fault
+abbrev pub RefusesCampaign : List ℕ → Refusal → Type 0
+RefusesCampaign text (Scenario error) = (error ≢ scenario.Memory) × ReadsAny (parse_document text) (Err error)
+RefusesCampaign text Memory = Unit {0}
+RefusesCampaign text _ = ⊥
+
+-- the text tells no campaign, or no oral one where its message table is asked for
+abbrev pub RefusesAsked : Bool → List ℕ → Refusal → Type 0
+RefusesAsked true text refusal = RefusesCampaign text refusal
+RefusesAsked false text refusal = RefusesScenario text refusal
+
+-- the text tells no schedule, by this first line
+abbrev pub RefusesSchedule : List ℕ → Refusal → Type 0
+RefusesSchedule text (Trace error) = schedule_told text ≡ Err error
+RefusesSchedule text Memory = Unit {0}
+RefusesSchedule text _ = ⊥
+
+-- the text is no chronicle of the campaign, by this first line
+abbrev pub RefusesChronicle : Campaign → List ℕ → Refusal → Type 0
+RefusesChronicle (Oral s) text (Trace error) = (IsSoundText s text → ⊥) × IsFaultOf s text error
+RefusesChronicle (Signed s) text (Trace error) = (IsSoundSignedText s text → ⊥) × IsSignedFaultOf s text error
+RefusesChronicle c text Memory = Unit {0}
+RefusesChronicle c text _ = ⊥
+
+-- the error of listed accesses
+abbrev pub accesses_refusal : AccessesError → Refusal
+accesses_refusal accesses.Memory = Memory
+accesses_refusal (accesses.At fault) = Accesses fault
+
+-- the bytes are no text, or the text is refused
+abbrev pub RefusesText : (List ℕ → Refusal → Type 0) → List ℕ → Refusal → Type 0
+RefusesText refuses bytes NotText = IsUtf8 bytes → ⊥
+RefusesText refuses bytes refusal = refuses bytes refusal

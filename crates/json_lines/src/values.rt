@@ -1,0 +1,139 @@
+//! What a word of a line tells.
+ghost use Rattle.std.specs.Prelude.{◌≡◌, IfOk, option_map};
+ghost use Rattle.std.specs.Str.Lossy.{utf8_lossy};
+ghost use Rattle.serde_json.specs.Data.{string};
+ghost use Rattle.serde_json.specs.View.{view};
+ghost use Rattle.text.specs.Parts.{left};
+ghost use Rattle.text.specs.Stop.{space};
+ghost use Rattle.json_lines.specs.Values.{joined, number_of, numbers_of, place_of, places, rule_of, small, told, yes_no_of};
+
+use combine::Rule;
+use serde_json::Value;
+use std::alloc::{AllocError, Global};
+use text::{DOT, SPACE, decimal, piece};
+
+/// A number of 64 bits, in decimal without leading zeros.
+fn small(word: &[u8]) -> Option<u64>
+    ensures { result ≡ small word.now }
+{
+    let number = decimal(word)?;
+    u64::try_from(number).ok()
+}
+
+/// A number.
+fn number(word: &[u8]) -> Option<Value>
+    ensures { option_map view result ≡ number_of word.now }
+{
+    let number = small(word)?;
+    Some(Value::from(number))
+}
+
+/// A number, or a dash for nothing.
+fn place(word: &[u8]) -> Option<Value>
+    ensures { option_map view result ≡ place_of word.now }
+{
+    if word == b"-".as_slice() {
+        return Some(Value::Null);
+    }
+    number(word)
+}
+
+/// Yes or no, or a dash for neither.
+fn yes_no(word: &[u8]) -> Option<Value>
+    ensures { option_map view result ≡ yes_no_of word.now }
+{
+    if word == b"-".as_slice() {
+        Some(Value::Null)
+    } else if word == b"yes".as_slice() {
+        Some(Value::Bool(true))
+    } else if word == b"no".as_slice() {
+        Some(Value::Bool(false))
+    } else {
+        None
+    }
+}
+
+/// Numbers joined by dots.
+fn numbers(alloc: Global, word: &[u8]) -> Result<Option<Value>, AllocError>
+    ensures { IfOk result (λ o. option_map view o ≡ numbers_of word.now) }
+{
+    let mut items = Vec::new(alloc);
+    let mut rest = Some(word);
+    while let Some(numbers) = rest {
+        let (first, further) = piece(DOT, numbers);
+        let Some(value) = number(first) else {
+            return Ok(None);
+        };
+        items.push(value)?;
+        rest = further;
+    }
+    Ok(Some(Value::Array(items)))
+}
+
+/// Numbers joined by dots, or a dash for none.
+fn joined(alloc: Global, word: &[u8]) -> Result<Option<Value>, AllocError>
+    ensures { IfOk result (λ o. option_map view o ≡ joined word.now) }
+{
+    if word == b"-".as_slice() {
+        return Ok(Some(Value::Array(Vec::new(alloc))));
+    }
+    numbers(alloc, word)
+}
+
+/// All words that are left of a line: numbers, or dashes for nothing.
+pub(crate) fn places(alloc: Global, words: Option<&[u8]>) -> Result<Option<Value>, AllocError>
+    ensures { IfOk result (λ o. option_map view o ≡ places (left space words.entry)) }
+{
+    let mut items = Vec::new(alloc);
+    let mut rest = words;
+    while let Some(numbers) = rest {
+        let (first, further) = piece(SPACE, numbers);
+        let Some(value) = place(first) else {
+            return Ok(None);
+        };
+        items.push(value)?;
+        rest = further;
+    }
+    Ok(Some(Value::Array(items)))
+}
+
+/// A rule's word, as a text.
+fn rule(alloc: Global, word: &[u8]) -> Result<Option<Value>, AllocError>
+    ensures { IfOk result (λ o. option_map view o ≡ rule_of word.now) }
+{
+    match Rule::named(word) {
+        Some(_) => Ok(Some(spelled(alloc, word)?)),
+        None => Ok(None),
+    }
+}
+
+/// What a word tells that stands for this word of a shape: a number for `N`, a number or a dash for `P`, yes, no or a
+/// dash for `A`, numbers joined by dots or a dash for `S`, a rule's word for `C`, and for another word that word
+/// itself.
+#[tactic(auto, unfolding(crate::specs::Values::told))]
+pub(crate) fn told(alloc: Global, kind: &[u8], word: &[u8]) -> Result<Option<Value>, AllocError>
+    ensures { IfOk result (λ o. option_map view o ≡ told kind.now word.now) }
+{
+    if kind == b"N".as_slice() {
+        Ok(number(word))
+    } else if kind == b"P".as_slice() {
+        Ok(place(word))
+    } else if kind == b"A".as_slice() {
+        Ok(yes_no(word))
+    } else if kind == b"S".as_slice() {
+        joined(alloc, word)
+    } else if kind == b"C".as_slice() {
+        rule(alloc, word)
+    } else if word == kind {
+        Ok(Some(spelled(alloc, word)?))
+    } else {
+        Ok(None)
+    }
+}
+
+/// A word as a text.
+pub(crate) fn spelled(alloc: Global, word: &[u8]) -> Result<Value, AllocError>
+    ensures { IfOk result (λ v. view v ≡ string (utf8_lossy word.now)) }
+{
+    Ok(Value::String(String::from_utf8_lossy(alloc, word)?))
+}

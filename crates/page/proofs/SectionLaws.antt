@@ -1,0 +1,145 @@
+-- Sections take no more than their room, and none is left out that there is room for.
+use Rattle.std.proofs.Common.{ℕ, ◌+◌, ◌-◌, ◌≤◌, ◌<◌, ◌≡◌, List, [], ◌∷◌, ◌++◌, length, length-append, refl, sym, ap, subst, ◌∙◌, arith, append_assoc, append-nil, true, false}
+use Rattle.std.specs.Prelude.{nat_le, if◌then◌else◌}
+use Rattle.std.specs.List.{AllByRecursion}
+use Rattle.std.proofs.lemmas.Bool.{cond-true, cond_both, le-leb, leb-false, leb-true}
+use Rattle.std.proofs.lemmas.List.Elements.{recursion_from_All}
+use Rattle.markup.specs.Grammar.{IsContent, joined, no_text, text}
+use Rattle.page.specs.Page.{heading}
+use Rattle.page.specs.Laws.{IsFilled, IsRoomy, SectionsAreFitted, StandsIn}
+use Rattle.page.specs.Sections.{Section, all_sections, fitted_sections, heading_bytes, left_by, more, rooms, section, sections_in, sure, told_bytes}
+use Rattle.page.proofs.PageLaws.{proved_parts_are_content}
+
+-- of a section
+
+sure_told : (s : Section) → length s.told ≤ s.room → sure s ≡ s.told
+sure_told s short = cond-true (nat_le (length s.told) s.room) s.told s.instead (le-leb (length s.told) s.room short)
+
+sure_short : (s : Section) → IsRoomy s → length (sure s) ≤ s.room
+sure_short s is = cond_both (nat_le (length s.told) s.room) s.told s.instead (λ xs. length xs ≤ s.room) (λ e. leb-true (length s.told) s.room e) (λ _. is)
+
+sure_least : (s : Section) → IsRoomy s → length (sure s) ≤ length s.told
+sure_least s is =
+    cond_both (nat_le (length s.told) s.room) s.told s.instead (λ xs. length xs ≤ length s.told) (λ _. omega arith)
+    (λ e. let long = leb-false (length s.told) s.room e in omega arith)
+
+section_short : (title told : List ℕ) → length (section title told) ≤ length (heading title) + length told
+section_short title [] = omega arith
+section_short title (c ∷ cs) = omega (arith, length-append (heading title) (c ∷ cs))
+
+-- ---- how long they are
+
+sure_bytes : List Section → ℕ
+sure_bytes [] = 0
+sure_bytes (s ∷ ss) = length (sure s) + sure_bytes ss
+
+more_bytes : List Section → ℕ
+more_bytes [] = 0
+more_bytes (s ∷ ss) = more s + more_bytes ss
+
+left_is : (room : ℕ) (ss : List Section) → left_by room ss ≡ room - sure_bytes ss
+unfolding sure_bytes
+left_is room [] = omega arith
+left_is room (s ∷ ss) = let rest = left_is (room - length (sure s)) ss in omega arith
+
+sure_roomy : (ss : List Section) → AllByRecursion IsRoomy ss → sure_bytes ss ≤ rooms ss
+unfolding sure_bytes
+sure_roomy [] each = omega arith
+sure_roomy (s ∷ ss) each = let own = sure_short s each.0 in let rest = sure_roomy ss each.1 in omega arith
+
+told_is : (ss : List Section) → AllByRecursion IsRoomy ss → more_bytes ss + sure_bytes ss ≡ told_bytes ss
+unfolding sure_bytes more_bytes
+told_is [] each = omega arith
+told_is (s ∷ ss) each = let own = sure_least s each.0 in let rest = told_is ss each.1 in omega arith
+
+fitted_short : (left : ℕ) (ss : List Section) → length (fitted_sections left ss) ≤ left + sure_bytes ss + heading_bytes ss
+unfolding sure_bytes
+fitted_short left [] = omega arith
+fitted_short left (s ∷ ss) =
+    cond_both (nat_le (more s) left) (section s.title s.told ++ fitted_sections (left - more s) ss)
+    (section s.title s.instead ++ fitted_sections left ss) (λ xs. length xs ≤ left + (length (sure s) + sure_bytes ss) + (length (heading s.title) + heading_bytes ss))
+    (λ e.
+    let one = section_short s.title s.told in
+    let low = leb-true (more s) left e in
+    let rest = fitted_short (left - more s) ss in
+    omega (arith, length-append (section s.title s.told) (fitted_sections (left - more s) ss)))
+    (λ e.
+    let one = section_short s.title s.instead in
+    let long = instead_short s (more s) left (leb-false (more s) left e) refl in
+    let rest = fitted_short left ss in
+    omega (arith, length-append (section s.title s.instead) (fitted_sections left ss)))
+  where
+    -- a section that has to be left out is not within its own room
+    instead_short : (s : Section) (m left : ℕ) → left < m → m ≡ more s → length s.instead ≤ length (sure s)
+    instead_short s m left low e =
+        cond_both (nat_le (length s.told) s.room) s.told s.instead (λ xs. m ≡ length s.told - length xs → length s.instead ≤ length xs)
+        (λ _ same. absurd (omega arith)) (λ _ _. omega arith) e
+
+short : (room : ℕ) (ss : List Section) → rooms ss ≤ room → AllByRecursion IsRoomy ss → length (sections_in room ss) ≤ room + heading_bytes ss
+short room ss low each =
+    let all = fitted_short (left_by room ss) ss in
+    let left = left_is room ss in
+    let sures = sure_roomy ss each in
+    omega arith
+
+-- ---- which are told
+
+all_fitted : (left : ℕ) (ss : List Section) → more_bytes ss ≤ left → fitted_sections left ss ≡ all_sections ss
+unfolding more_bytes
+all_fitted left [] low = refl
+all_fitted left (s ∷ ss) low =
+    cond-true (nat_le (more s) left) (section s.title s.told ++ fitted_sections (left - more s) ss)
+    (section s.title s.instead ++ fitted_sections left ss) (le-leb (more s) left (omega arith))
+    ∙ ap (λ xs. section s.title s.told ++ xs) (all_fitted (left - more s) ss (omega arith))
+
+all_told : (room : ℕ) (ss : List Section) → told_bytes ss ≤ room → AllByRecursion IsRoomy ss → sections_in room ss ≡ all_sections ss
+all_told room ss low each =
+    let left = left_is room ss in
+    let parts = told_is ss each in
+    all_fitted (left_by room ss) ss (omega arith)
+
+-- what stands in a text stands in a longer one
+pub behind : (part whole before : List ℕ) → StandsIn part whole → StandsIn part (before ++ whole)
+behind part whole before is = (before ++ is.0, is.1, ap (λ v. before ++ v) is.2 ∙ simp append_assoc)
+
+pub ahead : (part whole after : List ℕ) → StandsIn part whole → StandsIn part (whole ++ after)
+ahead part whole after is = (is.0, is.1 ++ after, ap (λ v. v ++ after) is.2 ∙ append_assoc (is.0 ++ part) is.1 after)
+
+section_stands : (title told : List ℕ) → StandsIn told (section title told)
+section_stands title [] = ([], [], refl)
+section_stands title (c ∷ cs) = (heading title, [], sym (append-nil (heading title ++ c ∷ cs)))
+
+own_fitted : (left : ℕ) (before : List Section) (s : Section) (after : List Section) → length s.told ≤ s.room → StandsIn s.told (fitted_sections left (before ++ s ∷ after))
+own_fitted left [] s after low =
+    let sure_is : length (sure s) ≡ length s.told = ap length (sure_told s low) in
+    subst (StandsIn s.told)
+    (sym (cond-true (nat_le (more s) left) (section s.title s.told ++ fitted_sections (left - more s) after)
+    (section s.title s.instead ++ fitted_sections left after) (le-leb (more s) left (omega arith))))
+    (ahead s.told (section s.title s.told) (fitted_sections (left - more s) after) (section_stands s.title s.told))
+own_fitted left (b ∷ before) s after low =
+    cond_both (nat_le (more b) left) (section b.title b.told ++ fitted_sections (left - more b) (before ++ s ∷ after))
+    (section b.title b.instead ++ fitted_sections left (before ++ s ∷ after)) (StandsIn s.told)
+    (λ _. behind s.told (fitted_sections (left - more b) (before ++ s ∷ after)) (section b.title b.told) (own_fitted (left - more b) before s after low))
+    (λ _. behind s.told (fitted_sections left (before ++ s ∷ after)) (section b.title b.instead) (own_fitted left before s after low))
+
+-- ---- content
+
+section_content : (title told : List ℕ) → IsContent told → IsContent (section title told)
+section_content title [] c = text [] no_text
+section_content title (x ∷ xs) c = joined (heading title) (x ∷ xs) (proved_parts_are_content.heading title) c
+
+fitted_content : (left : ℕ) (ss : List Section) → AllByRecursion IsFilled ss → IsContent (fitted_sections left ss)
+fitted_content left [] each = text [] no_text
+fitted_content left (s ∷ ss) each =
+    cond_both (nat_le (more s) left) (section s.title s.told ++ fitted_sections (left - more s) ss)
+    (section s.title s.instead ++ fitted_sections left ss) IsContent
+    (λ _. joined (section s.title s.told) (fitted_sections (left - more s) ss) (section_content s.title s.told each.0.0) (fitted_content (left - more s) ss each.1))
+    (λ _. joined (section s.title s.instead) (fitted_sections left ss) (section_content s.title s.instead each.0.1) (fitted_content left ss each.1))
+
+pub proved_sections_are_fitted : SectionsAreFitted
+proved_sections_are_fitted = record {
+  short = λ room ss low each. short room ss low (recursion_from_All IsRoomy ss each);
+  own = λ room before s after low. own_fitted (left_by room (before ++ s ∷ after)) before s after low;
+  all = λ room ss low each. all_told room ss low (recursion_from_All IsRoomy ss each);
+  content = λ room ss each. fitted_content (left_by room ss) ss (recursion_from_All IsFilled ss each);
+}

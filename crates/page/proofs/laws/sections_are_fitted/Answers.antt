@@ -1,0 +1,5 @@
+use Rattle.page.proofs.SectionLaws.{proved_sections_are_fitted}
+use Rattle.page.proofs.laws.sections_are_fitted.Goals as goal
+
+pub returns : goal.returns
+returns c = proved_sections_are_fitted

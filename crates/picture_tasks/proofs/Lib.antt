@@ -1,0 +1,4 @@
+pub mod BlameLemmas
+pub mod DiagramLemmas
+pub mod PageLemmas
+pub mod PromiseLemmas

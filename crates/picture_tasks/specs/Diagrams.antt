@@ -1,0 +1,63 @@
+-- What is drawn of a campaign.
+use Rattle.std.specs.Prelude.{ℕ, ◌≡◌, false, List, [], Option, Ok, unwrap_or}
+use Rattle.std.specs.List.{All}
+use Rattle.book.specs.Grammar.{table_told}
+use Rattle.book.specs.Table.{MessageTable}
+use Rattle.command_line.specs.declared.tasks.Course.{Course}
+use Rattle.command_line.specs.declared.tasks.Course.TheVariants.{Scheduled, Recorded}
+use Rattle.diagram.specs.Laws.{BlamesTraitors, IsDrawnHonest}
+use Rattle.diagram.specs.Svg.{svg_text}
+use Rattle.retold.specs.Retold.{table_of}
+use Rattle.roster.specs.Scenario.{is_traitor}
+use Rattle.scenario.specs.Reading.{TellsAny}
+use Rattle.scenario.specs.declared.messages.Campaign.{Campaign}
+use Rattle.scenario.specs.declared.messages.Campaign.TheVariants.{Oral, Signed}
+use Rattle.signed_diagram.specs.Strokes.{strokes_of}
+use Rattle.signed_diagram.specs.Svg.{signed_svg}
+use Rattle.trace.specs.Laws.{IsSoundText}
+use Rattle.trace.specs.Names.{chronicle_told}
+use Rattle.trace.specs.SignedAudit.{IsSoundSignedText, signed_chronicle_told}
+use Rattle.world.specs.declared.schedule.Repeat.{Repeat}
+use Rattle.world.specs.Chronicle.{Chronicle}
+use Rattle.inputs.specs.Schedules.{IsSchedule, played, signed_played}
+use Rattle.picture_tasks.specs.Promises.{KeepsPromises, KeepsSignedPromises}
+
+-- the picture is that of the chronicle and of the message table that its own letters tell, and every stroke of a loyal
+-- general is drawn as an honest relay's
+abbrev pub IsDiagram : Chronicle → List ℕ → Type 0
+IsDiagram c picture =
+    (table : MessageTable) × (table_told (table_of c) ≡ Ok table) × BlamesTraitors c.scenario table
+    × (picture ≡ svg_text table c)
+
+-- so is every stroke of a loyal general of a signed campaign
+pub record BlamesSignedTraitors (c : Chronicle) : Type 0 where
+  pub honest :
+      All (λ drawn. is_traitor c.scenario drawn.stroke.teller ≡ false → IsDrawnHonest drawn.stroke) (strokes_of c)
+
+-- the picture is that of a signed campaign's chronicle, and its loyal generals' strokes are drawn so
+abbrev pub IsSignedDiagram : Chronicle → List ℕ → Type 0
+IsSignedDiagram c picture = BlamesSignedTraitors c × (picture ≡ signed_svg c)
+
+-- the picture is that of the campaign's chronicle by a schedule, which keeps what is promised
+abbrev pub IsCampaignDrawn : Campaign → List (List Repeat) → List ℕ → Type 0
+IsCampaignDrawn (Oral s) schedule picture = IsDiagram (played s schedule) picture × KeepsPromises s (played s schedule)
+IsCampaignDrawn (Signed s) schedule picture =
+    IsSignedDiagram (signed_played s schedule) picture × KeepsSignedPromises s (signed_played s schedule)
+
+-- the bytes are the text of a chronicle of the campaign, which keeps what is promised, and this is its picture
+abbrev pub IsRecordDrawn : Campaign → List ℕ → List ℕ → Type 0
+IsRecordDrawn (Oral s) bytes picture =
+    IsSoundText s bytes × IsDiagram (chronicle_told s bytes) picture × KeepsPromises s (chronicle_told s bytes)
+IsRecordDrawn (Signed s) bytes picture =
+    IsSoundSignedText s bytes × IsSignedDiagram (signed_chronicle_told s bytes) picture
+    × KeepsSignedPromises s (signed_chronicle_told s bytes)
+
+-- the first file's bytes tell a campaign, and the picture is that of its chronicle by the schedule that the second's
+-- tell, or of the chronicle whose text they are; there is no schedule but the empty one, and no byte of a chronicle,
+-- where there is no second file
+abbrev pub Draws : Course → List ℕ → Option (List ℕ) → List ℕ → Type 0
+Draws (Scheduled file) first second picture =
+    (c : Campaign) × TellsAny first c
+    × ((schedule : List (List Repeat)) × IsSchedule second schedule × IsCampaignDrawn c schedule picture)
+Draws (Recorded file) first second picture =
+    (c : Campaign) × TellsAny first c × IsRecordDrawn c (unwrap_or second []) picture

@@ -1,0 +1,3 @@
+pub mod Diagrams
+pub mod Pages
+pub mod Promises

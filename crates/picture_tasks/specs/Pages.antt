@@ -1,0 +1,61 @@
+-- What a campaign's page is.
+use Rattle.std.specs.Prelude.{ℕ, ◌≡◌, ◌≤◌, List, [], length, Option, None, Some, Ok, unwrap_or}
+use Rattle.book.specs.Grammar.{table_told}
+use Rattle.book.specs.Table.{MessageTable}
+use Rattle.campaign_page.specs.Account.{page_text}
+use Rattle.campaign_page.specs.Room.{longest_page}
+use Rattle.command_line.specs.declared.tasks.Course.{Course}
+use Rattle.command_line.specs.declared.tasks.Course.TheVariants.{Scheduled, Recorded}
+use Rattle.diagram.specs.Laws.{BlamesTraitors}
+use Rattle.retold.specs.Retold.{table_of}
+use Rattle.scenario.specs.Reading.{TellsAny}
+use Rattle.scenario.specs.declared.messages.Campaign.{Campaign}
+use Rattle.scenario.specs.declared.messages.Campaign.TheVariants.{Oral, Signed}
+use Rattle.signed_page.specs.Account.{signed_page_text}
+use Rattle.trace.specs.Laws.{IsSoundText}
+use Rattle.trace.specs.Names.{chronicle_told}
+use Rattle.trace.specs.SignedAudit.{IsSoundSignedText, signed_chronicle_told}
+use Rattle.world.specs.declared.schedule.Repeat.{Repeat}
+use Rattle.world.specs.Chronicle.{Chronicle}
+use Rattle.inputs.specs.Schedules.{IsSchedule, played, signed_played}
+use Rattle.picture_tasks.specs.Diagrams.{BlamesSignedTraitors}
+use Rattle.picture_tasks.specs.Promises.{KeepsPromises, KeepsSignedPromises}
+
+-- the page is that of the chronicle, of the message table that its own letters tell, of the scenario's text, and of the
+-- schedule, if it was played by one; it is no longer than a page may be, and in its picture every stroke of a loyal
+-- general is drawn as an honest relay's
+abbrev pub IsPage : List ℕ → Option (List (List Repeat)) → Chronicle → List ℕ → Type 0
+IsPage text schedule c page =
+    (table : MessageTable) × (table_told (table_of c) ≡ Ok table) × BlamesTraitors c.scenario table
+    × (page ≡ page_text text schedule table c) × (length page ≤ longest_page)
+
+-- so is that of a signed campaign, and as short, and its loyal generals' strokes are drawn so
+abbrev pub IsSignedPage : List ℕ → Option (List (List Repeat)) → Chronicle → List ℕ → Type 0
+IsSignedPage text schedule c page =
+    BlamesSignedTraitors c × (page ≡ signed_page_text text schedule c) × (length page ≤ longest_page)
+
+-- the page is that of the campaign's chronicle by a schedule, which keeps what is promised, and of the scenario's text
+abbrev pub IsCampaignPaged : Campaign → List ℕ → List (List Repeat) → List ℕ → Type 0
+IsCampaignPaged (Oral s) text schedule page =
+    IsPage text (Some schedule) (played s schedule) page × KeepsPromises s (played s schedule)
+IsCampaignPaged (Signed s) text schedule page =
+    IsSignedPage text (Some schedule) (signed_played s schedule) page
+    × KeepsSignedPromises s (signed_played s schedule)
+
+-- the bytes are the text of a chronicle of the campaign, which keeps what is promised, and this is its page
+abbrev pub IsRecordTold : Campaign → List ℕ → List ℕ → List ℕ → Type 0
+IsRecordTold (Oral s) text bytes page =
+    IsSoundText s bytes × IsPage text None (chronicle_told s bytes) page × KeepsPromises s (chronicle_told s bytes)
+IsRecordTold (Signed s) text bytes page =
+    IsSoundSignedText s bytes × IsSignedPage text None (signed_chronicle_told s bytes) page
+    × KeepsSignedPromises s (signed_chronicle_told s bytes)
+
+-- the first file's bytes tell a campaign, and the page has them, and is that of its chronicle by the schedule that the
+-- second's tell, or of the chronicle whose text they are; there is no schedule but the empty one, and no byte of a
+-- chronicle, where there is no second file
+abbrev pub TellsPage : Course → List ℕ → Option (List ℕ) → List ℕ → Type 0
+TellsPage (Scheduled file) first second page =
+    (c : Campaign) × TellsAny first c
+    × ((schedule : List (List Repeat)) × IsSchedule second schedule × IsCampaignPaged c first schedule page)
+TellsPage (Recorded file) first second page =
+    (c : Campaign) × TellsAny first c × IsRecordTold c first (unwrap_or second []) page

@@ -1,0 +1,133 @@
+//! Campaigns as pictures.
+ghost use Rattle.std.specs.Prelude.{◌≡◌, IfErr, IfOk};
+ghost use Rattle.picture_tasks.specs.Diagrams.{IsCampaignDrawn, IsDiagram, IsRecordDrawn};
+ghost use Rattle.picture_tasks.specs.Promises.{AreFaithful};
+ghost use Rattle.inputs.specs.Refusals.{RefusesChronicle, RefusesText};
+ghost use Rattle.retold.specs.Retold.{IsWhole};
+ghost use Rattle.scenario.specs.declared.messages.Campaign.TheVariants.{Oral, Signed};
+ghost use Rattle.signed_diagram.specs.Svg.{signed_svg};
+
+use diagram::campaign_svg;
+use inputs::{Refusal, as_text};
+use retold::{hearing, told_table};
+use roster::Scenario;
+use scenario::Campaign;
+use signed::{SignedChronicle, play_signed};
+use signed_diagram::signed_campaign_svg;
+use std::alloc::{AllocError, Global};
+use tables::recall_orders;
+use trace::{sound_chronicle, sound_signed_chronicle};
+use world::{Chronicle, Schedule, play};
+
+/// The campaign by this schedule, as a space-time diagram in SVG.
+///
+/// # Errors
+///
+/// `AllocError` where memory is refused.
+pub fn diagrammed(
+    alloc: Global,
+    campaign: Campaign,
+    schedule: &Schedule,
+) -> Result<Vec<u8>, AllocError>
+    ensures { IfOk result (λ picture. IsCampaignDrawn campaign schedule.now picture.items) }
+{
+    match campaign {
+        Campaign::Oral(scenario) => oral_diagrammed(alloc, scenario, schedule),
+        Campaign::Signed(scenario) => signed_diagrammed(alloc, scenario, schedule),
+    }
+}
+
+/// An oral one.
+#[tactic(auto, using(crate::proofs::DiagramLemmas::played_drawn))]
+fn oral_diagrammed(
+    alloc: Global,
+    scenario: Scenario,
+    schedule: &Schedule,
+) -> Result<Vec<u8>, AllocError>
+    ensures { IfOk result (λ picture. IsCampaignDrawn (Oral scenario) schedule.now picture.items) }
+{
+    scenario.recall();
+    let chronicle = play(alloc, scenario, schedule)?;
+    Ok(diagram_of(alloc, &chronicle)?)
+}
+
+/// A signed one.
+fn signed_diagrammed(
+    alloc: Global,
+    scenario: Scenario,
+    schedule: &Schedule,
+) -> Result<Vec<u8>, AllocError>
+    ensures { IfOk result (λ picture. IsCampaignDrawn (Signed scenario) schedule.now picture.items) }
+{
+    scenario.recall();
+    let chronicle = play_signed(alloc, scenario, schedule)?;
+    Ok(signed_diagram_of(alloc, &chronicle)?)
+}
+
+/// The campaign whose chronicle these bytes are.
+///
+/// # Errors
+///
+/// The first line that is not the chronicle's, or want of memory.
+pub fn record_diagrammed(
+    alloc: Global,
+    campaign: &Campaign,
+    bytes: &[u8],
+) -> Result<Vec<u8>, Refusal>
+    ensures drawn { IfOk result (λ picture. IsRecordDrawn campaign.now bytes.now picture.items) }
+    ensures refused { IfErr result (RefusesText (RefusesChronicle campaign.now) bytes.now) }
+{
+    match campaign {
+        Campaign::Oral(scenario) => oral_record_diagrammed(alloc, scenario, bytes),
+        Campaign::Signed(scenario) => signed_record_diagrammed(alloc, scenario, bytes),
+    }
+}
+
+/// An oral one.
+#[tactic(auto, using(crate::proofs::DiagramLemmas::told_drawn))]
+fn oral_record_diagrammed(
+    alloc: Global,
+    scenario: &Scenario,
+    bytes: &[u8],
+) -> Result<Vec<u8>, Refusal>
+    ensures drawn { IfOk result (λ picture. IsRecordDrawn (Oral scenario.now) bytes.now picture.items) }
+    ensures refused { IfErr result (RefusesText (RefusesChronicle (Oral scenario.now)) bytes.now) }
+{
+    scenario.recall();
+    let chronicle = sound_chronicle(alloc, scenario, as_text(bytes)?)?;
+    Ok(diagram_of(alloc, &chronicle)?)
+}
+
+/// A signed one.
+fn signed_record_diagrammed(
+    alloc: Global,
+    scenario: &Scenario,
+    bytes: &[u8],
+) -> Result<Vec<u8>, Refusal>
+    ensures drawn { IfOk result (λ picture. IsRecordDrawn (Signed scenario.now) bytes.now picture.items) }
+    ensures refused { IfErr result (RefusesText (RefusesChronicle (Signed scenario.now)) bytes.now) }
+{
+    scenario.recall();
+    let chronicle = sound_signed_chronicle(alloc, scenario, as_text(bytes)?)?;
+    Ok(signed_diagram_of(alloc, &chronicle)?)
+}
+
+/// The picture of a chronicle, with the message table that its letters tell.
+fn diagram_of(alloc: Global, chronicle: &Chronicle) -> Result<Vec<u8>, AllocError>
+    requires whole { IsWhole chronicle.now }
+    requires faithful { AreFaithful chronicle.now }
+    ensures { IfOk result (λ picture. IsDiagram chronicle.now picture.items) }
+{
+    chronicle.scenario().recall();
+    let told = hearing(alloc, chronicle)?;
+    recall_orders(told.trees());
+    let table = told_table(&told, chronicle);
+    Ok(campaign_svg(alloc, &table, chronicle)?.into_bytes())
+}
+
+/// The picture of a signed campaign's.
+fn signed_diagram_of(alloc: Global, chronicle: &SignedChronicle) -> Result<Vec<u8>, AllocError>
+    ensures { IfOk result (λ picture. picture.items ≡ signed_svg chronicle.now) }
+{
+    Ok(signed_campaign_svg(alloc, chronicle)?.into_bytes())
+}

@@ -1,0 +1,151 @@
+//! Campaigns as pages.
+ghost use Rattle.std.specs.Prelude.{◌≡◌, IfErr, IfOk, None, Some, option_map};
+ghost use Rattle.picture_tasks.specs.Pages.{IsCampaignPaged, IsPage, IsRecordTold};
+ghost use Rattle.picture_tasks.specs.Promises.{AreFaithful};
+ghost use Rattle.inputs.specs.Refusals.{RefusesChronicle, RefusesText};
+ghost use Rattle.retold.specs.Retold.{IsWhole};
+ghost use Rattle.scenario.specs.declared.messages.Campaign.TheVariants.{Oral, Signed};
+ghost use Rattle.signed_page.specs.Account.{signed_page_text};
+
+use campaign_page::page_text;
+use inputs::{Refusal, as_text};
+use retold::{hearing, told_table};
+use roster::Scenario;
+use scenario::Campaign;
+use signed::{SignedChronicle, play_signed};
+use signed_page::signed_page_text;
+use std::alloc::{AllocError, Global};
+use tables::recall_orders;
+use trace::{sound_chronicle, sound_signed_chronicle};
+use world::{Chronicle, Schedule, play};
+
+/// The campaign by this schedule, whose scenario this text tells, as a page of HTML.
+///
+/// # Errors
+///
+/// `AllocError` where memory is refused.
+pub fn paged(
+    alloc: Global,
+    text: &str,
+    campaign: Campaign,
+    schedule: &Schedule,
+) -> Result<Vec<u8>, AllocError>
+    ensures { IfOk result (λ page. IsCampaignPaged campaign text.now schedule.now page.items) }
+{
+    match campaign {
+        Campaign::Oral(scenario) => oral_paged(alloc, text, scenario, schedule),
+        Campaign::Signed(scenario) => signed_paged(alloc, text, scenario, schedule),
+    }
+}
+
+/// An oral one.
+#[tactic(auto, using(crate::proofs::PageLemmas::played_paged))]
+fn oral_paged(
+    alloc: Global,
+    text: &str,
+    scenario: Scenario,
+    schedule: &Schedule,
+) -> Result<Vec<u8>, AllocError>
+    ensures { IfOk result (λ page. IsCampaignPaged (Oral scenario) text.now schedule.now page.items) }
+{
+    scenario.recall();
+    let chronicle = play(alloc, scenario, schedule)?;
+    Ok(page_of(alloc, text, Some(schedule), &chronicle)?)
+}
+
+/// A signed one.
+fn signed_paged(
+    alloc: Global,
+    text: &str,
+    scenario: Scenario,
+    schedule: &Schedule,
+) -> Result<Vec<u8>, AllocError>
+    ensures { IfOk result (λ page. IsCampaignPaged (Signed scenario) text.now schedule.now page.items) }
+{
+    scenario.recall();
+    let chronicle = play_signed(alloc, scenario, schedule)?;
+    Ok(signed_page_of(alloc, text, Some(schedule), &chronicle)?)
+}
+
+/// The campaign whose chronicle these bytes are, and whose scenario this text tells.
+///
+/// # Errors
+///
+/// The first line that is not the chronicle's, or want of memory.
+pub fn record_paged(
+    alloc: Global,
+    text: &str,
+    campaign: &Campaign,
+    bytes: &[u8],
+) -> Result<Vec<u8>, Refusal>
+    ensures told { IfOk result (λ page. IsRecordTold campaign.now text.now bytes.now page.items) }
+    ensures refused { IfErr result (RefusesText (RefusesChronicle campaign.now) bytes.now) }
+{
+    match campaign {
+        Campaign::Oral(scenario) => oral_record_paged(alloc, text, scenario, bytes),
+        Campaign::Signed(scenario) => signed_record_paged(alloc, text, scenario, bytes),
+    }
+}
+
+/// An oral one.
+#[tactic(auto, using(crate::proofs::PageLemmas::told_paged))]
+fn oral_record_paged(
+    alloc: Global,
+    text: &str,
+    scenario: &Scenario,
+    bytes: &[u8],
+) -> Result<Vec<u8>, Refusal>
+    ensures told { IfOk result (λ page. IsRecordTold (Oral scenario.now) text.now bytes.now page.items) }
+    ensures refused { IfErr result (RefusesText (RefusesChronicle (Oral scenario.now)) bytes.now) }
+{
+    scenario.recall();
+    let chronicle = sound_chronicle(alloc, scenario, as_text(bytes)?)?;
+    Ok(page_of(alloc, text, None, &chronicle)?)
+}
+
+/// A signed one.
+fn signed_record_paged(
+    alloc: Global,
+    text: &str,
+    scenario: &Scenario,
+    bytes: &[u8],
+) -> Result<Vec<u8>, Refusal>
+    ensures told { IfOk result (λ page. IsRecordTold (Signed scenario.now) text.now bytes.now page.items) }
+    ensures refused { IfErr result (RefusesText (RefusesChronicle (Signed scenario.now)) bytes.now) }
+{
+    scenario.recall();
+    let chronicle = sound_signed_chronicle(alloc, scenario, as_text(bytes)?)?;
+    Ok(signed_page_of(alloc, text, None, &chronicle)?)
+}
+
+/// The page of a chronicle, with the message table that its letters tell.
+fn page_of(
+    alloc: Global,
+    scenario_text: &str,
+    schedule: Option<&Schedule>,
+    chronicle: &Chronicle,
+) -> Result<Vec<u8>, AllocError>
+    requires whole { IsWhole chronicle.now }
+    requires faithful { AreFaithful chronicle.now }
+    ensures { IfOk result (λ page. IsPage scenario_text.now
+        (option_map (λ s. s.now) schedule.entry) chronicle.now page.items) }
+{
+    chronicle.scenario().recall();
+    let told = hearing(alloc, chronicle)?;
+    recall_orders(told.trees());
+    let table = told_table(&told, chronicle);
+    Ok(page_text(alloc, scenario_text, schedule, &table, chronicle)?.into_bytes())
+}
+
+/// The page of a signed campaign's.
+fn signed_page_of(
+    alloc: Global,
+    scenario_text: &str,
+    schedule: Option<&Schedule>,
+    chronicle: &SignedChronicle,
+) -> Result<Vec<u8>, AllocError>
+    ensures { IfOk result (λ page. page.items
+        ≡ signed_page_text scenario_text.now (option_map (λ s. s.now) schedule.entry) chronicle.now) }
+{
+    Ok(signed_page_text(alloc, scenario_text, schedule, chronicle)?.into_bytes())
+}

@@ -1,0 +1,21 @@
+-- Bytes that a text says, and which are no whole units.
+use Rattle.std.proofs.Common.{ℕ, ◌≡◌, List, Ok}
+use Rattle.partial.specs.Reading.{bytes_said}
+use Rattle.program_tasks.specs.Refusals.{RefusesSaid, RefusesUnits}
+use Rattle.inputs.specs.declared.refusal.Refusal.{Refusal}
+use Rattle.inputs.specs.declared.refusal.Refusal.TheVariants.{Codec, Object, Verifier, Assembly, Table, Scenario, Setting, Trace, Threads, Accesses, Stranger, NotText, Memory}
+
+pub cut_said : (text bytes : List ℕ) (refusal : Refusal) → bytes_said text ≡ Ok bytes → RefusesUnits bytes refusal → RefusesSaid text refusal
+cut_said text bytes (Codec error) said refuses = (bytes, said, refuses)
+cut_said text bytes Memory said refuses = tt
+cut_said text bytes (Object fault) said refuses = absurd refuses
+cut_said text bytes (Verifier fault) said refuses = absurd refuses
+cut_said text bytes (Assembly error) said refuses = absurd refuses
+cut_said text bytes (Table error) said refuses = absurd refuses
+cut_said text bytes (Scenario error) said refuses = absurd refuses
+cut_said text bytes (Setting error) said refuses = absurd refuses
+cut_said text bytes (Trace error) said refuses = absurd refuses
+cut_said text bytes (Threads error) said refuses = absurd refuses
+cut_said text bytes (Accesses fault) said refuses = absurd refuses
+cut_said text bytes (Stranger general generals) said refuses = absurd refuses
+cut_said text bytes NotText said refuses = absurd refuses

@@ -1,0 +1,5 @@
+pub mod Answers
+pub mod Lines
+pub mod Parts
+pub mod Programs
+pub mod Refusals

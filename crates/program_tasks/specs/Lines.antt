@@ -1,0 +1,15 @@
+-- The lines that are printed of a program.
+use Rattle.std.specs.Prelude.{ℕ, List, ◌++◌, codes}
+use Rattle.hex.specs.Hex.{encode_lower}
+use Rattle.insn.specs.declared.insn.Insn.{Insn}
+use Rattle.codec.specs.Spelling.{program_bytes}
+use Rattle.trial.specs.Lines.{first_lines}
+use Rattle.program_tasks.specs.declared.checking.Checked.{Checked}
+
+-- what a check prints
+abbrev pub checked_lines : Checked → List ℕ
+checked_lines checked = first_lines checked.instructions checked.units checked.r0 checked.steps
+
+-- a program's bytes in lower-case hex
+abbrev pub hex_line : List Insn → List ℕ
+hex_line program = encode_lower (program_bytes program) ++ codes "\n"

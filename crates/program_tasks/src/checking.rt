@@ -1,0 +1,163 @@
+ghost use Rattle.std.specs.Prelude.{◌≡◌, Ok, Err, IfOk, IfErr, MatchResult, None, Some, string_bytes};
+ghost use Rattle.asm.specs.Program.{program_of};
+ghost use Rattle.codec.specs.Program.{SpellsProgram};
+ghost use Rattle.semantics.specs.Run.{IsSound};
+ghost use Rattle.verify.specs.Judgement.{judged};
+ghost use Rattle.program_tasks.specs.Answers.{IsRun};
+ghost use Rattle.elf.specs.Symbol.{asked};
+ghost use Rattle.program_tasks.specs.Programs.{HasEntry, HasProgram};
+ghost use Rattle.program_tasks.specs.Lines.{checked_lines};
+ghost use Rattle.program_tasks.specs.Refusals.{RefusesCheck, RefusesCheckAssembly, RefusesCheckIn, RefusesObject, RefusesProgram};
+ghost use Rattle.inputs.specs.Refusals.{verifier_refusal};
+
+use crate::programs::code_in;
+use asm::assemble;
+use codec::decode;
+use command_line::Notation;
+use inputs::{Refusal, as_text};
+use insn::Program;
+use std::alloc::{AllocError, Global};
+use trial::{Setting, first_lines, run_in};
+use verify::{Refused, Verified, verify};
+
+/// An accepted program and its run on the bench.
+#[derive(Clone, Copy, Debug, PartialEq, Eq)]
+pub struct Checked {
+    pub instructions: usize,
+    /// How many units of 64 bits the program takes.
+    pub units: usize,
+    /// What the program exited with.
+    pub r0: u64,
+    /// How many steps it took.
+    pub steps: u32,
+}
+
+/// Reads a program in this notation, verifies it and runs it on the bench. The board that it asks is its own, and
+/// begins with zeros.
+///
+/// # Errors
+///
+/// What the codec, the assembler or the verifier refuses, what of an object is refused, or want of memory.
+pub fn check(
+    alloc: Global,
+    notation: &Notation,
+    bytes: &[u8],
+) -> Result<(Verified, Checked), Refusal>
+    ensures program { IfOk result (λ c. HasProgram notation.now bytes.now c.0) }
+    ensures run { IfOk result (λ c. IsRun c.0 c.1) }
+    ensures refused { IfErr result (RefusesCheckIn notation.now bytes.now) }
+{
+    let verified = accepted_in(alloc, notation, bytes)?;
+    let checked = run(alloc, &verified)?;
+    Ok((verified, checked))
+}
+
+/// The program in this notation that a file has, verified.
+///
+/// # Errors
+///
+/// What the codec, the assembler or the verifier refuses, what of an object is refused, or want of memory.
+pub fn accepted_in(alloc: Global, notation: &Notation, bytes: &[u8]) -> Result<Verified, Refusal>
+    ensures program { IfOk result (λ program. HasProgram notation.now bytes.now program) }
+    ensures accepted { IfOk result (λ program. judged program ≡ None) }
+    ensures sound { IfOk result (λ program. IsSound program) }
+    ensures refused { IfErr result (RefusesCheckIn notation.now bytes.now) }
+{
+    match notation {
+        Notation::Bytecode => accepted(alloc, bytes),
+        Notation::Assembly => accepted_text(alloc, as_text(bytes)?),
+        Notation::Object { entry } => accepted_object(alloc, bytes, entry.as_deref()),
+    }
+}
+
+/// Verifies the program that an object's entry has.
+fn accepted_object(alloc: Global, object: &[u8], entry: Option<&str>) -> Result<Verified, Refusal>
+    ensures program { IfOk result (λ program. HasEntry (asked entry.entry) object.now program) }
+    ensures accepted { IfOk result (λ program. judged program ≡ None) }
+    ensures sound { IfOk result (λ program. IsSound program) }
+    ensures refused { IfErr result (RefusesObject RefusesCheck (asked entry.entry) object.now) }
+{
+    match code_in(object, entry) {
+        Ok(code) => accepted(alloc, code),
+        Err(fault) => Err(Refusal::Object(fault)),
+    }
+}
+
+/// Decodes and verifies a program.
+///
+/// # Errors
+///
+/// What the codec or the verifier refuses, or want of memory.
+pub fn accepted(alloc: Global, bytes: &[u8]) -> Result<Verified, Refusal>
+    ensures spelt { IfOk result (λ program. SpellsProgram bytes.now program) }
+    ensures accepted { IfOk result (λ program. judged program ≡ None) }
+    ensures sound { IfOk result (λ program. IsSound program) }
+    ensures refused { IfErr result (RefusesCheck bytes.now) }
+{
+    let program = decode(alloc, bytes)?;
+    accepted_program(alloc, program)
+}
+
+/// Verifies the program that the assembly says.
+///
+/// # Errors
+///
+/// What the assembler or the verifier refuses, or want of memory.
+pub fn accepted_text(alloc: Global, text: &str) -> Result<Verified, Refusal>
+    ensures said { IfOk result (λ program. program_of text.now ≡ Some program) }
+    ensures accepted { IfOk result (λ program. judged program ≡ None) }
+    ensures sound { IfOk result (λ program. IsSound program) }
+    ensures refused { IfErr result (RefusesCheckAssembly text.now) }
+{
+    let program = assemble(alloc, text)?;
+    accepted_program(alloc, program)
+}
+
+/// Verifies a program.
+fn accepted_program(alloc: Global, program: Program) -> Result<Verified, Refusal>
+    ensures same { IfOk result (λ verified. verified ≡ program) }
+    ensures accepted { IfOk result (λ verified. judged verified ≡ None) }
+    ensures sound { IfOk result (λ verified. IsSound verified) }
+    ensures refused { IfErr result (RefusesProgram program) }
+{
+    accepted_by(verify(alloc, program))
+}
+
+/// The verified program, or why it is refused.
+fn accepted_by(judgement: Result<Verified, Refused>) -> Result<Verified, Refusal>
+    ensures { MatchResult judgement (λ verified. result ≡ Ok verified)
+        (λ refused. result ≡ Err (verifier_refusal refused.fault)) }
+{
+    match judgement {
+        Ok(verified) => Ok(verified),
+        Err(refused) => Err(Refusal::from(refused.fault)),
+    }
+}
+
+/// Runs a program on the bench.
+fn run(alloc: Global, verified: &Verified) -> Result<Checked, AllocError>
+    requires accepted { judged verified.now ≡ None }
+    ensures { IfOk result (IsRun verified.now) }
+{
+    let exited = run_in(alloc, verified, &Setting::bench(alloc))?;
+    let program = verified.program();
+    Ok(Checked {
+        instructions: program.len(),
+        units: program.units(),
+        r0: exited.r0,
+        steps: exited.activation.steps(),
+    })
+}
+
+/// What a check prints.
+pub(crate) fn checked_text(alloc: Global, checked: &Checked) -> Result<String, AllocError>
+    ensures { IfOk result (λ text. string_bytes text ≡ checked_lines checked.now) }
+{
+    let Checked {
+        instructions,
+        units,
+        r0,
+        steps,
+    } = *checked;
+    first_lines(alloc, instructions, units, r0, steps)
+}

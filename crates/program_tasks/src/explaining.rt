@@ -1,0 +1,65 @@
+//! How a program is explained.
+ghost use Rattle.std.specs.Prelude.{IfOk, IfErr, option_map, string_bytes};
+ghost use Rattle.program_tasks.specs.Programs.{Explains, IsBehind, IsWhy};
+ghost use Rattle.program_tasks.specs.Refusals.{RefusesNotation};
+
+use crate::programs::program_in;
+use crate::written::{statements_in, written_in};
+use command_line::Notation;
+use explain::{Written, explanation_at};
+use inputs::Refusal;
+use insn::Program;
+use std::alloc::{AllocError, Global};
+
+/// The explanation of a program that a file of these bytes has in this notation.
+fn told(
+    alloc: Global,
+    notation: &Notation,
+    bytes: &[u8],
+    program: &Program,
+) -> Result<String, AllocError>
+    ensures { IfOk result (λ text. Explains notation.now bytes.now program.now (string_bytes text)) }
+{
+    let places = written_in(alloc, notation, bytes)?;
+    let statements = statements_in(alloc, notation, bytes)?;
+    let written = Written {
+        places: places.as_slice(),
+        statements: statements.as_slice(),
+    };
+    explanation_at(alloc, program, &written)
+}
+
+/// The lines of an accepted program that a file of these bytes has, and behind them an empty one and its explanation,
+/// if it is asked for, in the notation in which it is.
+pub(crate) fn with_explanation(
+    alloc: Global,
+    lines: String,
+    asked: Option<&Notation>,
+    bytes: &[u8],
+    program: &Program,
+) -> Result<String, AllocError>
+    ensures { IfOk result (λ text. IsBehind (option_map (λ notation. notation.now) asked.entry) bytes.now program.now
+        (string_bytes lines) (string_bytes text)) }
+{
+    let Some(notation) = asked else {
+        return Ok(lines);
+    };
+    let told = told(alloc, notation, bytes, program)?;
+    let mut text = lines;
+    text.push_str(told.as_str())?;
+    text.push_str("\n")?;
+    Ok(text)
+}
+
+/// The explanation of the program in this notation that a file of these bytes has.
+///
+/// # Errors
+///
+/// What of the file is refused, or want of memory.
+pub fn explanation(alloc: Global, notation: &Notation, bytes: &[u8]) -> Result<String, Refusal>
+    ensures why { IfOk result (λ text. IsWhy notation.now bytes.now (string_bytes text)) }
+    ensures refused { IfErr result (RefusesNotation notation.now bytes.now) }
+{
+    let program = program_in(alloc, notation, bytes)?;
+    Ok(told(alloc, notation, bytes, &program)?)
+}

@@ -1,0 +1,70 @@
+//! The program that a file has.
+ghost use Rattle.std.specs.Prelude.{◌≡◌, IfOk, IfErr, MatchResult, Ok, Err, Some};
+ghost use Rattle.asm.specs.Program.{program_of};
+ghost use Rattle.codec.specs.Program.{SpellsProgram};
+ghost use Rattle.elf.specs.Entry.{entry_of};
+ghost use Rattle.elf.specs.Symbol.{asked};
+ghost use Rattle.program_tasks.specs.Programs.{HasEntry, HasProgram};
+ghost use Rattle.program_tasks.specs.Refusals.{RefusesAssembly, RefusesDisassembly, RefusesNotation, RefusesObject};
+
+use asm::assemble;
+use codec::decode;
+use command_line::Notation;
+use elf::Fault;
+use inputs::{Refusal, as_text};
+use insn::Program;
+use std::alloc::Global;
+
+/// The program in this notation that a file of these bytes has.
+pub(crate) fn program_in(
+    alloc: Global,
+    notation: &Notation,
+    bytes: &[u8],
+) -> Result<Program, Refusal>
+    ensures program { IfOk result (λ program. HasProgram notation.now bytes.now program) }
+    ensures refused { IfErr result (RefusesNotation notation.now bytes.now) }
+{
+    match notation {
+        Notation::Bytecode => of_bytes(alloc, bytes),
+        Notation::Assembly => of_text(alloc, as_text(bytes)?),
+        Notation::Object { entry } => of_object(alloc, bytes, entry.as_deref()),
+    }
+}
+
+/// The program that the bytes spell.
+fn of_bytes(alloc: Global, bytes: &[u8]) -> Result<Program, Refusal>
+    ensures program { IfOk result (λ program. SpellsProgram bytes.now program) }
+    ensures refused { IfErr result (RefusesDisassembly bytes.now) }
+{
+    Ok(decode(alloc, bytes)?)
+}
+
+/// That which the assembly says.
+fn of_text(alloc: Global, text: &str) -> Result<Program, Refusal>
+    ensures program { IfOk result (λ program. program_of text.now ≡ Some program) }
+    ensures refused { IfErr result (RefusesAssembly text.now) }
+{
+    Ok(assemble(alloc, text)?)
+}
+
+/// That of an object's entry.
+fn of_object(alloc: Global, object: &[u8], entry: Option<&str>) -> Result<Program, Refusal>
+    ensures program { IfOk result (λ program. HasEntry (asked entry.entry) object.now program) }
+    ensures refused { IfErr result (RefusesObject RefusesDisassembly (asked entry.entry) object.now) }
+{
+    match code_in(object, entry) {
+        Ok(code) => of_bytes(alloc, code),
+        Err(fault) => Err(Refusal::Object(fault)),
+    }
+}
+
+/// The code of an object's entry.
+pub(crate) fn code_in<'a>(object: &'a [u8], entry: Option<&str>) -> Result<&'a [u8], Fault>
+    ensures { MatchResult result (λ code. entry_of object.now (asked entry.entry) ≡ Ok code.now)
+        (λ fault. entry_of object.now (asked entry.entry) ≡ Err fault) }
+{
+    match entry {
+        None => elf::entry(object, None),
+        Some(name) => elf::entry(object, Some(name.as_bytes())),
+    }
+}

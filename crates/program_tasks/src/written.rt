@@ -1,0 +1,77 @@
+//! Where and how the units of the program that a file has are written.
+ghost use Rattle.std.specs.Prelude.{◌≡◌, IfOk, map, string_bytes};
+ghost use Rattle.std.specs.Str.{IsUtf8};
+ghost use Rattle.asm.specs.Places.{AreWritten, statements_of};
+ghost use Rattle.asm.specs.Program.{lines_of, nothing, read_on};
+ghost use Rattle.debug_lines.specs.Places.{AreEntryPlaces};
+ghost use Rattle.elf.specs.Entry.{function_of};
+ghost use Rattle.elf.specs.Symbol.{asked};
+ghost use Rattle.program_tasks.specs.Programs.{ArePlaces, AreStatements};
+
+use command_line::Notation;
+use debug_lines::entry_places;
+use std::alloc::{AllocError, Global};
+
+/// Where each unit of the program that a file of these bytes has in this notation is written: of assembly on which
+/// line, of an object in which line of which file.
+pub(crate) fn written_in(
+    alloc: Global,
+    notation: &Notation,
+    bytes: &[u8],
+) -> Result<Vec<String>, AllocError>
+    ensures { IfOk result (λ places. ArePlaces notation.now bytes.now (map string_bytes places.items)) }
+{
+    match notation {
+        Notation::Bytecode => Ok(Vec::new(alloc)),
+        Notation::Assembly => in_text(alloc, bytes),
+        Notation::Object { entry } => in_object(alloc, bytes, entry.as_deref()),
+    }
+}
+
+/// That of the program that assembly says.
+fn in_text(alloc: Global, bytes: &[u8]) -> Result<Vec<String>, AllocError>
+    ensures { IfOk result (λ places. IsUtf8 bytes.now →
+        AreWritten (read_on nothing 1 (lines_of bytes.now)) (map string_bytes places.items)) }
+{
+    match str::from_utf8(bytes) {
+        Ok(text) => asm::places(alloc, text),
+        Err(_) => Ok(Vec::new(alloc)),
+    }
+}
+
+/// That of an object's entry.
+fn in_object(alloc: Global, object: &[u8], entry: Option<&str>) -> Result<Vec<String>, AllocError>
+    ensures { IfOk result (λ places. AreEntryPlaces object.now (function_of object.now (asked entry.entry))
+        (map string_bytes places.items)) }
+{
+    match entry {
+        None => entry_places(alloc, object, None),
+        Some(name) => entry_places(alloc, object, Some(name.as_bytes())),
+    }
+}
+
+/// How each unit of the program that a file of these bytes has in this notation is written: of assembly in the words of
+/// its line.
+pub(crate) fn statements_in(
+    alloc: Global,
+    notation: &Notation,
+    bytes: &[u8],
+) -> Result<Vec<String>, AllocError>
+    ensures { IfOk result (λ statements. AreStatements notation.now bytes.now (map string_bytes statements.items)) }
+{
+    match notation {
+        Notation::Assembly => statements_of_text(alloc, bytes),
+        Notation::Bytecode | Notation::Object { .. } => Ok(Vec::new(alloc)),
+    }
+}
+
+/// That of the program that assembly says.
+fn statements_of_text(alloc: Global, bytes: &[u8]) -> Result<Vec<String>, AllocError>
+    ensures { IfOk result (λ statements. IsUtf8 bytes.now →
+        map string_bytes statements.items ≡ statements_of bytes.now) }
+{
+    match str::from_utf8(bytes) {
+        Ok(text) => asm::statements(alloc, text),
+        Err(_) => Ok(Vec::new(alloc)),
+    }
+}

@@ -1,0 +1,35 @@
+-- The chronicle of the world that was played.
+use Rattle.std.proofs.Common.{ap, ◌∙◌}
+use Rattle.world.specs.Kind.{World}
+use Rattle.world.specs.KindLists.{replayed}
+use Rattle.world.specs.Playing.{lists_in}
+use Rattle.world.proofs.Lasting.{lists_are_complete}
+use Rattle.signed.specs.Chronicle.{signed_chronicle_of}
+use Rattle.signed.specs.Kind.{signed_kind}
+use Rattle.signed.proofs.Promised.{safe_throughout, promised_agree, promised_decisions, promised_letters, promised_verdict, promised_well}
+use Rattle.signed.proofs.Worlds.{signed_campaigns}
+use Rattle.signed.proofs.campaign.replay_signed.Goals as goal
+
+pub returns-clause-replayed : goal.returns-clause-replayed
+returns-clause-replayed c = c.in-Some.ensures.told ∙ ap (λ (w : World). signed_chronicle_of w) c.in_ok-world.ensures.replayed
+
+pub returns-clause-complete : goal.returns-clause-complete
+returns-clause-complete c = (lists_are_complete signed_kind signed_campaigns).replayed c.args.scenario (lists_in c.args.names.now) c.recall.ensures
+
+pub returns-clause-safe : goal.returns-clause-safe
+returns-clause-safe c = safe_throughout c.args.scenario (replayed signed_kind c.args.scenario (lists_in c.args.names.now)) c.recall.ensures
+
+pub returns-clause-letters : goal.returns-clause-letters
+returns-clause-letters c = promised_letters c.args.scenario (replayed signed_kind c.args.scenario (lists_in c.args.names.now)) c.in-Some.chronicle c.recall.ensures (returns-clause-complete c) (returns-clause-replayed c)
+
+pub returns-clause-decisions : goal.returns-clause-decisions
+returns-clause-decisions c = promised_decisions c.args.scenario (replayed signed_kind c.args.scenario (lists_in c.args.names.now)) c.in-Some.chronicle c.recall.ensures (returns-clause-complete c) (returns-clause-replayed c)
+
+pub returns-clause-agree : goal.returns-clause-agree
+returns-clause-agree c = promised_agree c.args.scenario (replayed signed_kind c.args.scenario (lists_in c.args.names.now)) c.in-Some.chronicle c.recall.ensures (returns-clause-complete c) (returns-clause-replayed c)
+
+pub returns-clause-verdict : goal.returns-clause-verdict
+returns-clause-verdict c = promised_verdict c.args.scenario (replayed signed_kind c.args.scenario (lists_in c.args.names.now)) c.in-Some.chronicle c.recall.ensures (returns-clause-complete c) (returns-clause-replayed c)
+
+pub returns-clause-well : goal.returns-clause-well
+returns-clause-well c = promised_well c.args.scenario (replayed signed_kind c.args.scenario (lists_in c.args.names.now)) c.in-Some.chronicle c.recall.ensures (returns-clause-complete c) (returns-clause-replayed c)

@@ -1,0 +1,12 @@
+use Rattle.std.proofs.Common.{◌≡◌, [], not}
+use Rattle.std.specs.Prelude.{filter}
+use Rattle.diagram.specs.Order.{firsts, is_by_one, repeats}
+use Rattle.signed_diagram.specs.Strokes.{is_lie, sender}
+use Rattle.signed_diagram.proofs.order.lies_first.Given as goal
+
+-- those of the strokes so far
+abbrev pub invariant-loop-stroke : goal.invariant-loop-stroke
+invariant-loop-stroke l =
+    (l.rows.items ≡ firsts (is_by_one sender) [] (filter is_lie l.yielded))
+    × (l.others.items ≡ repeats (is_by_one sender) [] (filter is_lie l.yielded))
+    × (l.honest.items ≡ filter (λ x. not (is_lie x)) l.yielded)

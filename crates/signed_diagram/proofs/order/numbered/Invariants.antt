@@ -1,0 +1,7 @@
+use Rattle.std.proofs.Common.{◌≡◌}
+use Rattle.signed_diagram.specs.Strokes.{numbered}
+use Rattle.signed_diagram.proofs.order.numbered.Given as goal
+
+-- those so far
+abbrev pub invariant-loop-stroke : goal.invariant-loop-stroke
+invariant-loop-stroke l = l.rows.items ≡ numbered l.yielded 0

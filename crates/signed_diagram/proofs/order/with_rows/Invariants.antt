@@ -1,0 +1,7 @@
+use Rattle.std.proofs.Common.{◌≡◌}
+use Rattle.signed_diagram.specs.Strokes.{with_rows}
+use Rattle.signed_diagram.proofs.order.with_rows.Given as goal
+
+-- those of the strokes so far
+abbrev pub invariant-loop-stroke : goal.invariant-loop-stroke
+invariant-loop-stroke l = l.drawn.items ≡ with_rows l.yielded

@@ -1,8 +1,0 @@
-use Rattle.std.proofs.Common.{◌≡◌}
-use Rattle.std.specs.List.{flat_map, range_with_len}
-use Rattle.signed_diagram.specs.Strokes.{between, numbered}
-use Rattle.signed_diagram.proofs.strokes.list_to.Given as goal
-
--- those of the senders so far
-abbrev pub invariant-loop-general : goal.invariant-loop-general
-invariant-loop-general l = l.list.items ≡ numbered (flat_map (between l.chronicle l.round l.receiver) (range_with_len 0 l.general)) 0

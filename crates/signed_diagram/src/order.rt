@@ -1,0 +1,118 @@
+//! In which order the rows of a list stand, and which of them are drawn.
+ghost use Rattle.std.specs.Prelude.{◌≡◌, ◌++◌, ◌∷◌, [], cond, IfOk, OnOk};
+ghost use Rattle.std.specs.List.{list_any};
+ghost use Rattle.diagram.specs.Lists.{has_row};
+ghost use Rattle.diagram.specs.Order.{arranged, is_by_one, lies_first, most_rows};
+ghost use Rattle.signed_diagram.specs.Strokes.{is_lie, numbered, sender, with_rows};
+
+use crate::stroke::ChainStroke;
+use diagram::left::has_row;
+use diagram::order::MOST;
+use std::alloc::{AllocError, Global};
+
+/// A list as its rows stand: by sender, or where not all are drawn, the first lie of each sender, then the other lies,
+/// then what is honest.
+///
+/// # Errors
+///
+/// No memory for it; so of every function here.
+pub(crate) fn arranged(
+    alloc: Global,
+    list: Vec<ChainStroke>,
+) -> Result<Vec<ChainStroke>, AllocError>
+    ensures { IfOk result (λ rows. rows.items ≡ arranged is_lie sender list.items) }
+{
+    if list.len() <= MOST {
+        return Ok(list);
+    }
+    lies_first(alloc, list)
+}
+
+/// The first lie of each sender, then the other lies, then what is honest.
+#[tactic(auto, unfolding(diagram::specs::Order::firsts, diagram::specs::Order::repeats))]
+fn lies_first(alloc: Global, list: Vec<ChainStroke>) -> Result<Vec<ChainStroke>, AllocError>
+    ensures { IfOk result (λ rows. rows.items ≡ lies_first is_lie sender list.items) }
+{
+    let mut rows = Vec::new(alloc);
+    let mut others = Vec::new(alloc);
+    let mut honest = Vec::new(alloc);
+    for stroke in list {
+        push_part(&mut rows, &mut others, &mut honest, stroke)?;
+    }
+    rows.append(&mut others)?;
+    rows.append(&mut honest)?;
+    Ok(rows)
+}
+
+/// Adds a stroke to the first lies, if it is one and no other of its sender is there; else to the other lies, or to
+/// what is honest.
+fn push_part(
+    rows: &mut Vec<ChainStroke>,
+    others: &mut Vec<ChainStroke>,
+    honest: &mut Vec<ChainStroke>,
+    stroke: ChainStroke,
+) -> Result<(), AllocError>
+    ensures first { OnOk result (rows.new.items ≡ rows.old.items
+        ++ cond (is_lie stroke) (cond (list_any (is_by_one sender stroke) rows.old.items) [] (stroke ∷ [])) []) }
+    ensures again { OnOk result (others.new.items ≡ others.old.items
+        ++ cond (is_lie stroke) (cond (list_any (is_by_one sender stroke) rows.old.items) (stroke ∷ []) []) []) }
+    ensures honest { OnOk result (honest.new.items ≡ honest.old.items ++ cond (is_lie stroke) [] (stroke ∷ [])) }
+{
+    if !stroke.stroke().differs {
+        honest.push(stroke)?;
+        return Ok(());
+    }
+    if is_by_one_of(rows.as_slice(), &stroke) {
+        others.push(stroke)?;
+        return Ok(());
+    }
+    rows.push(stroke)?;
+    Ok(())
+}
+
+/// Whether one of these is of the sender of this one.
+fn is_by_one_of(strokes: &[ChainStroke], stroke: &ChainStroke) -> bool
+    ensures { result ≡ list_any (is_by_one sender stroke.now) strokes.now }
+{
+    let teller = stroke.stroke().teller;
+    strokes.iter().any(|x| teller == x.stroke().teller)
+}
+
+/// Strokes one below another, from row 0 on.
+pub(crate) fn numbered(
+    alloc: Global,
+    list: Vec<ChainStroke>,
+) -> Result<Vec<ChainStroke>, AllocError>
+    ensures { IfOk result (λ rows. rows.items ≡ numbered list.items 0) }
+{
+    let mut rows = Vec::with_capacity(alloc, list.len())?;
+    for stroke in list {
+        let row = rows.as_slice().len();
+        rows.push(stroke.in_row(row))?;
+    }
+    Ok(rows)
+}
+
+/// Those that are drawn.
+pub(crate) fn with_rows(
+    alloc: Global,
+    list: Vec<ChainStroke>,
+) -> Result<Vec<ChainStroke>, AllocError>
+    ensures { IfOk result (λ drawn. drawn.items ≡ with_rows list.items) }
+{
+    let mut drawn = Vec::new(alloc);
+    for stroke in list {
+        push_drawn(&mut drawn, stroke)?;
+    }
+    Ok(drawn)
+}
+
+/// Adds a stroke, if it is drawn.
+fn push_drawn(drawn: &mut Vec<ChainStroke>, stroke: ChainStroke) -> Result<(), AllocError>
+    ensures { OnOk result (drawn.new.items ≡ drawn.old.items ++ cond (has_row stroke.stroke) (stroke ∷ []) []) }
+{
+    if has_row(stroke.stroke()) {
+        drawn.push(stroke)?;
+    }
+    Ok(())
+}

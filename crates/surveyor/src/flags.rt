@@ -1,0 +1,147 @@
+//! What may be asked for, as `clap` is told of it.
+
+use clap::{Arg, ArgAction, Command};
+use combine::Rule;
+use std::alloc::{AllocError, Global};
+
+/// A word that may stand once, and what help says of it.
+#[derive(Clone, Copy)]
+struct Flag<'a> {
+    name: &'a str,
+    /// What help calls its value, where it has one.
+    value: Option<&'a str>,
+    help: &'a str,
+}
+
+/// Which campaigns there are.
+const FAMILY: &[Flag<'static>] = &[
+    Flag {
+        name: "generals",
+        value: Some("N..M"),
+        help: "How many generals, 2 to 13 [default: 4]",
+    },
+    Flag {
+        name: "bound",
+        value: Some("N..M"),
+        help: "For how many traitors they provide, 0 to 4 [default: 1]",
+    },
+    Flag {
+        name: "traitors",
+        value: Some("N..M"),
+        help: "How many traitors there are [default: 1; with --break: 1..13]",
+    },
+    Flag {
+        name: "seeds",
+        value: Some("N..M"),
+        help: "The seeds, each of which gives a campaign, 10000000 at most [default: 1..1000]",
+    },
+];
+
+/// How they are played, beside the rule.
+const MANNER: &[Flag<'static>] = &[
+    Flag {
+        name: "patience",
+        value: Some("STEPS"),
+        help: "After how many steps a traitor is no longer waited for, 1 to 4096",
+    },
+    Flag {
+        name: "signed",
+        value: None,
+        help: "Messages are signed",
+    },
+    Flag {
+        name: "adversary",
+        value: Some("WHAT"),
+        help: "What traitors do: lies, silent, collude, or a file of assembly [default: lies]",
+    },
+];
+
+/// What is printed of them.
+const SHAPES: &[Flag<'static>] = &[
+    Flag {
+        name: "lines",
+        value: None,
+        help: "Prints an object of JSON for each campaign, in place of sums",
+    },
+    Flag {
+        name: "table",
+        value: None,
+        help: "Prints the sums for each number of generals, bound and traitors",
+    },
+    Flag {
+        name: "svg",
+        value: None,
+        help: "Prints a picture: the share of broken campaigns over the number of traitors",
+    },
+    Flag {
+        name: "shrink",
+        value: None,
+        help: "Prints the least broken campaign, of which nothing more can be taken out",
+    },
+    Flag {
+        name: "break",
+        value: None,
+        help: "Prints, for each number of generals and bound, the least campaign found with the fewest traitors who \
+               break it",
+    },
+    Flag {
+        name: "keep",
+        value: Some("DIR"),
+        help: "Writes each broken campaign to DIR/SEED.toml",
+    },
+];
+
+/// What `--sum` does, which takes several files.
+const SUM: Flag<'static> = Flag {
+    name: "sum",
+    value: Some("FILE"),
+    help: "Sums the lines of these files, and names the seeds that lack or are double; nothing is played",
+};
+
+impl<'a> Flag<'a> {
+    /// The flag as `clap` is told of it.
+    fn argument(&self, alloc: Global) -> Arg<'a> {
+        let argument = Arg::new(alloc, self.name).long(self.name).help(self.help);
+        match self.value {
+            Some(value) => argument.value_name(value),
+            None => argument.action(ArgAction::SetTrue),
+        }
+    }
+}
+
+/// A command to which these flags are added.
+fn with_flags<'a>(
+    alloc: Global,
+    mut command: Command<'a>,
+    flags: &[Flag<'a>],
+) -> Result<Command<'a>, AllocError> {
+    for flag in flags {
+        command = command.arg(flag.argument(alloc))?;
+    }
+    Ok(command)
+}
+
+/// What is said of `--rule`.
+pub(crate) fn rules(alloc: Global) -> Result<String, AllocError> {
+    let names = Rule::names();
+    let default = Rule::DEFAULT.name();
+    format!(in alloc; "How orders are combined: {names} [default: {default}]")
+}
+
+/// What may be asked for, where this is said of `--rule`.
+pub(crate) fn command<'a>(alloc: Global, rules: &'a str) -> Result<Command<'a>, AllocError> {
+    let command = Command::new(alloc, "survey")
+        .no_binary_name(true)
+        .bin_name("byzlab survey")?;
+    let rule = Flag {
+        name: "rule",
+        value: Some("RULE"),
+        help: rules,
+    };
+    let command = with_flags(alloc, command, FAMILY)?.arg(rule.argument(alloc))?;
+    let command = with_flags(alloc, command, MANNER)?;
+    let command = with_flags(alloc, command, SHAPES)?;
+    let sum = SUM.argument(alloc).num_args(1..).action(ArgAction::Append);
+    let command = command.arg(sum)?;
+    Ok(command.about("Plays many campaigns of a family, and counts how they come out"))
+}

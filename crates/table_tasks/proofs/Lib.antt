@@ -1,0 +1,2 @@
+pub mod PicturingLemmas
+pub mod StrangerLemmas

@@ -1,0 +1,3 @@
+pub mod Picturing
+pub mod Refusals
+pub mod Strangers

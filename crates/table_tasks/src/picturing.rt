@@ -1,0 +1,170 @@
+//! Message tables and campaigns as trees.
+ghost use Rattle.std.specs.Prelude.{◌≡◌, ◌++◌, [], true, false, IfErr, IfOk, OnOk, string_bytes};
+ghost use Rattle.drawing.specs.Drawn.{DrawsTable};
+ghost use Rattle.drawing.specs.Shown.{ordered};
+ghost use Rattle.inputs.specs.Schedules.{played};
+ghost use Rattle.table_tasks.specs.Picturing.{IsTreeIn, TellsWhetherToml, form_of, is_toml};
+ghost use Rattle.inputs.specs.Refusals.{RefusesScenario};
+ghost use Rattle.table_tasks.specs.Refusals.{RefusesTree, RefusesTreeIn};
+ghost use Rattle.table_tasks.specs.Strangers.{KnowsTree};
+ghost use Rattle.retold.specs.Retold.{IsWhole, table_of, traitors_of};
+ghost use Rattle.scenario.specs.Reading.{Tells};
+
+use crate::deciding::table_in;
+use crate::strangers::know_tree;
+use command_line::Drawing;
+use drawing::{Form, Style, View, drawn, ordered, tree_drawn};
+use inputs::Refusal;
+use retold::{hearing, told_table, traitors};
+use roster::Scenario;
+use std::alloc::{AllocError, Global};
+use toml::Table;
+use toml::de::Error;
+use world::{Chronicle, Schedule, play};
+
+/// What this general was told by the message table or, where the text is TOML, in the oral campaign that it tells,
+/// without a schedule; drawn so far, where these generals are named as traitors, and the campaign's own besides.
+///
+/// # Errors
+///
+/// What the table or the scenario refuses; he, if he is no lieutenant of it, since a commander is told nothing; the
+/// first who is named and is none of its generals; or want of memory.
+#[tactic(auto, using(crate::proofs::PicturingLemmas::pictured))]
+pub fn pictured(
+    alloc: Global,
+    text: &str,
+    general: u8,
+    traitors: &[u8],
+    drawing: Drawing,
+    view: View,
+) -> Result<String, Refusal>
+    ensures known { OnOk result (KnowsTree (is_toml text.now) text.now general traitors.now) }
+    ensures drawn { IfOk result
+        (λ picture. IsTreeIn (is_toml text.now) text.now traitors.now view (form_of drawing) general
+        (string_bytes picture)) }
+    ensures refused { IfErr result (RefusesTree general traitors.now text.now) }
+{
+    let form = form(drawing);
+    if !is_toml(alloc, text)? {
+        return table_pictured(alloc, text, traitors, view, form, general);
+    }
+    let scenario = known_scenario(alloc, text, general, traitors)?;
+    Ok(campaign_pictured(alloc, scenario, traitors, view, form, general)?)
+}
+
+/// What he was told by the message table.
+#[tactic(auto, using(crate::proofs::StrangerLemmas::table_known))]
+fn table_pictured(
+    alloc: Global,
+    text: &str,
+    traitors: &[u8],
+    view: View,
+    form: Form,
+    general: u8,
+) -> Result<String, Refusal>
+    ensures known { OnOk result (KnowsTree false text.now general traitors.now) }
+    ensures drawn { IfOk result (λ picture. DrawsTable text.now traitors.now view form general (string_bytes picture)) }
+    ensures refused { IfErr result (RefusesTreeIn false general traitors.now text.now) }
+{
+    let table = table_in(alloc, text)?;
+    know_tree(table.generals(), table.commander(), general, traitors)?;
+    Ok(drawn(alloc, text, traitors, view, form, general)?)
+}
+
+/// The oral campaign that the text tells, of which he is a lieutenant, and all who are named are generals.
+#[tactic(auto, using(crate::proofs::StrangerLemmas::scenario_known))]
+fn known_scenario(
+    alloc: Global,
+    text: &str,
+    general: u8,
+    traitors: &[u8],
+) -> Result<Scenario, Refusal>
+    ensures known { OnOk result (KnowsTree true text.now general traitors.now) }
+    ensures told { IfOk result (Tells text.now) }
+    ensures refused { IfErr result (RefusesTreeIn true general traitors.now text.now) }
+{
+    let scenario = scenario_in(alloc, text)?;
+    know_tree(scenario.generals(), scenario.commander(), general, traitors)?;
+    Ok(scenario)
+}
+
+/// The oral campaign that the text tells.
+fn scenario_in(alloc: Global, text: &str) -> Result<Scenario, Refusal>
+    ensures told { IfOk result (Tells text.now) }
+    ensures refused { IfErr result (RefusesScenario text.now) }
+{
+    Ok(scenario::read(alloc, text)?)
+}
+
+/// Whether a text that was parsed so is TOML.
+fn parses(parsed: Result<Table, Error>) -> Result<bool, AllocError>
+    ensures { TellsWhetherToml parsed result }
+{
+    match parsed {
+        Ok(_) => Ok(true),
+        Err(error) if error.is_memory() => Err(AllocError),
+        Err(_) => Ok(false),
+    }
+}
+
+/// Whether the text is TOML.
+fn is_toml(alloc: Global, text: &str) -> Result<bool, AllocError>
+    ensures { IfOk result (λ is. is ≡ is_toml text.now) }
+{
+    parses(toml::table_from_str(alloc, text))
+}
+
+/// What he was told in the campaign, whose own traitors are named besides.
+#[tactic(auto, using(crate::proofs::PicturingLemmas::played_wholly, crate::proofs::PicturingLemmas::of_same))]
+fn campaign_pictured(
+    alloc: Global,
+    scenario: Scenario,
+    named: &[u8],
+    view: View,
+    form: Form,
+    general: u8,
+) -> Result<String, AllocError>
+    ensures { IfOk result (λ picture. DrawsTable (table_of (played scenario []))
+        (traitors_of scenario ++ named.now) (ordered scenario.order view) form general (string_bytes picture)) }
+{
+    scenario.recall();
+    let view = ordered(scenario.order(), view);
+    let mut all = traitors(alloc, &scenario)?;
+    all.extend_from_slice(named)?;
+    let schedule = Schedule {
+        lines: Vec::new(alloc),
+    };
+    let chronicle = play(alloc, scenario, &schedule)?;
+    Ok(chronicle_pictured(alloc, &chronicle, all.as_slice(), view, form, general)?)
+}
+
+/// What he was told in the campaign of a chronicle, by the message table that its letters tell.
+#[tactic(auto, using(crate::proofs::PicturingLemmas::is_drawn))]
+fn chronicle_pictured(
+    alloc: Global,
+    chronicle: &Chronicle,
+    traitors: &[u8],
+    view: View,
+    form: Form,
+    general: u8,
+) -> Result<String, AllocError>
+    requires { IsWhole chronicle.now }
+    ensures { IfOk result (λ picture. DrawsTable (table_of chronicle.now) traitors.now view form general
+        (string_bytes picture)) }
+{
+    let told = hearing(alloc, chronicle)?;
+    let table = told_table(&told, chronicle);
+    Ok(tree_drawn(alloc, &table, traitors, view, form, general)?)
+}
+
+/// The form of a drawing.
+fn form(drawing: Drawing) -> Form
+    ensures { result ≡ form_of drawing }
+{
+    match drawing {
+        Drawing::Boxes => Form::Lines(Style::Boxes),
+        Drawing::Ascii => Form::Lines(Style::Ascii),
+        Drawing::Graph => Form::Graph,
+        Drawing::Svg => Form::Svg,
+    }
+}

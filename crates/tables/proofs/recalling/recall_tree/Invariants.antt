@@ -1,0 +1,8 @@
+use Rattle.std.proofs.Common.{ℕ, ◌<◌, ◌≤◌}
+use Rattle.tree.specs.LieutenantTree.{level_of}
+use Rattle.tables.proofs.Hearing.{AreSmall}
+use Rattle.tables.proofs.recalling.recall_tree.Given as goal
+
+-- those of the levels so far
+abbrev pub invariant-loop-size : goal.invariant-loop-size
+invariant-loop-size l = (k : ℕ) → 0 < k → k ≤ l.size → AreSmall (level_of l.tree k)
