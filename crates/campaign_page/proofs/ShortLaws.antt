@@ -292,7 +292,7 @@ parts_short words schedule t c is =
     let h7 = chronicle_headed in
     let headed : length (heading (scenario_heading (story words))) + (length (heading schedule_heading) + (length (heading programs_heading) + (length (heading picture_heading)
     + (length (heading lieutenants_heading) + (length (heading accesses_heading) + (length (heading chronicle_heading) + 0)))))) ≤ 3500 = omega arith in
-    sections_short ss (verdict_part c.verdict) (leb-true (rooms ss) 1987000 refl) each headed 
+    sections_short ss (verdict_part c.verdict) (leb-true (rooms ss) 1987000 refl) each headed
     (verdict_short c.verdict (bound_told c.verdict.bound (bound_words false)) (bound_short c.verdict.bound (bound_words false) (known (bound_words false) 200 refl)))
 
 pub proved_campaign_pages_are_short : CampaignPagesAreShort
