@@ -13,15 +13,14 @@ mod target;
 mod telling;
 mod watched;
 
-ghost use Rattle.std.specs.Prelude.{◌≡◌, ◌≢◌, ◌≤◌, ◌↔◌, Any, Ok, IfOk, IfErr, IfSome, IsErr, IsOk, None, Some, false, max, option_map, true};
-ghost use Rattle.std.specs.Io.KnownBytes.{Appends};
+ghost use Rattle.std.specs.Prelude.{◌≡◌, ◌≢◌, ◌≤◌, ◌↔◌, Any, Ok, IfOk, IfErr, IfSome, IsErr, None, Some, false, max, option_map};
 ghost use Rattle.std.specs.Result.{result_ok};
 ghost use Rattle.command_line.specs.Tasks.{file_of, schedule_target_of, second_of, seed_of};
 ghost use Rattle.neighbours.specs.Seen.{reads_scenario};
 ghost use Rattle.neighbours.specs.Story.{with_story};
 ghost use Rattle.faults.specs.declared.failure.Failure.TheVariants.{Read as unreadable};
 ghost use Rattle.byzlab.specs.Files.{IsInputIf, IsSecondIf, IsSeededIf, IsTextOf};
-ghost use Rattle.byzlab.specs.Failures.{AsksNothing, IsStatus, IsUnasked, failure_of};
+ghost use Rattle.byzlab.specs.Failures.{AsksNothing, IsStatus, IsUnasked};
 
 use chance::seeded;
 use command_line::{Request, Task, TaskError, each};
