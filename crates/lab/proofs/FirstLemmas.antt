@@ -1,5 +1,5 @@
 -- A first file that is refused.
-use Rattle.std.proofs.Common.{ℕ, ◌≡◌, ◌≢◌, ◌∙◌, Bool, List, inl, inr, refl, subst, sym, true, false}
+use Rattle.std.proofs.Common.{ℕ, ◌≡◌, ◌≢◌, Bool, List, inl, inr, refl, subst, sym, true, false}
 use Rattle.std.specs.Borrow.{Bor}
 use Rattle.std.specs.declared.alloc.Global.{Global}
 use Rattle.std.specs.Prelude.{Option, None, Some, IfSome, String, string_bytes}
@@ -323,35 +323,3 @@ stops_for unread refused name FaultMemory stops = tt
 pub prevented_first : (task : Task) (files : Files) (unread second_unread : Type 0) (bytes : List ℕ) (fault : Failure) → AreBytes files.first bytes
     → StopsFirst task bytes fault → Prevents unread second_unread task files fault
 prevented_first task files unread second_unread bytes fault are stops = inl (stops_for unread (IsRefused task files.first) (first_name task) fault (stops files.first are))
-
--- ---- a refusal of which nothing is reported
-
-pub quiet_first : (cause : Refusal) (file : Bor (List ℕ)) (own : List ℕ) (fault : Failure) → cause ≢ Memory → fault ≡ fault_of_bytes cause file own → fault ≢ FaultMemory
-quiet_first (Codec error) file own fault other is e = (let z : FaultMemory ≡ fault_of_bytes (Codec error) file own = sym e ∙ is in cc)
-quiet_first (Object fault) file own fault other is e = (let z : FaultMemory ≡ fault_of_bytes (Object fault) file own = sym e ∙ is in cc)
-quiet_first (Verifier fault) file own fault other is e = (let z : FaultMemory ≡ fault_of_bytes (Verifier fault) file own = sym e ∙ is in cc)
-quiet_first (Assembly error) file own fault other is e = (let z : FaultMemory ≡ fault_of_bytes (Assembly error) file own = sym e ∙ is in cc)
-quiet_first (Table error) file own fault other is e = (let z : FaultMemory ≡ fault_of_bytes (Table error) file own = sym e ∙ is in cc)
-quiet_first (Scenario error) file own fault other is e = (let z : FaultMemory ≡ fault_of_bytes (Scenario error) file own = sym e ∙ is in cc)
-quiet_first (Setting error) file own fault other is e = (let z : FaultMemory ≡ fault_of_bytes (Setting error) file own = sym e ∙ is in cc)
-quiet_first (Trace error) file own fault other is e = (let z : FaultMemory ≡ fault_of_bytes (Trace error) file own = sym e ∙ is in cc)
-quiet_first (Threads error) file own fault other is e = (let z : FaultMemory ≡ fault_of_bytes (Threads error) file own = sym e ∙ is in cc)
-quiet_first (Accesses fault) file own fault other is e = (let z : FaultMemory ≡ fault_of_bytes (Accesses fault) file own = sym e ∙ is in cc)
-quiet_first (Stranger general generals) file own fault other is e = (let z : FaultMemory ≡ fault_of_bytes (Stranger general generals) file own = sym e ∙ is in cc)
-quiet_first NotText file own fault other is e = (let z : FaultMemory ≡ fault_of_bytes NotText file own = sym e ∙ is in cc)
-quiet_first Memory file own fault other is e = other refl
-
-pub asked_reports : (task : Task) (refusal : Refusal) (notation : Notation) → asked_of refusal task ≡ Some notation → is_reported task refusal ≡ true
-asked_reports task (Verifier fault) notation is = asks task notation is
-asked_reports task (Codec error) notation is = absurd cc
-asked_reports task (Object fault) notation is = absurd cc
-asked_reports task (Assembly error) notation is = absurd cc
-asked_reports task (Table error) notation is = absurd cc
-asked_reports task (Scenario error) notation is = absurd cc
-asked_reports task (Setting error) notation is = absurd cc
-asked_reports task (Trace error) notation is = absurd cc
-asked_reports task (Threads error) notation is = absurd cc
-asked_reports task (Accesses fault) notation is = absurd cc
-asked_reports task (Stranger general generals) notation is = absurd cc
-asked_reports task NotText notation is = absurd cc
-asked_reports task Memory notation is = absurd cc
