@@ -258,7 +258,7 @@ fn completed<'a>(
     request: &Request,
     first: Input<'a>,
 ) -> Result<Result<Input<'a>, Said>, AllocError>
-    ensures other { reads_scenario request.now.task ≡ false → result ≡ Ok (Ok first) }
+    ensures other { reads_scenario request.now.task ≡ false → result ≡ Ok (Ok first.entry) }
 {
     let name = match request.task.file() {
         Some(name) if reads_scenario(&request.task) => name,
