@@ -24,7 +24,7 @@ mod verifier;
 pub use error::{Refused, VerifyError};
 pub use known::{Survey, known_at_units};
 pub use laws::{accepted_is_sound, passes_agree, plain_is_accepted, states_are_as_known};
-pub use ready::{Change, Other, Pair, Ready};
+pub use ready::{Change, Other, Ready};
 pub use reason::Reason;
 pub use state::AbsState;
 pub use verified::Verified;
