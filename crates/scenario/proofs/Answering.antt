@@ -10,7 +10,7 @@ use Rattle.scenario.specs.declared.fault.ScenarioError.{ScenarioError}
 use Rattle.scenario.specs.declared.fault.ScenarioError.TheVariants as errors
 use Rattle.scenario.specs.Flaws.{Flaw, Fails, Gives, OrMemory}
 use Rattle.scenario.specs.Checks.{Head, tables}
-use Rattle.scenario.specs.Tables.{Table, Seats, table}
+use Rattle.scenario.specs.Tables.{Seats, table}
 use Rattle.roster.specs.Scenario.{Scenario}
 use Rattle.scenario.specs.declared.messages.Campaign.{Campaign}
 use Rattle.scenario.specs.Reading.{TableGives, Answers, Begun, Headed, Answered, scenario_of, campaign_by, campaign_of, unseated}

@@ -1,4 +1,3 @@
-use Rattle.std.specs.Prelude.{codes}
 use Rattle.std.proofs.lemmas.Result.{err_from_is_err_and}
 use Rattle.toml.specs.View.{table_view, items_view}
 use Rattle.scenario.specs.declared.messages.Kinds.TheVariants.{OralAlone}

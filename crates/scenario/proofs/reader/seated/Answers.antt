@@ -1,7 +1,6 @@
 use Rattle.std.proofs.Common.{rules, refl, ◌+◌, slice_set}
 use Rattle.std.proofs.lemmas.Result.{err_from_is_err_and}
 use Rattle.toml.specs.View.{items_view}
-use Rattle.scenario.specs.Tables.{table}
 use Rattle.scenario.specs.Reading.{Answers, scenario_of, unseated}
 use Rattle.scenario.proofs.Answering.{answers_further, or_refused}
 use Rattle.scenario.proofs.reader.seated.Goals as goal
