@@ -124,6 +124,23 @@ own_fitted left (b ∷ before) s after low =
     (λ _. behind s.told (fitted_sections (left - more b) (before ++ s ∷ after)) (section b.title b.told) (own_fitted (left - more b) before s after low))
     (λ _. behind s.told (fitted_sections left (before ++ s ∷ after)) (section b.title b.instead) (own_fitted left before s after low))
 
+one_stands : (left : ℕ) (before : List Section) (s : Section) (after : List Section)
+    → StandsIn s.told (fitted_sections left (before ++ s ∷ after)) ⊎ StandsIn s.instead (fitted_sections left (before ++ s ∷ after))
+one_stands left [] s after =
+    cond_both (nat_le (more s) left) (s.told ∷ standing (left - more s) after) (s.instead ∷ standing left after)
+    (λ texts. StandsIn s.told (titled (s ∷ after) texts) ⊎ StandsIn s.instead (titled (s ∷ after) texts))
+    (λ _. inl (ahead s.told (section s.title s.told) (fitted_sections (left - more s) after) (section_stands s.title s.told)))
+    (λ _. inr (ahead s.instead (section s.title s.instead) (fitted_sections left after) (section_stands s.title s.instead)))
+one_stands left (b ∷ before) s after =
+    let rest : List Section = before ++ s ∷ after in
+    cond_both (nat_le (more b) left) (b.told ∷ standing (left - more b) rest) (b.instead ∷ standing left rest)
+    (λ texts. StandsIn s.told (titled (b ∷ rest) texts) ⊎ StandsIn s.instead (titled (b ∷ rest) texts))
+    (λ _. further s (section b.title b.told) (fitted_sections (left - more b) rest) (one_stands (left - more b) before s after))
+    (λ _. further s (section b.title b.instead) (fitted_sections left rest) (one_stands left before s after))
+  where
+    further : (s : Section) (first rest : List ℕ) → StandsIn s.told rest ⊎ StandsIn s.instead rest → StandsIn s.told (first ++ rest) ⊎ StandsIn s.instead (first ++ rest)
+    further s first rest is = elim is [ inl told ↦ inl (behind s.told rest first told) | inr other ↦ inr (behind s.instead rest first other) ]
+
 -- ---- which are left out
 
 -- of a section that needs more its room has no place for it
@@ -160,7 +177,7 @@ one_more room least before b s after first texts low is = (
   is.2,
   ap suc is.3,
   ap (λ (xs : List (List ℕ)). first ∷ xs) is.4,
-  elim is.5 [ inl told ↦ inl told | inr long ↦ inr (omega arith) ],
+  elim is.5 [ inl told ↦ inl told | inr long ↦ inr (long.0, (let low = long.1 in omega arith)) ],
 )
 
 left_out : (left : ℕ) (before : List Section) (s : Section) (after : List Section) → AllByRecursion IsRoomy (before ++ s ∷ after)
@@ -173,7 +190,7 @@ left_out left [] s after each =
     (λ e.
     let long = leb-false (more s) left e in
     let rest = standing_least left after each.1 in
-    ([], s.instead, standing left after, refl, refl, inr (omega arith)))
+    ([], s.instead, standing left after, refl, refl, inr (refl, omega arith)))
 left_out left (b ∷ before) s after each =
     let rest : List Section = before ++ s ∷ after in
     cond_both (nat_le (more b) left) (b.told ∷ standing (left - more b) rest) (b.instead ∷ standing left rest)
@@ -195,7 +212,7 @@ in_room room before s after each =
     let all : List Section = before ++ s ∷ after in
     let is = left_out (left_by room all) before s after each in
     let left = left_is room all in
-    (is.0, is.1, is.2, is.3, is.4, elim is.5 [ inl told ↦ inl told | inr long ↦ inr (omega arith) ])
+    (is.0, is.1, is.2, is.3, is.4, elim is.5 [ inl told ↦ inl told | inr long ↦ inr (long.0, (let low = long.1 in omega arith)) ])
 
 -- ---- content
 
@@ -214,6 +231,7 @@ pub proved_sections_are_fitted : SectionsAreFitted
 proved_sections_are_fitted = record {
   short = λ room ss low each. short room ss low (recursion_from_All IsRoomy ss each);
   own = λ room before s after low. own_fitted (left_by room (before ++ s ∷ after)) before s after low;
+  stands = λ room before s after. one_stands (left_by room (before ++ s ∷ after)) before s after;
   left_out = λ room before s after each. in_room room before s after (recursion_from_All IsRoomy (before ++ s ∷ after) each);
   all = λ room ss low each. all_told room ss low (recursion_from_All IsRoomy ss each);
   content = λ room ss each. fitted_content (left_by room ss) ss (recursion_from_All IsFilled ss each);
