@@ -1,10 +1,11 @@
 -- How long what is said of a label is at most, in a campaign within its limits.
 use Rattle.std.proofs.Common.{ℕ, zero, suc, ◌+◌, ◌*◌, ◌-◌, ◌^◌, ◌≤◌, ◌<◌, ◌≡◌, ◌∙◌, Bool, true, false, not, cond, List, [], ◌∷◌, ◌++◌, length, refl, sym, ap, subst, arith, codes, map, Option, None, Some}
-use Rattle.std.specs.Prelude.{◌==◌, ◌&&◌, if◌then◌else◌, filter, find, unwrap_or}
+use Rattle.std.specs.Prelude.{◌==◌, ◌&&◌, if◌then◌else◌, find, nat_lt, unwrap_or}
 use Rattle.std.specs.Fmt.{decimal}
 use Rattle.std.specs.List.{AllByRecursion, flat_map, range_with_len}
-use Rattle.std.proofs.lemmas.Bool.{cond_both}
+use Rattle.std.proofs.lemmas.Bool.{agree_below_at, cond_both, ltb-true}
 use Rattle.std.proofs.lemmas.Nat.{mul-le}
+use Rattle.book.specs.Conditions.{is_told}
 use Rattle.book.specs.Explained.{decided, dotted, element, list_of, order_words}
 use Rattle.book.specs.Table.{MessageTable, told}
 use Rattle.combine.specs.Outcome.{outcome_head, outcome_order}
@@ -58,13 +59,15 @@ general_plain g low = number_plain 2 g (omega arith) (omega arith) (omega arith)
 dots_plain : (gs : List ℕ) → AllBelow 13 gs → IsPlainWithin (flat_map (λ h. codes "." ++ decimal h) gs) (3 * length gs)
 dots_plain [] is = known_plain [] 0 refl
 dots_plain (g ∷ gs) is =
-    wider _ _ _ (omega arith)
+    wider _ (3 + 3 * length gs) (3 * length (g ∷ gs)) (omega arith)
     (both_plain (codes "." ++ decimal g) (flat_map (λ h. codes "." ++ decimal h) gs) 3 (3 * length gs)
     (both_plain (codes ".") (decimal g) 1 2 (known_plain (codes ".") 1 refl) (general_plain g is.0)) (dots_plain gs is.1))
 
 dotted_plain : (w : List ℕ) → AllBelow 13 w → IsPlainWithin (dotted w) (3 * length w)
 dotted_plain [] is = known_plain [] 0 refl
-dotted_plain (g ∷ gs) is = wider _ _ _ (omega arith) (both_plain (decimal g) (flat_map (λ h. codes "." ++ decimal h) gs) 2 (3 * length gs) (general_plain g is.0) (dots_plain gs is.1))
+dotted_plain (g ∷ gs) is =
+    wider _ (2 + 3 * length gs) (3 * length (g ∷ gs)) (omega arith)
+    (both_plain (decimal g) (flat_map (λ h. codes "." ++ decimal h) gs) 2 (3 * length gs) (general_plain g is.0) (dots_plain gs is.1))
 
 told_plain : (o : Option ℕ) → IsOrder o → IsPlainWithin (told_words o) 15
 unfolding IsOrder
@@ -95,14 +98,14 @@ mark_plain Honest is = known_plain [] 30 refl
 mark_plain Traitor is = known_plain (mark_words (codes "; ") Traitor) 30 refl
 mark_plain (Lie general took) is =
     let lie : List ℕ = codes "; " ++ codes "a lie, " in
-    wider _ _ _ (omega arith)
+    wider _ 27 30 (omega arith)
     (both_plain (lie ++ decimal general ++ codes " took ") (decimal took) 17 10
     (both_plain (lie ++ decimal general) (codes " took ") 11 6 (both_plain lie (decimal general) 9 2 (known_plain lie 9 refl) (general_plain general is.0)) (known_plain (codes " took ") 6 refl))
     (order_plain took is.1))
 
 below_words : (count : ℕ) (behind : List ℕ) → count < 10 ^ 5 → IsPlainWithin behind 22 → IsPlainWithin (codes "; " ++ decimal count ++ behind) 30
 below_words count behind low is =
-    wider _ _ _ (omega arith)
+    wider _ 29 30 (omega arith)
     (both_plain (codes "; " ++ decimal count) behind 7 22
     (both_plain (codes "; ") (decimal count) 2 5 (known_plain (codes "; ") 2 refl) (number_plain 5 count (omega arith) low (omega arith))) is)
 
@@ -131,13 +134,12 @@ said_plain node is =
     let c : List ℕ = outcome_words stop node.outcome in
     let d : List ℕ = mark_words stop node.mark in
     let e : List ℕ = extent_words stop node.extent in
-    let name : IsPlainWithin (dotted node.label) 9 = wider _ _ _ (omega arith) (dotted_plain node.label is.generals) in
+    let name : IsPlainWithin (dotted node.label) 9 = wider (dotted node.label) (3 * length node.label) 9 (omega arith) (dotted_plain node.label is.generals) in
     let one = both_plain a b 15 6 (told_plain node.told is.told) (counted_plain node.outcome node.told) in
     let two = both_plain (a ++ b) c 21 28 one (outcome_plain node.outcome is.outcome) in
     let three = both_plain (a ++ b ++ c) d 49 30 two (mark_plain node.mark is.mark) in
     let four = both_plain (a ++ b ++ c ++ d) e 79 30 three (extent_plain node.extent is.extent) in
-    wider _ _ _ (omega arith)
-    (both_plain (dotted node.label ++ codes ": ") (words stop node) 11 109 (both_plain (dotted node.label) (codes ": ") 9 2 name (known_plain (codes ": ") 2 refl)) four)
+    both_plain (dotted node.label ++ codes ": ") (words stop node) 11 109 (both_plain (dotted node.label) (codes ": ") 9 2 name (known_plain (codes ": ") 2 refl)) four
 
 -- ---- orders
 
@@ -185,13 +187,15 @@ outcome_low t are k w p =
     (λ _. om_low t.rule t.generals (told t.messages) are (k - 1) (w ++ j ∷ []) p)) in
     let low : combined_by t.rule list < 2 ^ 32 = combined t.rule list each in
     let same : outcome_order (outcome_of t.rule list) ≡ combined_by t.rule list = outcomes_law t.rule list in
-    cond_both (k == 0) None (Some (outcome_of t.rule list)) IsSmallOutcome (λ _. tt) (λ _. omega arith)
+    cond_both (k == 0) None (Some (outcome_of t.rule list)) IsSmallOutcome (λ _. tt) (λ _. subst (λ (x : ℕ). x < 2 ^ 32) (sym same) low)
 
 -- ---- a label's own
 
 pub mark_low : (t : MessageTable) (traitors : List ℕ) → AreOrders (told t.messages) → (w : List ℕ) (j p : ℕ) → j < 13 → IsSmallMark (mark_at t traitors w j p)
 unfolding IsSmallMark
-mark_low t traitors are w j p low = cond_both _ (Lie j (taken (told t.messages) w j)) Honest IsSmallMark (λ _. (low, taken_low (told t.messages) are w j)) (λ _. tt)
+mark_low t traitors are w j p low =
+    cond_both (on traitors j && not (is_told (taken (told t.messages) w j) (told t.messages (w ++ j ∷ []) p))) (Lie j (taken (told t.messages) w j)) Honest IsSmallMark
+    (λ _. (low, taken_low (told t.messages) are w j)) (λ _. tt)
 
 -- how many go on from it
 most : ℕ → ℕ
@@ -207,12 +211,7 @@ below_most n size (suc k) low =
 
 most_low : (k : ℕ) → k ≤ 4 → most k < 10 ^ 5
 unfolding most
-most_low zero low = omega arith
-most_low (suc zero) low = omega arith
-most_low (suc (suc zero)) low = omega arith
-most_low (suc (suc (suc zero))) low = omega arith
-most_low (suc (suc (suc (suc zero)))) low = omega arith
-most_low (suc (suc (suc (suc (suc k))))) low = absurd (omega arith)
+most_low k low = ltb-true (most k) 100000 (agree_below_at (λ x. nat_lt (most x) 100000) (λ _. true) 5 k refl (omega arith))
 
 below_low : (n size k : ℕ) → n ≤ 13 → k ≤ 4 → below n size k < 10 ^ 5
 below_low n size k few low =

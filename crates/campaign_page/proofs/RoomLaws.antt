@@ -117,7 +117,7 @@ node_by_within t traitors view k w p j is low generals size few =
 
 last_items : (t : MessageTable) (traitors : List ℕ) (folds : Bool) (order : Option ℕ) (k : ℕ) (w : List ℕ) (p : ℕ) → IsTableWithin t → k ≤ 4 → AllBelow 13 w → length w ≤ 2
     → length (items_below t traitors (record { depth = 0; folds = folds; order = order }) k w p) ≤ 1690
-unfolding items_below
+unfolding items_below times
 last_items t traitors folds order zero w p is low generals size = omega arith
 last_items t traitors folds order (suc k) w p is low generals size =
     let view : View = record { depth = 0; folds = folds; order = order } in
@@ -137,7 +137,7 @@ last_items t traitors folds order (suc k) w p is low generals size =
 
 first_items : (t : MessageTable) (traitors : List ℕ) (folds : Bool) (order : Option ℕ) (k : ℕ) (w : List ℕ) (p : ℕ) → IsTableWithin t → k ≤ 4 → AllBelow 13 w → length w ≤ 1
     → length (items_below t traitors (record { depth = 1; folds = folds; order = order }) k w p) ≤ 24440
-unfolding items_below
+unfolding items_below times
 first_items t traitors folds order zero w p is low generals size = omega arith
 first_items t traitors folds order (suc k) w p is low generals size =
     let view : View = record { depth = 1; folds = folds; order = order } in
@@ -188,10 +188,11 @@ tree_short t traitors order p is low =
 name_plain : (g order : ℕ) (named : Bool) → g < 13 → order < 2 ^ 32 → IsPlainWithin (lieutenant_words g named order) 44
 unfolding lieutenant_words
 name_plain g order named few low =
-    both_plain (codes "Lieutenant ") _ 11 33 (known_plain (codes "Lieutenant ") 11 refl)
-    (both_plain (decimal g) _ 2 31 (number_plain 2 g (omega arith) (omega arith) (omega arith))
-    (both_plain (traitor_words named) _ 12 19 (marked named)
-    (both_plain (codes " decides ") (decimal order) 9 10 (known_plain (codes " decides ") 9 refl) (number_plain 10 order (omega arith) (omega arith) (omega arith)))))
+    let decides : List ℕ = codes " decides " ++ decimal order in
+    let one = both_plain (codes " decides ") (decimal order) 9 10 (known_plain (codes " decides ") 9 refl) (number_plain 10 order (omega arith) (omega arith) (omega arith)) in
+    let two = both_plain (traitor_words named) decides 12 19 (marked named) one in
+    let three = both_plain (decimal g) (traitor_words named ++ decides) 2 31 (number_plain 2 g (omega arith) (omega arith) (omega arith)) two in
+    both_plain (codes "Lieutenant ") (decimal g ++ (traitor_words named ++ decides)) 11 33 (known_plain (codes "Lieutenant ") 11 refl) three
   where
     marked : (named : Bool) → IsPlainWithin (traitor_words named) 12
     marked true = known_plain (codes ", a traitor,") 12 refl
@@ -200,7 +201,10 @@ name_plain g order named few low =
 elsewhere_plain : (g : ℕ) → g < 13 → IsPlainWithin (elsewhere_words g) 190
 unfolding elsewhere_words
 elsewhere_plain g few =
-    both_plain _ (decimal g ++ codes ".") 187 3 (known_plain _ 187 refl)
+    let start : List ℕ =
+    codes "This page leaves out the lists by which he decides so: byzlab play, with --schedule as here, or byzlab "
+    ++ codes "audit of the chronicle tells them with --explain --of " in
+    both_plain start (decimal g ++ codes ".") 187 3 (known_plain start 187 refl)
     (both_plain (decimal g) (codes ".") 2 1 (number_plain 2 g (omega arith) (omega arith) (omega arith)) (known_plain (codes ".") 1 refl))
 
 decided_low : (t : MessageTable) (p : ℕ) → IsTableWithin t → decision_of t p < 2 ^ 32
@@ -217,12 +221,13 @@ part_short t traitors order g is low few =
     let one = both (codes "<p>") (shown (elsewhere_words g)) 3 190 (known (codes "<p>") 3 refl) words in
     let two = both (codes "<p>" ++ shown (elsewhere_words g)) (codes "</p>\n") 193 5 one (known (codes "</p>\n") 5 refl) in
     let parts = both tree why 24600 198 (tree_short t traitors order g is low) two in
-    let name = lieutenant_words g (on traitors g) (decision_of t g) in
+    let name : List ℕ = lieutenant_words g (on traitors g) (decision_of t g) in
     let whole = fold_short name (tree ++ why) 44 24798 (name_plain g (decision_of t g) (on traitors g) few (decided_low t g is)) parts in
     cond_both (g == t.commander) [] (lieutenant_told false t traitors view g) (λ xs. length xs ≤ 24900) (λ _. omega arith) (λ _. omega arith)
 
 pub trees_fit : (t : MessageTable) (traitors : List ℕ) (order : ℕ) → IsTableWithin t → order < 2 ^ 32
     → length (each_lieutenant false t traitors (record { depth = 2; folds = true; order = Some order })) ≤ 525000
+unfolding times
 trees_fit t traitors order is low =
     let view : View = record { depth = 2; folds = true; order = Some order } in
     let numbers = is.numbers in

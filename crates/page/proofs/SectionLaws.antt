@@ -177,7 +177,7 @@ one_more room least before b s after first texts low is = (
   is.2,
   ap suc is.3,
   ap (λ (xs : List (List ℕ)). first ∷ xs) is.4,
-  elim is.5 [ inl told ↦ inl told | inr long ↦ inr (long.0, (let low = long.1 in omega arith)) ],
+  elim is.5 [ inl told ↦ inl told | inr long ↦ inr (long.0, (let large = long.1 in omega arith)) ],
 )
 
 left_out : (left : ℕ) (before : List Section) (s : Section) (after : List Section) → AllByRecursion IsRoomy (before ++ s ∷ after)
@@ -212,7 +212,7 @@ in_room room before s after each =
     let all : List Section = before ++ s ∷ after in
     let is = left_out (left_by room all) before s after each in
     let left = left_is room all in
-    (is.0, is.1, is.2, is.3, is.4, elim is.5 [ inl told ↦ inl told | inr long ↦ inr (long.0, (let low = long.1 in omega arith)) ])
+    (is.0, is.1, is.2, is.3, is.4, elim is.5 [ inl told ↦ inl told | inr long ↦ inr (long.0, (let large = long.1 in omega arith)) ])
 
 -- ---- content
 
