@@ -9,10 +9,10 @@ use Rattle.byzlab.specs.declared.target.Named.{Named}
 use Rattle.byzlab.specs.declared.target.Place.{Place}
 use Rattle.byzlab.specs.declared.target.Place.TheVariants as place
 
--- a hyphen names standard input, any other name a file, if it opens
+-- a hyphen names standard input, any other name the file that was opened by it, if it opens
 abbrev pub IsInputOf : {F S : Type 0} → List ℕ → Option (Opened F S) → Type 0
 IsInputOf name (Some (input.Standard stdin)) = name ≡ codes "-"
-IsInputOf name (Some (input.File file)) = name ≢ codes "-"
+IsInputOf name (Some (input.File file own)) = (name ≢ codes "-") × (own.now ≡ name)
 IsInputOf name (Some (input.Text text)) = ⊥
 IsInputOf name (Some input.Nothing) = ⊥
 IsInputOf name None = name ≢ codes "-"
@@ -43,7 +43,7 @@ IsSecondIf (Some name) seed (Some file) = IsInputOf name (Some file)
 
 -- what is left to read: of a file and of standard input what they have, where that is known, of a text the rest of it
 abbrev pub remaining_of : {F S : Type 0} → (F → Option (List ℕ)) → (S → Option (List ℕ)) → Opened F S → Option (List ℕ)
-remaining_of of_file of_standard (input.File file) = of_file file
+remaining_of of_file of_standard (input.File file name) = of_file file
 remaining_of of_file of_standard (input.Standard stdin) = of_standard stdin
 remaining_of of_file of_standard (input.Text text) = cursor_remaining (λ bytes. Some bytes.items) text
 remaining_of of_file of_standard input.Nothing = Some []

@@ -5,13 +5,13 @@ use std::fs::File;
 use std::io::{self, Cursor, ErrorKind, Read, Stdin};
 
 /// A file of the task.
-pub type Input = Opened<File, Stdin>;
+pub type Input<'a> = Opened<'a, File, Stdin>;
 
 /// A file of the task, where one that is opened by its name is an `F`, and standard input an `S`.
 #[derive(Drop)]
-pub enum Opened<F: Read + Drop, S: Read + Drop> {
-    /// It was opened by its name.
-    File(F),
+pub enum Opened<'a, F: Read + Drop, S: Read + Drop> {
+    /// It was opened by this name.
+    File(F, &'a str),
     /// A hyphen names standard input.
     Standard(S),
     /// A scenario that was read, with the files that it names.
@@ -25,9 +25,9 @@ pub enum Opened<F: Read + Drop, S: Read + Drop> {
 /// # Errors
 ///
 /// It does not open, or is a folder; a hyphen always opens.
-pub fn open(rt: &HostRuntime, name: &str) -> io::Result<Input>
-    ensures input { IfOk result (λ input. IsInputOf name.now (Some input)) }
-    ensures closed { IfErr result (λ _. name.now ≢ codes "-") }
+pub fn open<'a>(rt: &HostRuntime, name: &'a str) -> io::Result<Input<'a>>
+    ensures input { IfOk result (λ input. IsInputOf name.entry.now (Some input)) }
+    ensures closed { IfErr result (λ _. name.entry.now ≢ codes "-") }
 {
     if name == "-" {
         return Ok(Opened::Standard(rt.stdin()));
@@ -36,17 +36,17 @@ pub fn open(rt: &HostRuntime, name: &str) -> io::Result<Input>
     if file.metadata()?.is_dir() {
         return Err(io::Error::from(ErrorKind::IsADirectory));
     }
-    Ok(Opened::File(file))
+    Ok(Opened::File(file, name))
 }
 
-impl<F: Read + Drop, S: Read + Drop> Read for Opened<F, S> {
+impl<F: Read + Drop, S: Read + Drop> Read for Opened<'_, F, S> {
     ghost use Rattle.byzlab.specs.Files.{remaining_of};
 
     ghost remaining = { remaining_of F.remaining S.remaining };
 
     fn read(&mut self, buf: &mut [u8]) -> io::Result<usize> {
         match self {
-            Opened::File(file) => file.read(buf),
+            Opened::File(file, _) => file.read(buf),
             Opened::Standard(stdin) => stdin.read(buf),
             Opened::Text(text) => text.read(buf),
             Opened::Nothing => Ok(0),

@@ -1,8 +1,7 @@
 -- Laws of such pages, each the contract of a function of this crate.
-use Rattle.std.specs.Prelude.{ℕ, ◌≡◌, ◌≢◌, ◌<◌, ◌≤◌, ◌^◌, List, ◌++◌, length, ℤ, Option, Some, codes}
+use Rattle.std.specs.Prelude.{ℕ, ◌≡◌, ◌≢◌, ◌<◌, ◌≤◌, ◌^◌, List, ◌++◌, length, Option, Some, codes}
 use Rattle.std.specs.List.{All}
 use Rattle.markup.specs.Grammar.{IsElement}
-use Rattle.asm.specs.Helper.{helper_of as number_of}
 use Rattle.book.specs.Table.{AreNumbersWithin, MessageTable, told}
 use Rattle.drawing.specs.Shown.{nodes_of}
 use Rattle.drawing.specs.Words.{said}
@@ -12,12 +11,9 @@ use Rattle.page.specs.Laws.{StandsIn}
 use Rattle.page.specs.Page.{shown}
 use Rattle.retold.specs.Retold.{traitors_of}
 use Rattle.roster.specs.Scenario.{IsScenario}
-use Rattle.semantics.specs.Call.{helper_of}
-use Rattle.semantics.specs.declared.request.Helper.{Helper}
 use Rattle.world.specs.Chronicle.{Chronicle}
 use Rattle.world.specs.declared.schedule.Repeat.{Repeat}
 use Rattle.campaign_page.specs.Account.{page_text, view_of}
-use Rattle.campaign_page.specs.Calls.{helper_name}
 use Rattle.campaign_page.specs.Room.{longest_page}
 
 -- a page is one element of XML, between the line that says that it is HTML and a line feed, whatever stands in the
@@ -55,9 +51,3 @@ FoldsHideNothing =
     (scenario : List ℕ) (schedule : Option (List (List Repeat))) (t : MessageTable) (c : Chronicle) (p : ℕ)
     → IsScenario c.scenario → IsTableWithin t → p < t.generals → p ≢ t.commander
     → All (IsShownIn (page_text scenario schedule t c)) (nodes_of t (traitors_of c.scenario) (view_of c.scenario) p)
-
--- the assembler takes a name that stands in a call for the number of that helper
-abbrev pub NamesAreRead : Type 0
-NamesAreRead =
-    (helper : Helper)
-    → (number : ℤ) × (helper_of number ≡ Some helper) × (number_of (helper_name helper) ≡ Some number)

@@ -1,4 +1,5 @@
 mod Keeping
+mod Listed
 mod Reading
 mod Retracing
 mod Stopping

@@ -39,6 +39,17 @@ rows_told before round [] = Ok before
 rows_told before round (part ∷ parts) =
     with_row round (row_told round [] (pieces space part)) (λ row. rows_told (before ++ row ∷ []) (suc round) parts)
 
+-- the first part of a round that is no number of a general; places count from 1, and the empty parts not
+abbrev pub fault_at : ℕ → ℕ → Option ℕ → Option AccessFault → Option AccessFault
+fault_at round place None rest = Some (Text round place)
+fault_at round place (Some general) rest = rest
+
+abbrev pub row_fault : ℕ → ℕ → List (List ℕ) → Option AccessFault
+row_fault round place [] = None
+row_fault round place ([] ∷ parts) = row_fault round place parts
+row_fault round place ((c ∷ cs) ∷ parts) =
+    fault_at round place (general_of (c ∷ cs)) (row_fault round (suc place) parts)
+
 -- what a text lists: rounds parted by slashes, in each the generals who come, parted by spaces
 unfoldable pub accesses_told : List ℕ → Result (List (List ℕ)) AccessFault
 accesses_told text = rows_told [] 1 (pieces slash text)

@@ -4,6 +4,7 @@
 mod arranging;
 mod fault;
 mod laws;
+mod listing;
 mod schedules;
 
 pub use arranging::arranged;

@@ -1,6 +1,7 @@
 //! The files that a program reads and the streams that it writes, with what is said where a call fails.
 #![tactic(auto)]
 
+mod flushing;
 mod interrupted;
 mod name;
 mod output;

@@ -46,8 +46,8 @@ impl<W: Write> Output for W {
 
     #[tactic(auto, using(crate::proofs::WriteLemmas::appends_kept, crate::proofs::WriteLemmas::appends_whole))]
     fn put(&mut self, text: &[u8]) -> io::Result<()> {
-        write_whole(self, text)?;
-        self.flush()
+        let written = write_whole(self, text)?;
+        written.flush(self)
     }
 
     fn tell<D: Display + Drop>(&mut self, line: D) -> io::Result<()> {

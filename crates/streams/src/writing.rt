@@ -1,25 +1,26 @@
 //! Writing whole texts.
-ghost use Rattle.std.specs.Prelude.{OnOk, OnErr};
+ghost use Rattle.std.specs.Prelude.{OnErr, OnOk};
 ghost use Rattle.std.specs.Io.KnownBytes.{Appends};
 ghost use Rattle.streams.specs.Writing.{AppendsFront};
 
+use crate::flushing::Unflushed;
 use crate::interrupted::is_interrupted;
 use std::io::{self, ErrorKind, Write};
 
-/// Writes the whole text. Where that fails, a beginning of it was written.
+/// Writes the whole text, which is then to be flushed. Where that fails, a beginning of it was written.
 ///
 /// # Errors
 ///
 /// A write that failed, or that took nothing.
 #[tactic(auto, using(crate::proofs::WriteLemmas::writes))]
-pub(crate) fn write_whole<W: Write>(writer: &mut W, text: &[u8]) -> io::Result<()>
+pub(crate) fn write_whole<W: Write>(writer: &mut W, text: &[u8]) -> io::Result<Unflushed>
     ensures whole { OnOk result (Appends (W.contents writer.old) (W.contents writer.new) text.now) }
     ensures begun { OnErr result (AppendsFront (W.contents writer.old) (W.contents writer.new) text.now) }
 {
     let mut written = 0;
     for _ in 0..u64::MAX {
         if written == text.len() {
-            return Ok(());
+            return Ok(Unflushed::new());
         }
         match writer.write(&text[written..]) {
             Ok(0) => return Err(io::Error::from(ErrorKind::WriteZero)),

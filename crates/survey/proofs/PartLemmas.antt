@@ -197,11 +197,3 @@ wrong_behind_head before head line behind bytes first last old new e cut is whol
 
 pub not_empty : (xs : List ℕ) → false ≡ (length xs == 0) → xs ≢ []
 not_empty xs h e = let z : false ≡ true = h ∙ ap (λ (l : List ℕ). length l == 0) e in cc
-
--- a campaign that is found is the one that was written
-pub not_sized : (o : Option Finding) (x f : Finding) → o ≡ Some x → o ≡ Some f → IsSized f → (IsSized x → IsTrue false) → ⊥
-not_sized o x f is told sized h =
-    let z : Some x ≡ Some f = sym is ∙ told in
-    let same : x ≡ f = cc in
-    let t : false ≡ true = h (subst IsSized (sym same) sized) in
-    cc

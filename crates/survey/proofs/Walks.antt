@@ -13,7 +13,7 @@ use Rattle.survey.specs.declared.parts.PartError.{PartError}
 use Rattle.survey.specs.declared.parts.PartError.TheVariants.{Line, Family, Seed, Memory}
 use Rattle.survey.specs.Heads.{is_head}
 use Rattle.survey.specs.Lines.{AreNumbers, answer_text, flag_text, line_text, member}
-use Rattle.survey.specs.Parts.{AreOf, IsCampaign, IsFaulty, IsFurther, IsHeadLine, IsLed, IsLine, IsOf, IsReadOn, IsUnfed, IsWrong, StopsAt, found_in, row_text, cut_off, unknown, foreign, earlier, later}
+use Rattle.survey.specs.Parts.{AreOf, IsCampaign, IsFaulty, IsFurther, IsHeadLine, IsLed, IsLine, IsOf, IsReadOn, IsSized, IsUnfed, IsUntaken, IsWrong, StopsAt, found_in, row_text, cut_off, unknown, foreign, earlier, later, untold, unsized, too_early, too_late}
 use Rattle.survey.proofs.PartLemmas.{line_fed, line_length, wrong_behind_head}
 use Rattle.survey.proofs.Rereading.{same_findings}
 
@@ -57,6 +57,16 @@ numbers_of f h =
     let b = h.0.rounds in
     let c = h.0.traitors in
     record { seed = h.1; generals = omega arith; bound = omega arith; traitors = omega arith }
+
+-- what is not taken of a line that is no head is wrong there
+pub untaken_wrong : (head line : List ℕ) (first last number : ℕ) (told : Option Finding) (e : PartError) → IsLine line → is_head line ≡ false → 1 < number → IfSome told (λ f. line ≡ line_text f)
+    → ((f : Finding) → AreNumbers f → line ≡ line_text f → told ≡ Some f) → IsUntaken first last number told e → IsWrong head line first last number e
+untaken_wrong head line first last number _ _ is bare lt own back untold =
+    unknown line [] (sym (append-nil line)) is bare (λ l f camp e. let none : None ≡ Some f = back f (numbers_of f camp) e in cc)
+untaken_wrong head line first last number _ _ is bare lt own back (unsized x not) =
+    unknown line [] (sym (append-nil line)) is bare (λ l f camp e. let same : Some x ≡ Some f = back f (numbers_of f camp) e in let x_f : x ≡ f = cc in not (subst IsSized (sym x_f) camp.0))
+untaken_wrong head line first last number _ _ is bare lt own back (too_early f camp low) = earlier f [] (own ∙ sym (append-nil (line_text f))) camp lt low
+untaken_wrong head line first last number _ _ is bare lt own back (too_late f camp high) = later f [] (own ∙ sym (append-nil (line_text f))) camp lt high
 
 pub line_is : (f : Finding) → AreNumbers f → IsLine (line_text f)
 line_is f h =

@@ -91,6 +91,13 @@ pub record IsReadOn (before head bytes : List ℕ) (first last : ℕ) (old new :
 abbrev pub IsCampaign : Finding → Type 0
 IsCampaign f = IsSized f × (f.seed < 2 ^ 64)
 
+-- why what the line of this number tells is not taken: no campaign, or that of another seed
+pub data IsUntaken (first last number : ℕ) : Option Finding → PartError → Type 0 where
+  untold : IsUntaken first last number None (Line number)
+  unsized : (f : Finding) → (IsSized f → ⊥) → IsUntaken first last number (Some f) (Line number)
+  too_early : (f : Finding) → IsCampaign f → f.seed < first → IsUntaken first last number (Some f) (Seed number f.seed)
+  too_late : (f : Finding) → IsCampaign f → last < f.seed → IsUntaken first last number (Some f) (Seed number f.seed)
+
 -- why the line of this number is none of a part with this head: what is left of the text is cut off before its line
 -- feed; or begins with a line that is no head and, behind the first line, none of a campaign either; with the head of
 -- another family; or with the campaign of another seed

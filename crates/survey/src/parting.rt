@@ -1,8 +1,8 @@
 //! Parts of a survey, read line by line.
-ghost use Rattle.std.specs.Prelude.{◌≡◌, ◌≢◌, ◌↔◌, ◌+◌, ◌<◌, ◌^◌, ◌++◌, ℕ, List, [], length, IfErr, IfNone, IfSome, IsTrue, OnOk, true};
+ghost use Rattle.std.specs.Prelude.{◌≡◌, ◌≢◌, ◌↔◌, ◌+◌, ◌<◌, ◌^◌, ◌++◌, ℕ, List, [], length, IfErr, IfNone, IfSome, IsTrue, MatchResult, OnOk, Some, true};
 ghost use Rattle.survey.specs.declared.finding.Finding.{Finding as Found};
 ghost use Rattle.survey.specs.Heads.{is_head};
-ghost use Rattle.survey.specs.Parts.{Adds, AddsAll, IsFaulty, IsFurther, IsHeadLine, IsLine, IsReadOn, IsSized, IsUnfed, IsWrong, StopsAt};
+ghost use Rattle.survey.specs.Parts.{Adds, AddsAll, IsFaulty, IsFurther, IsHeadLine, IsLine, IsOf, IsReadOn, IsSized, IsUnfed, IsUntaken, IsWrong, StopsAt};
 
 use crate::finding::Finding;
 use crate::heading::is_head;
@@ -53,6 +53,29 @@ fn is_sized(finding: &Finding) -> bool
         && finding.traitors <= u64::from(finding.generals)
 }
 
+/// The campaign that a line of this number tells, if it tells one, of one of the seeds from the first to the last.
+///
+/// # Errors
+///
+/// That it tells none, or one of another seed.
+fn taken(told: Option<Finding>, number: u64, seeds: (u64, u64)) -> Result<Finding, PartError>
+    ensures taken { MatchResult result (λ f. (told ≡ Some f) × IsOf seeds.0 seeds.1 f)
+        (IsUntaken seeds.0 seeds.1 number told) }
+    ensures memory { IfErr result (λ e. e ≢ PartError.Memory) }
+{
+    let Some(finding) = told else {
+        return Err(PartError::Line(number));
+    };
+    if !is_sized(&finding) {
+        return Err(PartError::Line(number));
+    }
+    let seed = finding.seed;
+    if seed < seeds.0 || seeds.1 < seed {
+        return Err(PartError::Seed(number, seed));
+    }
+    Ok(finding)
+}
+
 /// Adds the campaign that the line of this number tells, of one of the seeds from the first to the last, if it is not
 /// the head once more.
 fn add_row(
@@ -77,17 +100,11 @@ fn add_row(
         }
         return Err(PartError::Family(number));
     }
-    let Some(finding) = read_line(alloc, line)? else {
-        return Err(PartError::Line(number));
-    };
-    if !is_sized(&finding) {
-        return Err(PartError::Line(number));
+    let told = read_line(alloc, line)?;
+    match taken(told, number, seeds) {
+        Ok(finding) => findings.push(finding)?,
+        Err(untaken) => return Err(untaken),
     }
-    let seed = finding.seed;
-    if seed < seeds.0 || seeds.1 < seed {
-        return Err(PartError::Seed(number, seed));
-    }
-    findings.push(finding)?;
     Ok(())
 }
 

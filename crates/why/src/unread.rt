@@ -1,7 +1,8 @@
 //! What is said of a text that is no TOML.
-ghost use Rattle.std.specs.Prelude.{◌≡◌, IfOk, length, string_bytes};
+ghost use Rattle.std.specs.Prelude.{◌≡◌, ◌↔◌, IfOk, IsErr, length, string_bytes};
 ghost use Rattle.text.specs.Stop.{feed};
 ghost use Rattle.text.specs.Parts.{pieces};
+ghost use Rattle.toml.specs.Errors.{IsMemory, span_end, span_start};
 ghost use Rattle.why.specs.Assembly.{last_of};
 ghost use Rattle.why.specs.Report.{mark_view};
 ghost use Rattle.why.specs.Toml.{TellsToml, span_marked, span_told};
@@ -10,6 +11,7 @@ use crate::lines::{line_at, marked, trimmed};
 use crate::report::{Mark, front, report};
 use std::alloc::{AllocError, Global};
 use text::{Stop, piece};
+use toml::de::Error;
 use toml::table_from_str;
 
 /// How many lines there are up to the end of the bytes, and the last of them, which ends there.
@@ -51,6 +53,21 @@ fn span_told(
     report(alloc, name, sentence.as_str(), Some(mark), None)
 }
 
+/// Between which places of the text the parser found its fault.
+///
+/// # Errors
+///
+/// That it found none, for want of memory.
+fn span_of(error: &Error) -> Result<(usize, usize), AllocError>
+    ensures memory { IsErr result ↔ IsMemory error.now }
+    ensures span { IfOk result (λ span. (span.0 ≡ span_start error.now) × (span.1 ≡ span_end error.now)) }
+{
+    match error.span() {
+        Some(span) => Ok((span.start, span.end)),
+        None => Err(AllocError),
+    }
+}
+
 /// What is said of the text of the file with this name, which is no TOML: what the parser says, and where.
 pub(crate) fn not_toml(alloc: Global, name: &str, text: &[u8]) -> Result<String, AllocError>
     ensures { IfOk result (λ told. TellsToml name.now text.now (string_bytes told)) }
@@ -62,15 +79,6 @@ pub(crate) fn not_toml(alloc: Global, name: &str, text: &[u8]) -> Result<String,
         Ok(_) => return report(alloc, name, "the text is TOML", None, None),
         Err(error) => error,
     };
-    let Some(span) = error.span() else {
-        return Err(AllocError);
-    };
-    span_told(
-        alloc,
-        name,
-        text.as_bytes(),
-        error.message(),
-        span.start,
-        span.end,
-    )
+    let (start, end) = span_of(&error)?;
+    span_told(alloc, name, text.as_bytes(), error.message(), start, end)
 }
