@@ -1,5 +1,5 @@
 -- Campaigns' pages are elements.
-use Rattle.std.proofs.Common.{ℕ, zero, suc, ◌≡◌, ◌==◌, nat_lt, Bool, List, [], ◌∷◌, ◌++◌, length, Option, None, Some, codes, encode_utf8, refl, subst, sym}
+use Rattle.std.proofs.Common.{ℕ, zero, suc, ◌≡◌, ◌==◌, nat_lt, Bool, false, List, [], ◌∷◌, ◌++◌, length, Option, None, Some, codes, encode_utf8, refl, subst, sym}
 use Rattle.std.specs.Prelude.{if◌then◌else◌}
 use Rattle.std.specs.Fmt.{decimal}
 use Rattle.std.specs.List.{AllByRecursion, flat_map, list_all, range_with_len}
@@ -17,7 +17,7 @@ use Rattle.board.specs.Board.{Access}
 use Rattle.book.specs.Decisions.{decision_of}
 use Rattle.book.specs.Explained.{explained_one}
 use Rattle.book.specs.Table.{MessageTable}
-use Rattle.diagram.specs.Foot.{alike_words, obeyed_words}
+use Rattle.diagram.specs.Foot.{alike_words, bound_words, obeyed_words}
 use Rattle.diagram.specs.Svg.{svg_text}
 use Rattle.diagram.proofs.SvgLaws.{proved_diagrams_are_elements}
 use Rattle.diagram.specs.Words.{answered_words, asked_words}
@@ -238,7 +238,7 @@ parts_content words schedule t c =
         ),
       ),
     )
-    (verdict_content c.verdict (bound_told c.verdict.bound))
+    (verdict_content c.verdict (bound_told c.verdict.bound (bound_words false)))
 
 pub proved_campaign_pages_are_elements : CampaignPagesAreElements
 proved_campaign_pages_are_elements words schedule t c =

@@ -1,30 +1,13 @@
 -- Calls by the helpers' names.
-use Rattle.std.proofs.Common.{ℕ, zero, suc, ◌+◌, ◌<◌, ◌≡◌, List, [], ◌∷◌, ◌++◌, length, length-append, refl, sym, ap, ◌∙◌, arith, inl, inr, pos, Option, Some, String, string_bytes}
+use Rattle.std.proofs.Common.{ℕ, zero, suc, ◌+◌, ◌<◌, ◌≡◌, List, [], ◌∷◌, ◌++◌, length, length-append, refl, sym, ap, ◌∙◌, arith, inl, inr, Option, Some, String, string_bytes}
 use Rattle.std.specs.declared.alloc.Global.{Global}
 use Rattle.std.specs.Prelude.{slice_get}
 use Rattle.std.proofs.lemmas.Bool.{cases_lt}
 use Rattle.std.proofs.lemmas.Option.{slice_get_past}
 use Rattle.insn.specs.declared.insn.Insn.{Insn}
 use Rattle.insn.specs.Program.{instruction_at, joined, slots_of}
-use Rattle.asm.specs.Helper.{helper_of as number_of}
 use Rattle.explain.specs.Units.{in_lists, text_or_none}
-use Rattle.semantics.specs.declared.request.Helper.TheVariants.{BoardGet, BoardSwap, BoardAdd, BoardCas, BoardCopy, Send, SendRow, Sway, Honest, SignOrder, PassOn}
 use Rattle.campaign_page.specs.Calls.{call_if, named_calls}
-use Rattle.campaign_page.specs.Laws.{NamesAreRead}
-
-pub proved_names_are_read : NamesAreRead
-unfolding number_of
-proved_names_are_read BoardGet = (pos 1, refl, refl)
-proved_names_are_read BoardSwap = (pos 2, refl, refl)
-proved_names_are_read BoardAdd = (pos 3, refl, refl)
-proved_names_are_read BoardCas = (pos 4, refl, refl)
-proved_names_are_read BoardCopy = (pos 5, refl, refl)
-proved_names_are_read Send = (pos 6, refl, refl)
-proved_names_are_read SendRow = (pos 7, refl, refl)
-proved_names_are_read Sway = (pos 8, refl, refl)
-proved_names_are_read Honest = (pos 9, refl, refl)
-proved_names_are_read SignOrder = (pos 10, refl, refl)
-proved_names_are_read PassOn = (pos 11, refl, refl)
 
 -- the texts of the first units are those of their calls
 pub record AreNamed (program : List Insn) (texts : List (String Global)) (count : ℕ) : Type 0 where

@@ -9,7 +9,7 @@ use Rattle.std.proofs.lemmas.List.Elements.{All-from_recursion}
 use Rattle.board.specs.Board.{Access}
 use Rattle.book.specs.Table.{MessageTable}
 use Rattle.diagram.specs.Foot.{alike_words, bound_words, obeyed_words}
-use Rattle.diagram.specs.Svg.{svg_text}
+use Rattle.diagram.specs.Svg.{campaign_words, svg_text}
 use Rattle.insn.specs.declared.insn.Insn.{Insn}
 use Rattle.page.specs.Laws.{IsRoomy}
 use Rattle.page.specs.Page.{fold_end, fold_start, head_end, head_middle, heading, look, look_end, page, page_end, page_start, paragraph, preamble, shown}
@@ -21,7 +21,7 @@ use Rattle.trace.specs.Text.{chronicle_text}
 use Rattle.world.specs.Chronicle.{Chronicle}
 use Rattle.world.specs.declared.schedule.Repeat.{Repeat}
 use Rattle.world.specs.declared.verdict.Verdict.{Verdict}
-use Rattle.campaign_page.specs.Account.{accesses_heading, accesses_section, accesses_told, bound_told, chronicle_heading, chronicle_section, course_told, each_lieutenant, each_program, explained_told, general_name, hinted, is_wide, lieutenants_heading, lieutenants_roomed, parts, picture_heading, picture_section, program_if, program_part, programs_heading, programs_section, programs_told, promise_words, scenario_heading, scenario_section, schedule_heading, schedule_section, sections, story_told, title, title_words, verdict_heading, verdict_part, verdict_told, view_of}
+use Rattle.campaign_page.specs.Account.{accesses_heading, accesses_section, accesses_told, bound_told, chronicle_heading, chronicle_section, course_told, each_lieutenant, each_program, explained_told, general_name, hinted, is_wide, lieutenants_heading, lieutenants_roomed, parts, picture_heading, picture_section, program_if, program_part, programs_heading, programs_section, programs_told, promise_words, scenario_heading, scenario_section, schedule_heading, schedule_section, sections, story_told, title, verdict_heading, verdict_part, verdict_told, view_of}
 use Rattle.campaign_page.specs.Laws.{CampaignPagesAreShort}
 use Rattle.campaign_page.specs.Printers.{accesses_printer, chronicle_printer, lieutenants_printer, picture_printer, programs_printer, scenario_printer, schedule_printer}
 use Rattle.campaign_page.specs.Room.{fitted, lines_told, over, over_words, room_for_sections, roomed, share}
@@ -48,9 +48,9 @@ over_words_short : (room : ℕ) (who : List ℕ) → room < 10 ^ 6 → length wh
 unfolding over_words
 over_words_short room who low short =
     let digits : length (decimal room) ≤ 6 = length-decimal-le 6 room (omega arith) low (omega arith) in
-    let start : length (codes "More than ") ≤ 10 = known (codes "More than ") 10 refl in
-    let middle : length (codes " bytes of HTML, for which this page has no room: ") ≤ 50 = known (codes " bytes of HTML, for which this page has no room: ") 50 refl in
-    omega (arith, length-append (codes "More than ") (decimal room ++ (codes " bytes of HTML, for which this page has no room: " ++ who)), length-append (decimal room) (codes " bytes of HTML, for which this page has no room: " ++ who), length-append (codes " bytes of HTML, for which this page has no room: ") who)
+    let start : length (codes "Longer than its share of this page, ") ≤ 40 = known (codes "Longer than its share of this page, ") 40 refl in
+    let middle : length (codes " bytes of HTML: ") ≤ 20 = known (codes " bytes of HTML: ") 20 refl in
+    omega (arith, length-append (codes "Longer than its share of this page, ") (decimal room ++ (codes " bytes of HTML: " ++ who)), length-append (decimal room) (codes " bytes of HTML: " ++ who), length-append (codes " bytes of HTML: ") who)
 
 over_short : (room : ℕ) (who : List ℕ) → room < 10 ^ 6 → length who ≤ 130 → length (over room who) ≤ 2000
 over_short room who low short = let told = paragraph_short (over_words room who) 200 (over_words_short room who low short) in omega arith
@@ -150,9 +150,10 @@ chronicle_roomy words = roomy chronicle_heading 400000 chronicle_printer (lines_
 
 -- ---- their headings
 
-pub scenario_headed : length (heading scenario_heading) ≤ 487
+pub scenario_headed : (tale : List ℕ) → length (heading (scenario_heading tale)) ≤ 487
 unfolding scenario_heading
-scenario_headed = heading_short scenario_heading 53 (known scenario_heading 53 refl)
+scenario_headed [] = heading_short (scenario_heading []) 53 (known (scenario_heading []) 53 refl)
+scenario_headed (c ∷ cs) = heading_short (scenario_heading (c ∷ cs)) 53 (known (scenario_heading (c ∷ cs)) 53 refl)
 
 pub schedule_headed : length (heading schedule_heading) ≤ 487
 unfolding schedule_heading
@@ -189,13 +190,13 @@ obeyed_short (Some true) = known (obeyed_words (Some true)) 60 refl
 obeyed_short (Some false) = known (obeyed_words (Some false)) 60 refl
 obeyed_short None = known (obeyed_words None) 60 refl
 
-pub promise_short : length promise_words ≤ 200
+promise_short : length promise_words ≤ 200
 unfolding promise_words
 promise_short = known promise_words 200 refl
 
-bound_short : (b : Bool) → length (bound_told b) ≤ 200
-bound_short true = promise_short
-bound_short false = known (bound_words false) 200 refl
+pub bound_short : (b : Bool) (without : List ℕ) → length without ≤ 200 → length (bound_told b without) ≤ 200
+bound_short true without short = promise_short
+bound_short false without short = short
 
 pub verdict_short : (v : Verdict) (bound : List ℕ) → length bound ≤ 200 → length (verdict_told v bound) ≤ 4000
 unfolding verdict_heading
@@ -210,8 +211,8 @@ verdict_short v bound short =
     omega arith
 
 -- the campaign's numbers
-words_short : (n m c order : ℕ) → n < 10 ^ 2 → m < 10 ^ 2 → c < 10 ^ 2 → order < 10 ^ 10 → length (title_words n m c order) ≤ 100
-unfolding title_words
+words_short : (n m c order : ℕ) → n < 10 ^ 2 → m < 10 ^ 2 → c < 10 ^ 2 → order < 10 ^ 10 → length (campaign_words n m c order) ≤ 100
+unfolding campaign_words
 words_short n m c order hn hm hc ho =
     let d1 = length-decimal-le 2 n (omega arith) hn (omega arith) in
     let d2 = length-decimal-le 2 m (omega arith) hm (omega arith) in
@@ -282,16 +283,17 @@ parts_short words schedule t c is =
         ),
       ),
     ) in
-    let h1 = scenario_headed in
+    let h1 = scenario_headed (story words) in
     let h2 = schedule_headed in
     let h3 = programs_headed in
     let h4 = picture_headed in
     let h5 = lieutenants_headed in
     let h6 = accesses_headed in
     let h7 = chronicle_headed in
-    let headed : length (heading scenario_heading) + (length (heading schedule_heading) + (length (heading programs_heading) + (length (heading picture_heading)
+    let headed : length (heading (scenario_heading (story words))) + (length (heading schedule_heading) + (length (heading programs_heading) + (length (heading picture_heading)
     + (length (heading lieutenants_heading) + (length (heading accesses_heading) + (length (heading chronicle_heading) + 0)))))) ≤ 3500 = omega arith in
-    sections_short ss (verdict_part c.verdict) (leb-true (rooms ss) 1987000 refl) each headed (verdict_short c.verdict (bound_told c.verdict.bound) (bound_short c.verdict.bound))
+    sections_short ss (verdict_part c.verdict) (leb-true (rooms ss) 1987000 refl) each headed
+    (verdict_short c.verdict (bound_told c.verdict.bound (bound_words false)) (bound_short c.verdict.bound (bound_words false) (known (bound_words false) 200 refl)))
 
 pub proved_campaign_pages_are_short : CampaignPagesAreShort
 proved_campaign_pages_are_short words schedule t c is =

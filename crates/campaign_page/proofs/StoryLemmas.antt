@@ -1,10 +1,11 @@
 -- A story ends between characters.
-use Rattle.std.proofs.Common.{ℕ, zero, suc, ◌+◌, ◌-◌, ◌<◌, ◌≤◌, ◌≡◌, Bool, true, false, not, ◌&&◌, ◌||◌, List, [], ◌∷◌, length, get_or, refl, sym, subst, ap, ◌∙◌, arith, inl, inr, ◌⊎◌}
+use Rattle.std.proofs.Common.{ℕ, zero, suc, ◌+◌, ◌-◌, ◌<◌, ◌≤◌, ◌≡◌, Bool, true, false, not, ◌&&◌, ◌||◌, List, [], ◌∷◌, length, take, get_or, refl, sym, subst, ap, ◌∙◌, arith, inl, inr, ◌⊎◌}
 use Rattle.std.specs.Prelude.{◌==◌}
 use Rattle.std.specs.Str.{IsCharBoundary, IsUtf8}
-use Rattle.std.proofs.lemmas.Bool.{cases_Bool, cond-false, cond-true, eqb-true, or_cases, or_parts, true≢false}
+use Rattle.std.proofs.lemmas.Bool.{cases_Bool, cond_both, cond-false, cond-true, eqb-true, or_cases, or_parts, true≢false}
 use Rattle.std.proofs.lemmas.Str.{IsCharBoundary-after_ascii, IsCharBoundary-end, IsCharBoundary-start}
-use Rattle.campaign_page.specs.Story.{bytes_on, is_blank, story_bytes}
+use Rattle.label.specs.Labels.{on}
+use Rattle.campaign_page.specs.Story.{bytes_on, head_bytes, is_blank, story_bytes}
 
 -- so many bytes end where the text does, or begins, or behind a character of one byte
 Ends : Bool → List ℕ → ℕ → Type 0
@@ -76,18 +77,22 @@ bytes_few within (c ∷ cs) = elim (cases_Bool (within || (is_blank c || c == 35
       let rest = bytes_few next cs in omega arith)
 ]
 
-pub edge : (bs : List ℕ) → IsUtf8 bs → IsCharBoundary bs (story_bytes bs)
+head_edge : (bs : List ℕ) → IsUtf8 bs → IsCharBoundary bs (head_bytes bs)
 unfolding Ends
-edge bs utf8 = elim (ends_on false bs) [
+head_edge bs utf8 = elim (ends_on false bs) [
   | inl all ↦ at (length bs) (sym all) (IsCharBoundary-end bs)
   | inr other ↦ elim other [
     | inl none ↦ at 0 (sym none.0) (IsCharBoundary-start bs utf8)
     | inr last ↦
         (let some = last.0 in
         let few = bytes_few false bs in
-        at (story_bytes bs - 1 + 1) (omega arith) (IsCharBoundary-after_ascii bs (story_bytes bs - 1) utf8 (omega arith) last.1))
+        at (head_bytes bs - 1 + 1) (omega arith) (IsCharBoundary-after_ascii bs (head_bytes bs - 1) utf8 (omega arith) last.1))
   ]
 ]
   where
-    at : (n : ℕ) → n ≡ story_bytes bs → IsCharBoundary bs n → IsCharBoundary bs (story_bytes bs)
+    at : (n : ℕ) → n ≡ head_bytes bs → IsCharBoundary bs n → IsCharBoundary bs (head_bytes bs)
     at n same is = subst (IsCharBoundary bs) same is
+
+pub edge : (bs : List ℕ) → IsUtf8 bs → IsCharBoundary bs (story_bytes bs)
+edge bs utf8 =
+    cond_both (on (take (head_bytes bs) bs) 35) (head_bytes bs) 0 (IsCharBoundary bs) (λ _. head_edge bs utf8) (λ _. IsCharBoundary-start bs utf8)

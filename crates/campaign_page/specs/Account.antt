@@ -8,7 +8,7 @@ use Rattle.book.specs.Explained.{explained_one}
 use Rattle.book.specs.Table.{MessageTable}
 use Rattle.diagram.specs.Foot.{alike_words, bound_words, obeyed_words}
 use Rattle.diagram.specs.Layout.{width}
-use Rattle.diagram.specs.Svg.{svg_text}
+use Rattle.diagram.specs.Svg.{campaign_words, svg_text}
 use Rattle.diagram.specs.Words.{answered_words, asked_words}
 use Rattle.drawing.specs.declared.node.View.{View}
 use Rattle.explain.specs.Explained.{explained_at}
@@ -32,8 +32,10 @@ use Rattle.campaign_page.specs.Trees.{tree_told}
 
 -- ---- headings
 
-unfoldable pub scenario_heading : List ℕ
-scenario_heading = codes "Story and scenario"
+-- of a scenario with this story, or without one
+unfoldable pub scenario_heading : List ℕ → List ℕ
+scenario_heading [] = codes "Scenario"
+scenario_heading (c ∷ cs) = codes "Story and scenario"
 
 unfoldable pub picture_heading : List ℕ
 picture_heading = codes "Who told whom what"
@@ -98,7 +100,7 @@ scenario_told text =
 
 abbrev pub scenario_section : List ℕ → Section
 scenario_section text = record {
-  title = scenario_heading;
+  title = scenario_heading (story text);
   told = scenario_told text;
   room = room_for_scenario;
   instead = scenario_instead text;
@@ -193,8 +195,8 @@ lieutenant_words g is_traitor order =
 -- of five rounds, in which he may have more than a thousand lists, who tells them
 unfoldable pub elsewhere_words : ℕ → List ℕ
 elsewhere_words g =
-    codes "Of five rounds a page has no room for the lists by which he decides so: byzlab play, with --schedule as "
-    ++ codes "here, or byzlab audit of the chronicle tells them with --explain --of " ++ (decimal g ++ codes ".")
+    codes "Of five rounds a page leaves out the lists by which he decides so: byzlab play, with --schedule as here, "
+    ++ codes "or byzlab audit of the chronicle tells them with --explain --of " ++ (decimal g ++ codes ".")
 
 abbrev pub why_part : MessageTable → List ℕ → ℕ → List ℕ
 why_part t traitors g = if nat_lt t.bound 4 then lines (explained_one t traitors g) else paragraph (elsewhere_words g)
@@ -247,16 +249,16 @@ promise_words =
     codes "The bound holds: there are few enough traitors, so that loyal lieutenants decide alike, and obey a loyal "
     ++ codes "commander, whatever the traitors do."
 
-abbrev pub bound_told : Bool → List ℕ
-bound_told true = promise_words
-bound_told false = bound_words false
+-- or, where the bound does not hold, that nothing is promised
+abbrev pub bound_told : Bool → List ℕ → List ℕ
+bound_told bound without = if bound then promise_words else without
 
 abbrev pub verdict_told : Verdict → List ℕ → List ℕ
 verdict_told v bound =
     heading verdict_heading ++ paragraph (alike_words v.alike) ++ paragraph (obeyed_words v.obeyed) ++ paragraph bound
 
 abbrev pub verdict_part : Verdict → List ℕ
-verdict_part v = verdict_told v (bound_told v.bound)
+verdict_part v = verdict_told v (bound_told v.bound (bound_words false))
 
 -- all sections but the verdict, of a chronicle whose letters tell this message table, whose scenario this text tells,
 -- and which was played by this schedule, if by one
@@ -269,14 +271,9 @@ sections text schedule t c =
 unfoldable pub parts : List ℕ → Option (List (List Repeat)) → MessageTable → Chronicle → List ℕ
 parts text schedule t c = sections_in room_for_sections (sections text schedule t c) ++ verdict_part c.verdict
 
--- the campaign's numbers
-unfoldable pub title_words : ℕ → ℕ → ℕ → ℕ → List ℕ
-title_words n m c order =
-    decimal n ++ (codes " generals, traitors provided for: "
-    ++ (decimal m ++ (codes "; commander " ++ (decimal c ++ (codes " was given order " ++ decimal order)))))
-
+-- the campaign's numbers, as its picture has them
 abbrev pub title : Scenario → List ℕ
-title s = title_words s.generals s.bound s.commander s.order
+title s = campaign_words s.generals s.bound s.commander s.order
 
 -- the page, under the campaign's numbers
 abbrev pub page_text : List ℕ → Option (List (List Repeat)) → MessageTable → Chronicle → List ℕ

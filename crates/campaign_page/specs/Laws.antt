@@ -1,8 +1,7 @@
 -- Laws of such pages, each the contract of a function of this crate.
-use Rattle.std.specs.Prelude.{ℕ, ◌≡◌, ◌≢◌, ◌<◌, ◌≤◌, List, ◌++◌, length, ℤ, Option, Some, codes}
+use Rattle.std.specs.Prelude.{ℕ, ◌≡◌, ◌≢◌, ◌<◌, ◌≤◌, List, ◌++◌, length, Option, codes}
 use Rattle.std.specs.List.{All}
 use Rattle.markup.specs.Grammar.{IsElement}
-use Rattle.asm.specs.Helper.{helper_of as number_of}
 use Rattle.book.specs.Table.{MessageTable}
 use Rattle.drawing.specs.Shown.{nodes_of}
 use Rattle.drawing.specs.Words.{said}
@@ -11,12 +10,9 @@ use Rattle.page.specs.Laws.{StandsIn}
 use Rattle.page.specs.Page.{shown}
 use Rattle.retold.specs.Retold.{traitors_of}
 use Rattle.roster.specs.Scenario.{IsScenario}
-use Rattle.semantics.specs.Call.{helper_of}
-use Rattle.semantics.specs.declared.request.Helper.{Helper}
 use Rattle.world.specs.Chronicle.{Chronicle}
 use Rattle.world.specs.declared.schedule.Repeat.{Repeat}
 use Rattle.campaign_page.specs.Account.{each_lieutenant, page_text, view_of}
-use Rattle.campaign_page.specs.Calls.{helper_name}
 use Rattle.campaign_page.specs.Room.{longest_page, room_for_lieutenants}
 
 -- a page is one element of XML, between the line that says that it is HTML and a line feed, whatever stands in the
@@ -46,9 +42,3 @@ FoldsHideNothing =
     → p < t.generals → p ≢ t.commander
     → length (each_lieutenant t (traitors_of c.scenario) (view_of c.scenario)) ≤ room_for_lieutenants
     → All (IsShownIn (page_text scenario schedule t c)) (nodes_of t (traitors_of c.scenario) (view_of c.scenario) p)
-
--- the assembler takes a name that stands in a call for the number of that helper
-abbrev pub NamesAreRead : Type 0
-NamesAreRead =
-    (helper : Helper)
-    → (number : ℤ) × (helper_of number ≡ Some helper) × (number_of (helper_name helper) ≡ Some number)

@@ -50,10 +50,10 @@ room_for_units = 256
 abbrev pub narrow_sheet : ℕ
 narrow_sheet = 1300
 
--- that a section is longer than its own room, and that the page has no other, and who prints it
+-- that a section, or a part of one, is longer than this room, its own, and who prints it
 unfoldable pub over_words : ℕ → List ℕ → List ℕ
 over_words room who =
-    codes "More than " ++ (decimal room ++ (codes " bytes of HTML, for which this page has no room: " ++ who))
+    codes "Longer than its share of this page, " ++ (decimal room ++ (codes " bytes of HTML: " ++ who))
 
 abbrev pub over : ℕ → List ℕ → List ℕ
 over room who = paragraph (over_words room who)
@@ -70,6 +70,6 @@ fitted room who told = if nat_lt room (length told) then over room who else told
 abbrev pub lines_told : ℕ → List ℕ → List ℕ → List ℕ
 lines_told room who text = if nat_lt room_for_sections (length text) then over room who else lines text
 
--- so many units, and who tells of them
+-- so many units, more than are explained, and who tells of them
 unfoldable pub units_words : ℕ → List ℕ → List ℕ
-units_words count who = decimal count ++ (codes " units, for which a page has no room: " ++ who)
+units_words count who = decimal count ++ (codes " units, and a page explains programs of 256 at most: " ++ who)

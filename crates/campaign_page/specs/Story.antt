@@ -1,18 +1,23 @@
 -- The story of a scenario, the comments and blank lines at its head, and the text behind it (own; TOML 1.0, "Comment").
 use Rattle.std.specs.Prelude.{ℕ, ◌+◌, ◌==◌, Bool, false, ◌||◌, ◌&&◌, not, if◌then◌else◌, List, [], ◌∷◌, drop, take}
+use Rattle.label.specs.Labels.{on}
 
 -- a blank, a tab, or what ends a line
 abbrev pub is_blank : ℕ → Bool
 is_blank c = c == 32 || (c == 9 || (c == 13 || c == 10))
 
--- how many bytes of it are left, within a comment or not: a comment goes from a number sign to the end of its line
+-- how many bytes of its head are left, within a comment or not: a comment goes from a number sign to the end of its line
 abbrev pub bytes_on : Bool → List ℕ → ℕ
 bytes_on within [] = 0
 bytes_on within (c ∷ cs) =
     if within || (is_blank c || c == 35) then 1 + bytes_on (not (c == 10) && (within || c == 35)) cs else 0
 
+abbrev pub head_bytes : List ℕ → ℕ
+head_bytes text = bytes_on false text
+
+-- blank lines alone are no story: a number sign is to stand there
 abbrev pub story_bytes : List ℕ → ℕ
-story_bytes text = bytes_on false text
+story_bytes text = if on (take (head_bytes text) text) 35 then head_bytes text else 0
 
 abbrev pub story : List ℕ → List ℕ
 story text = take (story_bytes text) text

@@ -1,6 +1,6 @@
 //! A campaign as a page.
 ghost use Rattle.std.specs.Prelude.{◌≡◌, ◌++◌, encode_utf8, flat_map, option_map, string_bytes, IfOk, OnOk};
-ghost use Rattle.campaign_page.specs.Account.{accesses_section, chronicle_heading, chronicle_section, diagram_section, hinted, is_wide, page_text, parts, picture_heading, picture_hint, picture_name, picture_section, programs_section, title, title_words};
+ghost use Rattle.campaign_page.specs.Account.{accesses_section, chronicle_heading, chronicle_section, diagram_section, hinted, is_wide, page_text, parts, picture_heading, picture_hint, picture_name, picture_section, programs_section, title};
 ghost use Rattle.trace.specs.Text.{chronicle_text};
 
 use crate::accesses::accesses_section;
@@ -16,6 +16,7 @@ use board::Access;
 use book::Heard;
 use diagram::campaign_svg;
 use diagram::layout::width;
+use diagram::svg::put_campaign;
 use page::{Section, finish, put_paragraph, put_picture, put_sections, start};
 use roster::Scenario;
 use std::alloc::{AllocError, Global};
@@ -93,32 +94,18 @@ fn accesses_of(alloc: Global, chronicle: &Chronicle) -> Result<Section, AllocErr
 }
 
 /// The campaign's numbers.
-pub fn title(alloc: Global, scenario: &Scenario) -> Result<String, AllocError>
+fn title(alloc: Global, scenario: &Scenario) -> Result<String, AllocError>
     ensures { IfOk result (λ text. string_bytes text ≡ title scenario.now) }
 {
-    title_of(
-        alloc,
+    let mut words = String::new(alloc);
+    put_campaign(
+        &mut words,
         scenario.generals(),
         scenario.bound(),
         scenario.commander(),
         scenario.order(),
-    )
-}
-
-/// These numbers, in words.
-#[tactic(auto, unfolding(crate::specs::Account::title_words))]
-fn title_of(
-    alloc: Global,
-    generals: u8,
-    bound: u8,
-    commander: u8,
-    order: u32,
-) -> Result<String, AllocError>
-    ensures { IfOk result (λ text. string_bytes text ≡ title_words generals bound commander order) }
-{
-    format!(in alloc;
-        "{generals} generals, traitors provided for: {bound}; commander {commander} was given order {order}"
-    )
+    )?;
+    Ok(words)
 }
 
 /// The picture of a campaign.

@@ -4,7 +4,7 @@ ghost use Rattle.explain.specs.Explained.{explained_at};
 ghost use Rattle.explain.specs.Units.{in_lists};
 ghost use Rattle.campaign_page.specs.Calls.{call_if, call_of, call_text, named_calls};
 
-use explain::{Written, explanation_at};
+use explain::{Written, explanation_at, helper_name};
 use helper::{Helper, helper_of};
 use insn::{Insn, Program};
 use std::alloc::{AllocError, Global};
@@ -28,48 +28,41 @@ fn statements(alloc: Global, program: &Program) -> Result<Vec<String>, AllocErro
 {
     let mut statements = Vec::with_capacity(alloc, program.units())?;
     for unit in 0..program.units() {
-        let text = String::from_str(alloc, call_if(program.at(unit)))?;
+        let text = call_if(alloc, program.at(unit))?;
         statements.push(text)?;
     }
     Ok(statements)
 }
 
 /// How the call of a unit is written, if an instruction starts there.
-fn call_if(insn: Option<Insn>) -> &'static str
-    ensures { result.now ≡ call_if insn }
+fn call_if(alloc: Global, insn: Option<Insn>) -> Result<String, AllocError>
+    ensures { IfOk result (λ text. string_bytes text ≡ call_if insn) }
 {
     match insn {
-        Some(insn) => call_text(insn),
-        None => "",
+        Some(insn) => call_text(alloc, insn),
+        None => Ok(String::new(alloc)),
     }
 }
 
 /// How a call is written.
-fn call_text(insn: Insn) -> &'static str
-    ensures { result.now ≡ call_text insn }
+fn call_text(alloc: Global, insn: Insn) -> Result<String, AllocError>
+    ensures { IfOk result (λ text. string_bytes text ≡ call_text insn) }
 {
     match insn {
-        Insn::Call { helper } => call_of(helper_of(helper)),
-        _ => "",
+        Insn::Call { helper } => call_of(alloc, helper_of(helper)),
+        _ => Ok(String::new(alloc)),
     }
 }
 
 /// How a call of the helper is written, if there is one.
-fn call_of(helper: Option<Helper>) -> &'static str
-    ensures { result.now ≡ call_of helper }
+fn call_of(alloc: Global, helper: Option<Helper>) -> Result<String, AllocError>
+    ensures { IfOk result (λ text. string_bytes text ≡ call_of helper) }
 {
     match helper {
-        None => "",
-        Some(Helper::BoardGet) => "call board_get",
-        Some(Helper::BoardSwap) => "call board_swap",
-        Some(Helper::BoardAdd) => "call board_add",
-        Some(Helper::BoardCas) => "call board_cas",
-        Some(Helper::BoardCopy) => "call board_copy",
-        Some(Helper::Send) => "call send",
-        Some(Helper::SendRow) => "call send_row",
-        Some(Helper::Sway) => "call sway",
-        Some(Helper::Honest) => "call honest",
-        Some(Helper::SignOrder) => "call sign_order",
-        Some(Helper::PassOn) => "call pass_on",
+        Some(helper) => {
+            let name = helper_name(helper);
+            format!(in alloc; "call {name}")
+        }
+        None => Ok(String::new(alloc)),
     }
 }

@@ -1,5 +1,5 @@
 //! Laws of such pages: each function does nothing, and its contract is the law.
-ghost use Rattle.campaign_page.specs.Laws.{CampaignPagesAreElements, CampaignPagesAreShort, FoldsHideNothing, NamesAreRead};
+ghost use Rattle.campaign_page.specs.Laws.{CampaignPagesAreElements, CampaignPagesAreShort, FoldsHideNothing};
 
 /// A campaign's page is a line that says that it is HTML, and one element, whatever the scenario's text, the table and
 /// the chronicle.
@@ -17,9 +17,4 @@ pub fn campaign_pages_are_short()
 /// for the lieutenants.
 pub fn folds_hide_nothing()
     ensures { FoldsHideNothing }
-{}
-
-/// By the name that stands in a call on a page the assembler knows the helper.
-pub fn names_are_read()
-    ensures { NamesAreRead }
 {}

@@ -16,12 +16,10 @@ mod story;
 mod verdict;
 
 pub use accesses::accesses_section;
-pub use account::{chronicle_section, is_wide, page_text, picture_section, title};
-pub use laws::{
-    campaign_pages_are_elements, campaign_pages_are_short, folds_hide_nothing, names_are_read,
-};
+pub use account::{chronicle_section, is_wide, page_text, picture_section};
+pub use laws::{campaign_pages_are_elements, campaign_pages_are_short, folds_hide_nothing};
 pub use room::ROOM_FOR_SECTIONS;
 pub use scenario::scenario_section;
 pub use schedule::schedule_section;
-pub use sections::{lieutenants_roomed, programs_section};
-pub use verdict::{promise_words, put_verdict_told};
+pub use sections::{lieutenant_name, lieutenants_roomed, programs_section};
+pub use verdict::{bound_told, put_verdict_told};

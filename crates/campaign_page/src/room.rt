@@ -103,7 +103,7 @@ pub(crate) fn lines_told(
     Ok(told)
 }
 
-/// Adds that there are more bytes than these, and who prints them.
+/// Adds that a part is longer than so many bytes, its own room, and who prints it.
 pub(crate) fn put_over(
     alloc: Global,
     out: &mut String,
@@ -121,13 +121,13 @@ pub(crate) fn put_over(
 fn over_words(alloc: Global, room: usize, who: &str) -> Result<String, AllocError>
     ensures { IfOk result (λ words. string_bytes words ≡ over_words room who.now) }
 {
-    format!(in alloc; "More than {room} bytes of HTML, for which this page has no room: {who}")
+    format!(in alloc; "Longer than its share of this page, {room} bytes of HTML: {who}")
 }
 
-/// So many units, and who tells of them.
+/// So many units, more than are explained, and who tells of them.
 #[tactic(auto, unfolding(crate::specs::Room::units_words))]
 pub(crate) fn units_words(alloc: Global, count: usize, who: &str) -> Result<String, AllocError>
     ensures { IfOk result (λ words. string_bytes words ≡ units_words count who.now) }
 {
-    format!(in alloc; "{count} units, for which a page has no room: {who}")
+    format!(in alloc; "{count} units, and a page explains programs of 256 at most: {who}")
 }

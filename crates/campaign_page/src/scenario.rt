@@ -18,8 +18,9 @@ pub fn scenario_section(alloc: Global, text: &str) -> Result<Section, AllocError
 {
     let told = scenario_told(alloc, text)?;
     let instead = scenario_instead(alloc, text)?;
+    let (story, _) = parted(text);
     Ok(Section {
-        title: scenario_heading(),
+        title: scenario_heading(story),
         told,
         room: ROOM_FOR_SCENARIO,
         instead,
@@ -64,10 +65,14 @@ fn story_told(alloc: Global, story: &str) -> Result<String, AllocError>
     Ok(told)
 }
 
-/// The heading of the scenario.
+/// The heading of a scenario with this story, or without one.
 #[tactic(auto, unfolding(crate::specs::Account::scenario_heading))]
-fn scenario_heading() -> &'static str
-    ensures { result.now ≡ scenario_heading }
+fn scenario_heading(story: &str) -> &'static str
+    ensures { result.now ≡ scenario_heading story.now }
 {
-    "Story and scenario"
+    if story.is_empty() {
+        "Scenario"
+    } else {
+        "Story and scenario"
+    }
 }

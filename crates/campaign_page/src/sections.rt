@@ -294,14 +294,14 @@ fn elsewhere_words(alloc: Global, general: u8) -> Result<String, AllocError>
     ensures { IfOk result (λ words. string_bytes words ≡ elsewhere_words general) }
 {
     format!(in alloc;
-        "Of five rounds a page has no room for the lists by which he decides so: byzlab play, with --schedule as \
-         here, or byzlab audit of the chronicle tells them with --explain --of {general}."
+        "Of five rounds a page leaves out the lists by which he decides so: byzlab play, with --schedule as here, \
+         or byzlab audit of the chronicle tells them with --explain --of {general}."
     )
 }
 
 /// A lieutenant's name, and what he decides.
 #[tactic(auto, unfolding(crate::specs::Account::lieutenant_words))]
-fn lieutenant_name(
+pub fn lieutenant_name(
     alloc: Global,
     general: u8,
     is_traitor: bool,
@@ -314,7 +314,7 @@ fn lieutenant_name(
 }
 
 /// What marks a traitor.
-pub(crate) fn traitor_words(is_traitor: bool) -> &'static str
+fn traitor_words(is_traitor: bool) -> &'static str
     ensures { result.now ≡ traitor_words is_traitor }
 {
     if is_traitor { ", a traitor," } else { "" }

@@ -1,6 +1,7 @@
 //! The story of a scenario, the comments and blank lines at its head, and the text behind it.
-ghost use Rattle.std.specs.Prelude.{◌≡◌};
-ghost use Rattle.campaign_page.specs.Story.{behind_story, is_blank, story, story_bytes};
+ghost use Rattle.std.specs.Prelude.{◌≡◌, ◌≤◌, length};
+ghost use Rattle.campaign_page.specs.Story.{behind_story, head_bytes, is_blank, story, story_bytes};
+ghost use Rattle.label.specs.Labels.{on};
 
 /// The story of a scenario, and the text behind it.
 pub(crate) fn parted(text: &str) -> (&str, &str)
@@ -11,9 +12,25 @@ pub(crate) fn parted(text: &str) -> (&str, &str)
     (&text[..end], &text[end..])
 }
 
-/// How many bytes of a text are its story.
+/// How many bytes of a text are its story: none, if no comment stands at its head.
 fn story_bytes(text: &[u8]) -> usize
     ensures { result ≡ story_bytes text.now }
+{
+    let end = head_bytes(text);
+    if has_comment(&text[..end]) { end } else { 0 }
+}
+
+/// Whether a comment stands in the head of a text.
+fn has_comment(head: &[u8]) -> bool
+    ensures { result ≡ on head.now 35 }
+{
+    head.iter().any(|byte| *byte == b'#')
+}
+
+/// How many bytes of a text are the comments and blank lines at its head.
+fn head_bytes(text: &[u8]) -> usize
+    ensures count { result ≡ head_bytes text.now }
+    ensures within { result ≤ length text.now }
 {
     let mut within = false;
     let mut end = 0;

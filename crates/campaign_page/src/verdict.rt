@@ -12,7 +12,7 @@ pub(crate) fn put_verdict(out: &mut String, chronicle: &Chronicle) -> Result<(),
     ensures { OnOk result (string_bytes out.new ≡ string_bytes out.old ++ verdict_part chronicle.now.verdict) }
 {
     let verdict = chronicle.verdict();
-    put_verdict_told(out, verdict, bound_told(verdict.bound))
+    put_verdict_told(out, verdict, bound_told(verdict.bound, bound_words(false)))
 }
 
 /// Adds this verdict, and these words on its bound.
@@ -29,20 +29,16 @@ pub fn put_verdict_told(out: &mut String, verdict: Verdict, bound: &str) -> Resu
     put_paragraph(out, bound)
 }
 
-/// Which promise holds (TOPLAS 1982, IC1 and IC2).
-fn bound_told(bound: bool) -> &'static str
-    ensures { result.now ≡ bound_told bound }
+/// What is promised (TOPLAS 1982, IC1 and IC2), or, where the bound does not hold, that nothing is.
+pub fn bound_told(bound: bool, without: &'static str) -> &'static str
+    ensures { result.now ≡ bound_told bound without.now }
 {
-    if bound {
-        promise_words()
-    } else {
-        bound_words(false)
-    }
+    if bound { promise_words() } else { without }
 }
 
 /// What is promised where the bound holds.
 #[tactic(auto, unfolding(crate::specs::Account::promise_words))]
-pub fn promise_words() -> &'static str
+fn promise_words() -> &'static str
     ensures { result.now ≡ promise_words }
 {
     "The bound holds: there are few enough traitors, so that loyal lieutenants decide alike, and obey a loyal \

@@ -73,7 +73,7 @@ fn put_decided(
 }
 
 /// The place of a lieutenant's decision, under this commander.
-fn place_of(commander: u8, general: u8) -> usize
+pub fn place_of(commander: u8, general: u8) -> usize
     ensures { result ≡ place_of commander general }
 {
     if general < commander {

@@ -398,7 +398,7 @@ head_content marks p order =
 abbrev attributes : ℕ → ℕ → List ℕ
 attributes w h =
     attribute (codes "xmlns") (codes "http://www.w3.org/2000/svg")
-    ++ (attribute (codes "role") (codes "img") ++ (attribute (codes "width") (decimal w) ++ (attribute (codes "height") (decimal h) ++ (attribute (codes "viewBox") (codes "0 0 " ++ (decimal w ++ (codes " " ++ decimal h))) ++ []))))
+    ++ (attribute (codes "role") (codes "graphics-document document") ++ (attribute (codes "width") (decimal w) ++ (attribute (codes "height") (decimal h) ++ (attribute (codes "viewBox") (codes "0 0 " ++ (decimal w ++ (codes " " ++ decimal h))) ++ []))))
 
 size_whole : (w h : List ℕ) → codes " width=\"" ++ (w ++ (codes "\" height=\"" ++ (h ++ codes "\""))) ≡ attribute (codes "width") w ++ attribute (codes "height") h
 size_whole w h = ap (λ xs. codes " width=\"" ++ xs) (sym (append_assoc w (codes "\"") (attribute (codes "height") h)))
@@ -415,7 +415,7 @@ unfolding start size view_box
 picture_is w h before rows =
     ap (λ xs. start ++ xs ++ view_box w h ++ before ++ rows ++ codes "</svg>\n") (size_whole (decimal w) (decimal h))
     ∙ (ap (λ xs. start ++ (attribute (codes "width") (decimal w) ++ attribute (codes "height") (decimal h)) ++ xs ++ before ++ rows ++ codes "</svg>\n") (box_whole (decimal w) (decimal h))
-    ∙ tag_parts (codes "<svg" ++ attribute (codes "xmlns") (codes "http://www.w3.org/2000/svg")) (attribute (codes "role") (codes "img")) (attribute (codes "width") (decimal w)) (attribute (codes "height") (decimal h))
+    ∙ tag_parts (codes "<svg" ++ attribute (codes "xmlns") (codes "http://www.w3.org/2000/svg")) (attribute (codes "role") (codes "graphics-document document")) (attribute (codes "width") (decimal w)) (attribute (codes "height") (decimal h))
     (attribute (codes "viewBox") (codes "0 0 " ++ (decimal w ++ (codes " " ++ decimal h)))) (codes ">") before rows (codes "</svg>") (codes "\n"))
 
 svg_tag : (w h : ℕ) → IsTag (codes "svg") (attributes w h)
@@ -426,7 +426,7 @@ svg_tag w h =
       names = codes "xmlns" ∷ codes "role" ∷ codes "width" ∷ codes "height" ∷ codes "viewBox" ∷ [];
       attributed_so =
           attributed (codes "xmlns") (codes "http://www.w3.org/2000/svg") _ (codes "role" ∷ codes "width" ∷ codes "height" ∷ codes "viewBox" ∷ []) refl (bare_text (codes "http://www.w3.org/2000/svg") refl) refl
-          (attributed (codes "role") (codes "img") _ (codes "width" ∷ codes "height" ∷ codes "viewBox" ∷ []) refl (bare_text (codes "img") refl) refl
+          (attributed (codes "role") (codes "graphics-document document") _ (codes "width" ∷ codes "height" ∷ codes "viewBox" ∷ []) refl (bare_text (codes "graphics-document document") refl) refl
           (attributed (codes "width") (decimal w) _ (codes "height" ∷ codes "viewBox" ∷ []) refl (decimal_text w) refl
           (attributed (codes "height") (decimal h) _ (codes "viewBox" ∷ []) refl (decimal_text h) refl
           (attributed (codes "viewBox") (codes "0 0 " ++ (decimal w ++ (codes " " ++ decimal h))) [] [] refl box refl no_attributes))));

@@ -12,7 +12,7 @@ use Rattle.drawing.specs.Shown.{nodes_of}
 
 -- what every picture begins with
 unfoldable pub start : List ℕ
-start = codes "<svg xmlns=\"http://www.w3.org/2000/svg\" role=\"img\""
+start = codes "<svg xmlns=\"http://www.w3.org/2000/svg\" role=\"graphics-document document\""
 
 unfoldable pub size : ℕ → ℕ → List ℕ
 size width height = codes " width=\"" ++ (decimal width ++ (codes "\" height=\"" ++ (decimal height ++ codes "\"")))

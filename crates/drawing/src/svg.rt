@@ -48,7 +48,7 @@ pub fn tree_svg<H: Heard>(
 fn start() -> &'static str
     ensures { result.now ≡ start }
 {
-    "<svg xmlns=\"http://www.w3.org/2000/svg\" role=\"img\""
+    "<svg xmlns=\"http://www.w3.org/2000/svg\" role=\"graphics-document document\""
 }
 
 /// Adds the size of a picture.

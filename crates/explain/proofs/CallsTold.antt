@@ -8,7 +8,7 @@ use Rattle.insn.specs.declared.insn.Size.{Size}
 use Rattle.insn.specs.declared.insn.Size.TheVariants as size
 use Rattle.insn.specs.Insn.{bytes_of}
 use Rattle.semantics.specs.declared.request.Helper.{Helper}
-use Rattle.semantics.specs.declared.request.Helper.TheVariants.{BoardGet, BoardSwap, BoardAdd, BoardCas, BoardCopy, Send, SendRow, Sway, Honest, SignOrder, PassOn}
+use Rattle.semantics.specs.declared.request.Helper.TheVariants.{BoardGet, BoardCopy, SendRow}
 use Rattle.semantics.specs.Call.{helper_of}
 use Rattle.helper.specs.declared.argument.Argument.{Argument}
 use Rattle.helper.specs.declared.argument.Argument.TheVariants.{Slot, StackPointer, Words}
@@ -86,16 +86,7 @@ three_say helper registers (first ∷ second ∷ third ∷ more ∷ others) e = 
 
 three_taken : (helper : Helper) → length (arguments_of helper) ≡ 3
 three_taken BoardGet = refl
-three_taken BoardSwap = refl
-three_taken BoardAdd = refl
-three_taken BoardCas = refl
-three_taken BoardCopy = refl
-three_taken Send = refl
-three_taken SendRow = refl
-three_taken Sway = refl
-three_taken Honest = refl
-three_taken SignOrder = refl
-three_taken PassOn = refl
+three_taken helper = refl
 
 -- ---- what a call accesses
 

@@ -7,6 +7,7 @@ pub mod CallsTold
 pub mod InstructionsTold
 pub mod StructureTold
 pub mod RefusalsTold
+pub mod NameLaws
 pub mod HelpLaws
 pub mod NoteLemmas
 pub mod AboutLemmas

@@ -1,7 +1,10 @@
 -- Laws of explanations.
-use Rattle.std.specs.Prelude.{ℕ, ◌≡◌, ◌+◌, ◌<◌, List, Some, None, length, IsSome}
+use Rattle.std.specs.Prelude.{ℕ, ℤ, ◌≡◌, ◌+◌, ◌<◌, List, Some, None, length, IsSome}
+use Rattle.asm.specs.Helper.{helper_of as number_of}
 use Rattle.insn.specs.declared.insn.Insn.{Insn}
 use Rattle.insn.specs.Program.{slots_of, instruction_at}
+use Rattle.semantics.specs.Call.{helper_of}
+use Rattle.semantics.specs.declared.request.Helper.{Helper}
 use Rattle.verify.specs.declared.error.VerifyError.TheVariants.{At}
 use Rattle.verify.specs.declared.reason.Reason.{Reason}
 use Rattle.verify.specs.Judgement.{judged}
@@ -12,6 +15,7 @@ use Rattle.causes.specs.declared.mends.Trial.{Trial}
 use Rattle.causes.specs.declared.mends.Trial.TheVariants.{Accepted}
 use Rattle.causes.specs.Mends.{grown, mended}
 use Rattle.explain.specs.Helps.{best}
+use Rattle.explain.specs.Names.{helper_name}
 use Rattle.explain.specs.Explained.{sentence_of}
 
 -- each fault that the verifier's one function finds in a program stands at an instruction, and has a sentence
@@ -30,3 +34,9 @@ pub record Mends (program : List Insn) (place unit : ℕ) (edit : Edit) (trial :
 abbrev pub HelpsMend : Type 0
 HelpsMend = (program : List Insn) (place unit : ℕ) (edits : List Edit) (edit : Edit) (trial : Trial) →
     best program place unit edits ≡ Some (edit, trial) → Mends program place unit edit trial
+
+-- the assembler takes a helper's name for the number of that helper
+abbrev pub NamesAreRead : Type 0
+NamesAreRead =
+    (helper : Helper)
+    → (number : ℤ) × (helper_of number ≡ Some helper) × (number_of (helper_name helper) ≡ Some number)

@@ -1,4 +1,5 @@
 pub mod Values
+pub mod Names
 pub mod Sentences
 pub mod Shortfalls
 pub mod Rules

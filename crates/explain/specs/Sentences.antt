@@ -1,10 +1,10 @@
 -- The sentence of a refusal (own).
-use Rattle.std.specs.Prelude.{ℕ, ℤ, pos, ◌-ℤ◌, List, ◌++◌, codes, decimal, int_le, if◌then◌else◌}
+use Rattle.std.specs.Prelude.{ℕ, ℤ, pos, ◌-ℤ◌, List, ◌++◌, codes, decimal, int_le, length, if◌then◌else◌}
 use Rattle.std.specs.Fmt.{signed_decimal}
+use Rattle.asm.specs.Helper.{helpers}
 use Rattle.semantics.specs.declared.value.Region.{Region}
 use Rattle.semantics.specs.declared.value.Region.TheVariants.{Stack, Context}
 use Rattle.semantics.specs.declared.request.Helper.{Helper}
-use Rattle.semantics.specs.declared.request.Helper.TheVariants as helper
 use Rattle.absval.specs.declared.value.AbsVal.{AbsVal}
 use Rattle.explain.specs.declared.values.Span.{Span}
 use Rattle.explain.specs.declared.sentence.Sentence.{Sentence}
@@ -17,6 +17,7 @@ use Rattle.explain.specs.declared.sentence.Access.{Access}
 use Rattle.explain.specs.declared.sentence.Access.TheVariants as access
 use Rattle.explain.specs.declared.sentence.Misfit.{Misfit}
 use Rattle.explain.specs.declared.sentence.Misfit.TheVariants as misfit
+use Rattle.explain.specs.Names.{helper_name}
 use Rattle.explain.specs.Values.{span_text, region_text, value_text}
 
 -- where a jump leads
@@ -81,36 +82,25 @@ access_text (access.Empty r span cell) =
     reached_text r Stack span ++ codes ": no byte is known at " ++ signed_decimal (pos cell -ℤ pos 512)
 access_text (access.Context r value) = named_text r value ++ codes ": the context is only read"
 
--- the name of a helper, as in assembly
-abbrev pub helper_text : Helper → List ℕ
-helper_text helper.BoardGet = codes "board_get"
-helper_text helper.BoardSwap = codes "board_swap"
-helper_text helper.BoardAdd = codes "board_add"
-helper_text helper.BoardCas = codes "board_cas"
-helper_text helper.BoardCopy = codes "board_copy"
-helper_text helper.Send = codes "send"
-helper_text helper.SendRow = codes "send_row"
-helper_text helper.Sway = codes "sway"
-helper_text helper.Honest = codes "honest"
-helper_text helper.SignOrder = codes "sign_order"
-helper_text helper.PassOn = codes "pass_on"
-
 -- what a helper takes
 unfoldable pub above_text : Helper → ℕ → List ℕ
-above_text called most = helper_text called ++ (codes " takes a number up to " ++ decimal most ++ codes " there")
+above_text called most = helper_name called ++ (codes " takes a number up to " ++ decimal most ++ codes " there")
 
 unfoldable pub pointer_text : Helper → List ℕ
-pointer_text called = helper_text called ++ codes " takes a pointer there"
+pointer_text called = helper_name called ++ codes " takes a pointer there"
 
 unfoldable pub no_helper_text : List ℕ
 no_helper_text = codes "no helper has the number "
+
+unfoldable pub numbers_text : List ℕ
+numbers_text = codes ": they are 1 to " ++ decimal (length helpers)
 
 unfoldable pub together_text : List ℕ
 together_text = codes "r1 and r3 together may be "
 
 -- what a call asks
 abbrev pub misfit_text : Misfit → List ℕ
-misfit_text (misfit.Helper number) = no_helper_text ++ signed_decimal number ++ codes ": they are 1 to 11"
+misfit_text (misfit.Helper number) = no_helper_text ++ signed_decimal number ++ numbers_text
 misfit_text (misfit.Above called r value most) = named_text r value ++ codes ": " ++ above_text called most
 misfit_text (misfit.NoPointer called r value) = named_text r value ++ codes ": " ++ pointer_text called
 misfit_text (misfit.Board sum) = together_text ++ decimal sum ++ codes ", and the board has 64 words"

@@ -1,5 +1,5 @@
 //! The laws of explanations: each function does nothing, and its contract is the law.
-ghost use Rattle.explain.specs.Laws.{RefusalsAreTold, HelpsMend};
+ghost use Rattle.explain.specs.Laws.{RefusalsAreTold, HelpsMend, NamesAreRead};
 
 /// Each fault that is found in a program stands at an instruction, and has a sentence.
 pub fn refusals_are_told()
@@ -9,4 +9,9 @@ pub fn refusals_are_told()
 /// With each help that is said the verifier comes past the refused instruction.
 pub fn helps_mend()
     ensures { HelpsMend }
+{}
+
+/// By the name of a helper the assembler knows it.
+pub fn names_are_read()
+    ensures { NamesAreRead }
 {}

@@ -9,6 +9,7 @@ mod lines;
 mod misfits;
 mod misuse;
 mod moving;
+mod names;
 mod notes;
 mod origins;
 mod reach;
@@ -21,8 +22,9 @@ mod units;
 mod values;
 mod wanted;
 
-pub use laws::{helps_mend, refusals_are_told};
+pub use laws::{helps_mend, names_are_read, refusals_are_told};
 pub use lines::{explanation, explanation_at};
+pub use names::{HELPERS, helper_name};
 pub use sentence::{Access, Misfit, Misuse, Sentence, Structure};
 pub use units::Written;
 pub use values::Span;

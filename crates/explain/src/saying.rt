@@ -1,8 +1,9 @@
 //! Why a program is refused, as text.
 ghost use Rattle.std.specs.Prelude.{◌≡◌, ◌++◌, codes, decimal, string_bytes, OnOk};
 ghost use Rattle.std.specs.Fmt.{signed_decimal};
-ghost use Rattle.explain.specs.Sentences.{leads_text, structure_text, place_text, reached_text, would_text, named_text, limit_text, misuse_text, extent_text, access_text, helper_text, above_text, pointer_text, past_text, no_helper_text, together_text, misfit_text, sentence_text};
+ghost use Rattle.explain.specs.Sentences.{leads_text, structure_text, place_text, reached_text, would_text, named_text, limit_text, misuse_text, extent_text, access_text, above_text, pointer_text, past_text, no_helper_text, numbers_text, together_text, misfit_text, sentence_text};
 
+use crate::names::{HELPERS, helper_name};
 use crate::sentence::{Access, Misfit, Misuse, Sentence, Structure};
 use crate::values::{Span, put_known, put_span, region_name};
 use absval::AbsVal;
@@ -259,25 +260,6 @@ fn put_access(out: &mut String, access: Access) -> Result<(), AllocError>
     }
 }
 
-/// The name of a helper, as in assembly.
-fn helper_name(helper: Helper) -> &'static str
-    ensures { result.now ≡ helper_text helper }
-{
-    match helper {
-        Helper::BoardGet => "board_get",
-        Helper::BoardSwap => "board_swap",
-        Helper::BoardAdd => "board_add",
-        Helper::BoardCas => "board_cas",
-        Helper::BoardCopy => "board_copy",
-        Helper::Send => "send",
-        Helper::SendRow => "send_row",
-        Helper::Sway => "sway",
-        Helper::Honest => "honest",
-        Helper::SignOrder => "sign_order",
-        Helper::PassOn => "pass_on",
-    }
-}
-
 /// Adds up to which number a helper takes one.
 #[tactic(auto, unfolding(crate::specs::Sentences::above_text))]
 fn put_above(out: &mut String, helper: Helper, most: u64) -> Result<(), AllocError>
@@ -304,6 +286,22 @@ fn no_helper() -> &'static str
     "no helper has the number "
 }
 
+/// Adds which numbers helpers have.
+#[tactic(auto, unfolding(crate::specs::Sentences::numbers_text))]
+fn put_numbers(out: &mut String) -> Result<(), AllocError>
+    ensures { OnOk result (string_bytes out.new ≡ string_bytes out.old ++ numbers_text) }
+{
+    put_counted(out, ": they are 1 to ", HELPERS.len() as u64)
+}
+
+/// Adds that no helper has a number, and which they have.
+fn put_no_helper(out: &mut String, number: i32) -> Result<(), AllocError>
+    ensures { OnOk result (string_bytes out.new ≡ string_bytes out.old ++ misfit_text (Misfit.Helper number)) }
+{
+    put_signed(out, no_helper(), i64::from(number))?;
+    put_numbers(out)
+}
+
 /// What is said of slot and count together.
 #[tactic(auto, unfolding(crate::specs::Sentences::together_text))]
 fn together() -> &'static str
@@ -317,9 +315,7 @@ fn put_misfit(out: &mut String, misfit: Misfit) -> Result<(), AllocError>
     ensures { OnOk result (string_bytes out.new ≡ string_bytes out.old ++ misfit_text misfit) }
 {
     match misfit {
-        Misfit::Helper(number) => {
-            put_signed_between(out, no_helper(), i64::from(number), ": they are 1 to 11")
-        }
+        Misfit::Helper(number) => put_no_helper(out, number),
         Misfit::Above(helper, r, value, most) => {
             put_so(out, r, value, ": ")?;
             put_above(out, helper, most)

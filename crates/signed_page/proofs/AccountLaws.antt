@@ -7,14 +7,15 @@ use Rattle.page.specs.Laws.{IsFilled}
 use Rattle.page.specs.Page.{lines}
 use Rattle.page.proofs.PageLaws.{proved_pages_are_elements, proved_parts_are_content}
 use Rattle.signed.specs.Explained.{acceptance_of}
-use Rattle.signed_diagram.specs.Svg.{signed_svg}
+use Rattle.signed_diagram.specs.Foot.{bound_words}
+use Rattle.signed_diagram.specs.Svg.{signed_svg, signed_words}
 use Rattle.signed_diagram.proofs.PictureLaws.{proved_signed_diagrams_are_elements}
 use Rattle.trace.specs.SignedText.{signed_text}
 use Rattle.world.specs.Chronicle.{Chronicle}
 use Rattle.world.specs.declared.schedule.Repeat.{Repeat}
-use Rattle.campaign_page.specs.Account.{is_wide, verdict_told}
+use Rattle.campaign_page.specs.Account.{bound_told, is_wide}
 use Rattle.campaign_page.proofs.AccountLaws.{accesses_filled, all, chronicle_filled, lieutenants_filled, picture_filled, programs_filled, scenario_filled, schedule_filled, sections_content, verdict_content}
-use Rattle.signed_page.specs.Account.{bound_told, diagram_section, each_lieutenant, lieutenant_heading, lieutenant_part, lieutenant_told, lieutenants_heading, parts, sections, signed_title}
+use Rattle.signed_page.specs.Account.{diagram_section, each_lieutenant, lieutenant_heading, lieutenant_part, lieutenant_told, lieutenants_heading, parts, sections, verdict_part}
 use Rattle.signed_page.specs.Laws.{SignedPagesAreElements}
 
 diagram_filled : (c : Chronicle) → IsFilled (diagram_section c)
@@ -31,7 +32,7 @@ lieutenants_content c = all (lieutenant_part c) (range_with_len 0 c.scenario.gen
 parts_content : (words : List ℕ) (schedule : Option (List (List Repeat))) (c : Chronicle) → IsContent (parts words schedule c)
 unfolding parts
 parts_content words schedule c =
-    sections_content (sections words schedule c) (verdict_told c.verdict (bound_told c.verdict.bound)) (
+    sections_content (sections words schedule c) (verdict_part c.verdict) (
       scenario_filled words,
       (
         schedule_filled schedule,
@@ -44,8 +45,8 @@ parts_content words schedule c =
         ),
       ),
     )
-    (verdict_content c.verdict (bound_told c.verdict.bound))
+    (verdict_content c.verdict (bound_told c.verdict.bound (bound_words false)))
 
 pub proved_signed_pages_are_elements : SignedPagesAreElements
 proved_signed_pages_are_elements words schedule c =
-    proved_pages_are_elements (signed_title c.scenario) (parts words schedule c) (parts_content words schedule c)
+    proved_pages_are_elements (signed_words c.scenario) (parts words schedule c) (parts_content words schedule c)

@@ -8,25 +8,22 @@ use Rattle.page.specs.Page.{heading}
 use Rattle.page.specs.Sections.{Section, rooms}
 use Rattle.roster.specs.Scenario.{IsScenario, Scenario}
 use Rattle.signed_diagram.specs.Foot.{bound_words}
-use Rattle.signed_diagram.specs.Svg.{signed_svg}
+use Rattle.signed_diagram.specs.Svg.{signed_svg, signed_words}
 use Rattle.trace.specs.SignedText.{signed_text}
 use Rattle.world.specs.Chronicle.{Chronicle}
 use Rattle.world.specs.declared.schedule.Repeat.{Repeat}
-use Rattle.campaign_page.specs.Account.{accesses_heading, chronicle_heading, is_wide, picture_heading, programs_heading, scenario_heading, schedule_heading, title, verdict_told}
+use Rattle.campaign_page.specs.Account.{accesses_heading, chronicle_heading, is_wide, picture_heading, programs_heading, scenario_heading, schedule_heading, title, bound_told}
 use Rattle.campaign_page.proofs.ShortLemmas.{both, known}
-use Rattle.campaign_page.proofs.ShortLaws.{accesses_headed, accesses_roomy, chronicle_headed, chronicle_roomy, heading_short, lieutenants_roomy, page_short, picture_headed, picture_roomy, programs_headed, programs_roomy, promise_short, scenario_headed, scenario_roomy, schedule_headed, schedule_roomy, sections_short, title_short, verdict_short}
-use Rattle.signed_page.specs.Account.{bound_told, each_lieutenant, lieutenants_heading, parts, sections, signed_title}
+use Rattle.campaign_page.proofs.ShortLaws.{accesses_headed, accesses_roomy, chronicle_headed, chronicle_roomy, heading_short, lieutenants_roomy, page_short, picture_headed, picture_roomy, programs_headed, programs_roomy, bound_short, scenario_headed, scenario_roomy, schedule_headed, schedule_roomy, sections_short, title_short, verdict_short}
+use Rattle.campaign_page.specs.Story.{story}
+use Rattle.signed_page.specs.Account.{each_lieutenant, lieutenants_heading, parts, sections, verdict_part}
 use Rattle.signed_page.specs.Laws.{SignedPagesAreShort}
 
 lieutenants_headed : length (heading lieutenants_heading) ≤ 487
 unfolding lieutenants_heading
 lieutenants_headed = heading_short lieutenants_heading 53 (known lieutenants_heading 53 refl)
 
-bound_short : (b : Bool) → length (bound_told b) ≤ 200
-bound_short true = promise_short
-bound_short false = known (bound_words false) 200 refl
-
-title_signed : (s : Scenario) → IsScenario s → length (signed_title s) ≤ 150
+title_signed : (s : Scenario) → IsScenario s → length (signed_words s) ≤ 150
 title_signed s is =
     let numbers = title_short s is in
     let more : length (codes "; signed messages") ≤ 50 = known (codes "; signed messages") 50 refl in
@@ -50,18 +47,18 @@ parts_short words schedule c is =
         ),
       ),
     ) in
-    let h1 = scenario_headed in
+    let h1 = scenario_headed (story words) in
     let h2 = schedule_headed in
     let h3 = programs_headed in
     let h4 = picture_headed in
     let h5 = lieutenants_headed in
     let h6 = accesses_headed in
     let h7 = chronicle_headed in
-    let headed : length (heading scenario_heading) + (length (heading schedule_heading) + (length (heading programs_heading) + (length (heading picture_heading)
+    let headed : length (heading (scenario_heading (story words))) + (length (heading schedule_heading) + (length (heading programs_heading) + (length (heading picture_heading)
     + (length (heading lieutenants_heading) + (length (heading accesses_heading) + (length (heading chronicle_heading) + 0)))))) ≤ 3500 = omega arith in
-    sections_short ss (verdict_told c.verdict (bound_told c.verdict.bound)) (leb-true (rooms ss) 1987000 refl) each headed
-    (verdict_short c.verdict (bound_told c.verdict.bound) (bound_short c.verdict.bound))
+    sections_short ss (verdict_part c.verdict) (leb-true (rooms ss) 1987000 refl) each headed
+    (verdict_short c.verdict (bound_told c.verdict.bound (bound_words false)) (bound_short c.verdict.bound (bound_words false) (known (bound_words false) 200 refl)))
 
 pub proved_signed_pages_are_short : SignedPagesAreShort
 proved_signed_pages_are_short words schedule c is =
-    let whole = page_short (signed_title c.scenario) (parts words schedule c) 1994500 (title_signed c.scenario is) (parts_short words schedule c is) in omega arith
+    let whole = page_short (signed_words c.scenario) (parts words schedule c) 1994500 (title_signed c.scenario is) (parts_short words schedule c is) in omega arith

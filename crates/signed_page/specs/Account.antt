@@ -8,11 +8,12 @@ use Rattle.page.specs.Sections.{Section, sections_in}
 use Rattle.roster.specs.Scenario.{Scenario, is_traitor}
 use Rattle.signed.specs.Explained.{acceptance_of}
 use Rattle.signed_diagram.specs.Foot.{bound_words}
-use Rattle.signed_diagram.specs.Svg.{signed_svg}
+use Rattle.signed_diagram.specs.Svg.{signed_svg, signed_words}
 use Rattle.trace.specs.SignedText.{signed_text}
 use Rattle.world.specs.Chronicle.{Chronicle}
 use Rattle.world.specs.declared.schedule.Repeat.{Repeat}
-use Rattle.campaign_page.specs.Account.{accesses_section, chronicle_section, is_wide, lieutenants_roomed, picture_section, programs_section, promise_words, scenario_section, schedule_section, title, verdict_told}
+use Rattle.world.specs.declared.verdict.Verdict.{Verdict}
+use Rattle.campaign_page.specs.Account.{accesses_section, bound_told, chronicle_section, is_wide, lieutenant_words, lieutenants_roomed, picture_section, programs_section, scenario_section, schedule_section, verdict_told}
 use Rattle.campaign_page.specs.Room.{room_for_sections}
 
 -- the picture
@@ -23,18 +24,14 @@ diagram_section c = picture_section (is_wide c.scenario c.accesses) (signed_svg 
 unfoldable pub lieutenants_heading : List ℕ
 lieutenants_heading = codes "What each lieutenant accepted, and why he decides so"
 
-abbrev pub traitor_words : Bool → List ℕ
-traitor_words is_traitor = if is_traitor then codes ", a traitor," else []
-
 -- what he is called, and what he decides
-unfoldable pub lieutenant_words : ℕ → Bool → Option ℕ → List ℕ
-lieutenant_words g is_traitor None = codes "Lieutenant " ++ decimal g
-lieutenant_words g is_traitor (Some order) =
-    codes "Lieutenant " ++ (decimal g ++ (traitor_words is_traitor ++ (codes " decides " ++ decimal order)))
+abbrev pub deciding_words : ℕ → Bool → Option ℕ → List ℕ
+deciding_words g is_traitor None = codes "Lieutenant " ++ decimal g
+deciding_words g is_traitor (Some order) = lieutenant_words g is_traitor order
 
 abbrev pub lieutenant_heading : Chronicle → ℕ → List ℕ
 lieutenant_heading c g =
-    lieutenant_words g (is_traitor c.scenario g) (slice_get c.decisions (place_of c.scenario.commander g))
+    deciding_words g (is_traitor c.scenario g) (slice_get c.decisions (place_of c.scenario.commander g))
 
 abbrev pub lieutenant_told : Chronicle → ℕ → List ℕ
 lieutenant_told c g = fold (lieutenant_heading c g) (lines (acceptance_of c g))
@@ -48,10 +45,9 @@ each_lieutenant c = flat_map (lieutenant_part c) (range_with_len 0 c.scenario.ge
 abbrev pub lieutenants_section : Chronicle → Section
 lieutenants_section c = lieutenants_roomed lieutenants_heading (each_lieutenant c)
 
--- which promise holds (TOPLAS 1982, Theorem 2)
-abbrev pub bound_told : Bool → List ℕ
-bound_told true = promise_words
-bound_told false = bound_words false
+-- the verdict, and which promise holds (TOPLAS 1982, Theorem 2)
+abbrev pub verdict_part : Verdict → List ℕ
+verdict_part v = verdict_told v (bound_told v.bound (bound_words false))
 
 -- all sections but the verdict, of a chronicle whose scenario this text tells, and which was played by this schedule,
 -- if by one
@@ -63,11 +59,8 @@ sections text schedule c =
 -- and in their room, with the verdict
 unfoldable pub parts : List ℕ → Option (List (List Repeat)) → Chronicle → List ℕ
 parts text schedule c =
-    sections_in room_for_sections (sections text schedule c) ++ verdict_told c.verdict (bound_told c.verdict.bound)
+    sections_in room_for_sections (sections text schedule c) ++ verdict_part c.verdict
 
-abbrev pub signed_title : Scenario → List ℕ
-signed_title s = title s ++ codes "; signed messages"
-
--- the page, under the campaign's numbers
+-- the page, under the campaign's numbers, as its picture has them
 abbrev pub signed_page_text : List ℕ → Option (List (List Repeat)) → Chronicle → List ℕ
-signed_page_text text schedule c = page (signed_title c.scenario) (parts text schedule c)
+signed_page_text text schedule c = page (signed_words c.scenario) (parts text schedule c)

@@ -1,19 +1,20 @@
 //! A campaign of signed messages as a page.
 ghost use Rattle.std.specs.Prelude.{◌≡◌, ◌++◌, codes, option_map, string_bytes, IfOk, OnOk};
-ghost use Rattle.campaign_page.specs.Account.{accesses_section, chronicle_section, programs_section, verdict_told};
-ghost use Rattle.signed_page.specs.Account.{bound_told, diagram_section, parts, signed_page_text, signed_title};
+ghost use Rattle.campaign_page.specs.Account.{accesses_section, chronicle_section, programs_section};
+ghost use Rattle.signed_diagram.specs.Svg.{signed_words};
+ghost use Rattle.signed_page.specs.Account.{diagram_section, parts, signed_page_text, verdict_part};
 ghost use Rattle.trace.specs.SignedText.{signed_text};
 
 use crate::lieutenants::lieutenants_section;
 use crate::verdict::put_verdict;
 use campaign_page::{
     ROOM_FOR_SECTIONS, accesses_section, chronicle_section, is_wide, picture_section,
-    programs_section, scenario_section, schedule_section, title,
+    programs_section, scenario_section, schedule_section,
 };
 use page::{Section, finish, put_sections, start};
 use roster::Scenario;
 use signed::SignedChronicle;
-use signed_diagram::signed_campaign_svg;
+use signed_diagram::{put_signed_words, signed_campaign_svg};
 use std::alloc::{AllocError, Global};
 use trace::{Latch, write_signed};
 use world::Schedule;
@@ -89,17 +90,17 @@ fn accesses_of(alloc: Global, chronicle: &SignedChronicle) -> Result<Section, Al
 /// Adds the verdict.
 fn put_verdict_of(out: &mut String, chronicle: &SignedChronicle) -> Result<(), AllocError>
     ensures { OnOk result (string_bytes out.new ≡ string_bytes out.old
-        ++ verdict_told chronicle.now.verdict (bound_told chronicle.now.verdict.bound)) }
+        ++ verdict_part chronicle.now.verdict) }
 {
     put_verdict(out, chronicle.verdict())
 }
 
 /// The campaign's numbers, and that its messages are signed.
 fn signed_title(alloc: Global, scenario: &Scenario) -> Result<String, AllocError>
-    ensures { IfOk result (λ text. string_bytes text ≡ signed_title scenario.now) }
+    ensures { IfOk result (λ text. string_bytes text ≡ signed_words scenario.now) }
 {
-    let mut words = title(alloc, scenario)?;
-    words.push_str("; signed messages")?;
+    let mut words = String::new(alloc);
+    put_signed_words(&mut words, scenario)?;
     Ok(words)
 }
 

@@ -1,9 +1,10 @@
 //! What each lieutenant of a signed campaign accepted, and why he decides so.
 ghost use Rattle.std.specs.Prelude.{◌≡◌, ◌<◌, ◌++◌, slice_get, string_bytes, IfOk, OnOk};
 ghost use Rattle.diagram.specs.Foot.{place_of};
-ghost use Rattle.signed_page.specs.Account.{each_lieutenant, lieutenant_part, lieutenant_words, lieutenants_heading, lieutenants_section, traitor_words};
+ghost use Rattle.signed_page.specs.Account.{deciding_words, each_lieutenant, lieutenant_part, lieutenants_heading, lieutenants_section};
 
-use campaign_page::lieutenants_roomed;
+use campaign_page::{lieutenant_name, lieutenants_roomed};
+use diagram::foot::place_of;
 use page::{Section, put_fold_end, put_fold_start, put_lines};
 use signed::{SignedChronicle, explain_one_signed};
 use std::alloc::{AllocError, Global};
@@ -49,7 +50,7 @@ fn put_lieutenant_of(
         return Ok(());
     }
     let is_traitor = scenario.is_traitor(general);
-    let name = lieutenant_name(alloc, general, is_traitor, decision_of(chronicle, general))?;
+    let name = deciding_name(alloc, general, is_traitor, decision_of(chronicle, general))?;
     let accepted = explain_one_signed(alloc, chronicle, general)?;
     put_fold_start(out, name.as_str())?;
     put_lines(out, accepted.as_str())?;
@@ -64,39 +65,19 @@ fn decision_of(chronicle: &SignedChronicle, general: u8) -> Option<u32>
     chronicle.decisions().get(place).copied()
 }
 
-/// The place of a lieutenant's decision, under this commander.
-fn place_of(commander: u8, general: u8) -> usize
-    ensures { result ≡ place_of commander general }
-{
-    if general < commander {
-        usize::from(general)
-    } else {
-        usize::from(general).saturating_sub(1)
-    }
-}
-
 /// What a lieutenant is called, and what he decides.
-#[tactic(auto, unfolding(crate::specs::Account::lieutenant_words))]
-fn lieutenant_name(
+fn deciding_name(
     alloc: Global,
     general: u8,
     is_traitor: bool,
     decision: Option<u32>,
 ) -> Result<String, AllocError>
-    ensures { IfOk result (λ name. string_bytes name ≡ lieutenant_words general is_traitor decision) }
+    ensures { IfOk result (λ name. string_bytes name ≡ deciding_words general is_traitor decision) }
 {
-    let mark = traitor_words(is_traitor);
     match decision {
         None => format!(in alloc; "Lieutenant {general}"),
-        Some(order) => format!(in alloc; "Lieutenant {general}{mark} decides {order}"),
+        Some(order) => lieutenant_name(alloc, general, is_traitor, order),
     }
-}
-
-/// What marks a traitor.
-fn traitor_words(is_traitor: bool) -> &'static str
-    ensures { result.now ≡ traitor_words is_traitor }
-{
-    if is_traitor { ", a traitor," } else { "" }
 }
 
 /// The heading of the lieutenants.

@@ -52,32 +52,15 @@ sent_says places r s r0 call same (Ok choice) = ap (λ (b : Bool). if b then not
 
 called_says : (places : List (String Global)) (context : List ℕ) (r : Relay) (s : State) (helper : Option Helper) → Says places r (call_by s helper) (slip places context r s (call_by s helper)) (called context r s helper)
 called_says places context r s None = tt
-called_says places context r s (Some h.BoardGet) = quiet places r (call_by s (Some h.BoardGet)) (λ r0. refl) _
-called_says places context r s (Some h.BoardSwap) = quiet places r (call_by s (Some h.BoardSwap)) (λ r0. refl) _
-called_says places context r s (Some h.BoardAdd) = quiet places r (call_by s (Some h.BoardAdd)) (λ r0. refl) _
-called_says places context r s (Some h.BoardCas) = quiet places r (call_by s (Some h.BoardCas)) (λ r0. refl) _
-called_says places context r s (Some h.BoardCopy) = quiet places r (call_by s (Some h.BoardCopy)) (λ r0. refl) _
 called_says places context r s (Some h.Send) = sent_says places r s (λ set. 1 - set) (made s h.Send) one_less (send_in s)
 called_says places context r s (Some h.SendRow) = sent_says places r s (λ set. set) (made s h.SendRow) (λ n. refl) (send_row_in context s)
 called_says places context r s (Some h.Sway) = sent_says places r s (λ set. set) (made s h.Sway) (λ n. refl) (sway_in s)
 called_says places context r s (Some h.Honest) = sent_says places r s (λ set. set) (made s h.Honest) (λ n. refl) (honest_in context s)
-called_says places context r s (Some h.SignOrder) = quiet places r (call_by s (Some h.SignOrder)) (λ r0. refl) _
-called_says places context r s (Some h.PassOn) = quiet places r (call_by s (Some h.PassOn)) (λ r0. refl) _
+called_says places context r s (Some helper) = quiet places r (call_by s (Some helper)) (λ r0. refl) _
 
 executed_says : (places : List (String Global)) (context : List ℕ) (r : Relay) (insn : Insn) (s : State) → Says places r (call_at s insn) (slip places context r s (call_at s insn)) (executed context r insn s)
-executed_says places context r (i.Arithmetic width operation dst operand) s = quiet places r None (λ r0. refl) _
-executed_says places context r (i.Negate width dst) s = quiet places r None (λ r0. refl) _
-executed_says places context r (i.SignExtend width part dst src) s = quiet places r None (λ r0. refl) _
-executed_says places context r (i.Swap order size dst) s = quiet places r None (λ r0. refl) _
-executed_says places context r (i.LoadImmediate dst number) s = quiet places r None (λ r0. refl) _
-executed_says places context r (i.Jump distance) s = quiet places r None (λ r0. refl) _
-executed_says places context r (i.LongJump distance) s = quiet places r None (λ r0. refl) _
-executed_says places context r (i.Branch width condition dst operand distance) s = quiet places r None (λ r0. refl) _
-executed_says places context r (i.Load size dst base offset) s = quiet places r None (λ r0. refl) _
-executed_says places context r (i.LoadSigned part dst base offset) s = quiet places r None (λ r0. refl) _
-executed_says places context r (i.Store size base offset source) s = quiet places r None (λ r0. refl) _
 executed_says places context r (i.Call number) s = called_says places context r s (helper_of number)
-executed_says places context r i.Exit s = quiet places r None (λ r0. refl) _
+executed_says places context r insn s = quiet places r None (λ r0. refl) _
 
 step_says : (places : List (String Global)) (program : List Insn) (context : List ℕ) (r : Relay) (s : State) (insn : Insn) (o : Outcome) → instruction_at program s.unit ≡ Some insn → step program context r s ≡ o
     → Says places r (call_at s insn) (slip_at places context r s (instruction_at program s.unit)) o

@@ -15,6 +15,7 @@ use Rattle.semantics.specs.Outbox.{Choice, empty_outbox, places_set}
 use Rattle.semantics.specs.Call.{helper_of, honest_in, resumed, send_in, send_row_in, sway_in}
 use Rattle.semantics.specs.Execution.{step}
 use Rattle.board.specs.Board.{reply, next}
+use Rattle.explain.specs.Names.{helper_name}
 use Rattle.tracing.specs.Trace.{Rest}
 use Rattle.tracing.specs.declared.reasons.Call.{Call}
 
@@ -83,15 +84,7 @@ abbrev pub call_at : State → Insn → Option Call
 call_at s (insn.Call number) = call_by s (helper_of number)
 call_at s _ = None
 
--- the helpers that put orders, by their names in assembly
-abbrev pub name_of : Helper → List ℕ
-name_of Send = codes "send"
-name_of SendRow = codes "send_row"
-name_of Sway = codes "sway"
-name_of Honest = codes "honest"
-name_of _ = []
-
--- why a call of such a helper puts nothing
+-- why a call of a helper that puts orders puts nothing
 abbrev pub reason_by : Relay → ℕ → ℕ → ℕ → Helper → List ℕ
 reason_by r first second third Send = no_place r first second (slice_get (relayed r) first)
 reason_by r first second third SendRow = no_row r first third (slice_get (relayed r) first)
@@ -116,7 +109,7 @@ unfoldable pub unit_told : List (String Global) → ℕ → List ℕ
 unit_told places unit = decimal unit ++ in_brackets (place_of (slice_get places unit))
 
 abbrev pub note_of : List (String Global) → Relay → Call → List ℕ
-note_of places r call = codes "note: at " ++ unit_told places call.unit ++ codes ", " ++ name_of call.helper
+note_of places r call = codes "note: at " ++ unit_told places call.unit ++ codes ", " ++ helper_name call.helper
     ++ codes " puts nothing: " ++ reason_of r call ++ codes "\n"
 
 -- the places that a call chooses, of those helpers that put orders

@@ -2,8 +2,9 @@
 ghost use Rattle.std.specs.Prelude.{◌≡◌, ◌<◌, ◌∷◌, ◌++◌, List, ℕ, Some, length, slice_get, string_bytes, IfOk, OnOk};
 ghost use Rattle.label.specs.Relay.{IsShape, relay};
 ghost use Rattle.semantics.specs.Relay.{relayed};
-ghost use Rattle.tracing.specs.Slips.{name_of, note_of, reason_of, dotted, in_brackets, no_label, no_place, no_row, passed_over, past, place_of, unheard, unit_told};
+ghost use Rattle.tracing.specs.Slips.{note_of, reason_of, dotted, in_brackets, no_label, no_place, no_row, passed_over, past, place_of, unheard, unit_told};
 
+use explain::helper_name;
 use helper::Helper;
 use label::{Shape, Space, unrank};
 use outbox::Outbox;
@@ -29,7 +30,7 @@ pub fn put_note(
 ) -> Result<(), AllocError>
     ensures { OnOk result (string_bytes out.new ≡ string_bytes out.old ++ note_of places.now outbox.now.relay call) }
 {
-    let name = name_of(call.helper);
+    let name = helper_name(call.helper);
     out.push_str("note: at ")?;
     put_unit(out, places, call.unit)?;
     write!(out, ", {name} puts nothing: ")?;
@@ -68,20 +69,7 @@ fn put_in_brackets(out: &mut String, place: &str) -> Result<(), AllocError>
     out.push_str(")")
 }
 
-/// The name in assembly of a helper that puts orders.
-fn name_of(helper: Helper) -> &'static str
-    ensures { result.now ≡ name_of helper }
-{
-    match helper {
-        Helper::Send => "send",
-        Helper::SendRow => "send_row",
-        Helper::Sway => "sway",
-        Helper::Honest => "honest",
-        _ => "",
-    }
-}
-
-/// Adds why a call of such a helper puts nothing.
+/// Adds why a call of a helper that puts orders puts nothing.
 fn put_reason(
     alloc: Global,
     out: &mut String,

@@ -15,23 +15,9 @@ use crate::mnemonics::{self, Takes, taken};
 use crate::nearest::near;
 use crate::report::{Help, Mark, report};
 use asm::Fault;
+use explain::HELPERS;
 use std::alloc::{AllocError, Global};
 use text::{Stop, cut, find, piece};
-
-/// The helpers, by their numbers.
-static HELPERS: [&'static str; 11] = [
-    "board_get",
-    "board_swap",
-    "board_add",
-    "board_cas",
-    "board_copy",
-    "send",
-    "send_row",
-    "sway",
-    "honest",
-    "sign_order",
-    "pass_on",
-];
 
 /// What stands before the comment of a line, without the white space at its end.
 fn before_comment(line: &[u8]) -> &[u8]

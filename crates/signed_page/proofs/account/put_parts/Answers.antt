@@ -2,10 +2,9 @@ use Rattle.std.proofs.Common.{◌∙◌, ◌++◌, ap}
 use Rattle.std.specs.Prelude.{option_map}
 use Rattle.std.specs.String.{string_bytes}
 use Rattle.page.specs.Sections.{sections_in}
-use Rattle.campaign_page.specs.Account.{verdict_told}
 use Rattle.campaign_page.specs.Room.{room_for_sections}
 use Rattle.campaign_page.proofs.ChainLemmas.{chained, same_sections}
-use Rattle.signed_page.specs.Account.{bound_told, parts, sections}
+use Rattle.signed_page.specs.Account.{parts, sections, verdict_part}
 use Rattle.signed_page.proofs.account.put_parts.Goals as goal
 
 pub returns : goal.returns
@@ -14,7 +13,7 @@ returns c =
     let start = string_bytes c.args.out.now in
     let told = c.args.chronicle.now in
     let all = sections c.args.scenario_text.now (option_map (λ s. s.now) c.args.schedule) told in
-    chained start (sections_in room_for_sections all) (verdict_told told.verdict (bound_told told.verdict.bound)) _ _
+    chained start (sections_in room_for_sections all) (verdict_part told.verdict) _ _
     (c.in_ok-put_sections.ensures
     ∙ ap (λ ss. start ++ sections_in room_for_sections ss)
     (same_sections _ _ _ _ _ _ _ _ _ _ _ _ _ _ c.in_ok-scenario.ensures c.in_ok-time.ensures c.in_ok-programs.ensures c.in_ok-picture.ensures
