@@ -27,7 +27,7 @@ pub enum Opened<'a, F: Read + Drop, S: Read + Drop> {
 /// It does not open, or is a folder; a hyphen always opens.
 pub fn open<'a>(rt: &HostRuntime, name: &'a str) -> io::Result<Input<'a>>
     ensures input { IfOk result (λ input. IsInputOf name.entry.now (Some input)) }
-    ensures closed { IfErr result (λ _. name.now ≢ codes "-") }
+    ensures closed { IfErr result (λ _. name.entry.now ≢ codes "-") }
 {
     if name == "-" {
         return Ok(Opened::Standard(rt.stdin()));
