@@ -1,6 +1,6 @@
 -- Parts of a survey, line by line.
 use Rattle.std.proofs.Common.{ℕ, suc, ◌+◌, ◌<◌, ◌≤◌, ◌≡◌, ◌≢◌, Bool, true, false, cond, List, [], ◌∷◌, ◌++◌, length, take, refl, sym, ap, subst, ◌∙◌, ⊎_elim, arith, append_assoc, append-nil, length-append, Option, None, Some}
-use Rattle.std.specs.Prelude.{◌==◌, not, flat_map, min, IsTrue}
+use Rattle.std.specs.Prelude.{◌==◌, not, flat_map, min}
 use Rattle.std.proofs.lemmas.Bool.{cases_lt, and_from, and_parts}
 use Rattle.std.proofs.lemmas.List.{take_all}
 use Rattle.std.specs.List.{AllByRecursion, list_all}

@@ -1,7 +1,4 @@
-use Rattle.std.proofs.Common.{rules, ◌≡◌, ◌∙◌, ◌++◌, [], sym, subst, append-nil, Option}
-use Rattle.std.specs.Prelude.{IfSome}
-use Rattle.survey.specs.declared.finding.Finding.{Finding as Found}
-use Rattle.survey.specs.Lines.{line_text}
+use Rattle.std.proofs.Common.{rules, [], sym, append-nil}
 use Rattle.survey.specs.Parts.{foreign}
 use Rattle.survey.proofs.PartLemmas.{head_some}
 use Rattle.survey.proofs.Walks.{untaken_wrong}

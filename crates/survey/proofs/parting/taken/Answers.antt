@@ -1,4 +1,4 @@
-use Rattle.std.proofs.Common.{◌≡◌, ◌<◌, ◌^◌, Option, None, Some, false, true, refl, sym, subst, arith, ⊎_elim}
+use Rattle.std.proofs.Common.{◌≡◌, ◌<◌, ◌^◌, Option, false, true, refl, sym, subst, arith, ⊎_elim}
 use Rattle.survey.specs.declared.finding.Finding.{Finding as Found}
 use Rattle.survey.specs.declared.parts.PartError.TheVariants.{Line, Seed}
 use Rattle.survey.specs.Parts.{IsCampaign, IsUntaken, untold, unsized, too_early, too_late}
