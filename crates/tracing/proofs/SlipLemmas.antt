@@ -56,11 +56,11 @@ called_says places context r s (Some h.Send) = sent_says places r s (λ set. 1 -
 called_says places context r s (Some h.SendRow) = sent_says places r s (λ set. set) (made s h.SendRow) (λ n. refl) (send_row_in context s)
 called_says places context r s (Some h.Sway) = sent_says places r s (λ set. set) (made s h.Sway) (λ n. refl) (sway_in s)
 called_says places context r s (Some h.Honest) = sent_says places r s (λ set. set) (made s h.Honest) (λ n. refl) (honest_in context s)
-called_says places context r s (Some helper) = quiet places r (call_by s (Some helper)) (λ r0. refl) _
+called_says places context r s (Some helper) = quiet places r (call_by s (Some helper)) (λ r0. refl) (called context r s (Some helper))
 
 executed_says : (places : List (String Global)) (context : List ℕ) (r : Relay) (insn : Insn) (s : State) → Says places r (call_at s insn) (slip places context r s (call_at s insn)) (executed context r insn s)
 executed_says places context r (i.Call number) s = called_says places context r s (helper_of number)
-executed_says places context r insn s = quiet places r None (λ r0. refl) _
+executed_says places context r insn s = quiet places r None (λ r0. refl) (executed context r insn s)
 
 step_says : (places : List (String Global)) (program : List Insn) (context : List ℕ) (r : Relay) (s : State) (insn : Insn) (o : Outcome) → instruction_at program s.unit ≡ Some insn → step program context r s ≡ o
     → Says places r (call_at s insn) (slip_at places context r s (instruction_at program s.unit)) o
