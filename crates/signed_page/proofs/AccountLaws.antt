@@ -1,5 +1,5 @@
 -- Signed campaigns' pages are elements.
-use Rattle.std.proofs.Common.{ℕ, ◌==◌, List, [], Option}
+use Rattle.std.proofs.Common.{ℕ, ◌==◌, false, List, [], Option}
 use Rattle.std.specs.List.{range_with_len}
 use Rattle.std.proofs.lemmas.Bool.{cond_both}
 use Rattle.markup.specs.Grammar.{IsContent, joined, no_text, text}

@@ -79,13 +79,6 @@ pub(crate) fn not_toml(alloc: Global, name: &str, text: &[u8]) -> Result<String,
         Ok(_) => return report(alloc, name, "the text is TOML", None, None),
         Err(error) => error,
     };
-    let span = span_of(&error)?;
-    span_told(
-        alloc,
-        name,
-        text.as_bytes(),
-        error.message(),
-        span.0,
-        span.1,
-    )
+    let (start, end) = span_of(&error)?;
+    span_told(alloc, name, text.as_bytes(), error.message(), start, end)
 }

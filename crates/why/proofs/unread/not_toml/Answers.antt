@@ -9,10 +9,10 @@ returns c =
     IfOk-weaker c.span_told.result _ _
     (λ told is utf8 none. record {
       message = c.message.result.now;
-      start = c.in_ok-span.span.0;
-      end = c.in_ok-span.span.1;
-      ordered = omega (arith, c.in_ok-span.ensures.span.0, c.in_ok-span.ensures.span.1, c.in-Err.ensures.span.0);
-      within = omega (arith, c.in_ok-span.ensures.span.1, few);
+      start = c.in_ok-start.start;
+      end = c.in_ok-start.end;
+      ordered = omega (arith, c.in_ok-start.ensures.span.0, c.in_ok-start.ensures.span.1, c.in-Err.ensures.span.0);
+      within = omega (arith, c.in_ok-start.ensures.span.1, few);
       is = rw same at is;
     })
     c.span_told.ensures
