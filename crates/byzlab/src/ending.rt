@@ -79,12 +79,12 @@ pub fn settled(rt: &HostRuntime, outcome: Result<Ending, AllocError>) -> Ending
 
 /// Does what is asked for on these files, and tells behind a fault of its output why, where it explains what it
 /// refuses.
-pub fn served<T: Threads + Wait + Sync>(
+pub fn served<'a, T: Threads + Wait + Sync>(
     rt: &HostRuntime,
     threads: &T,
     request: &Request,
-    first: Input<'_>,
-    second: Option<Input<'_>>,
+    first: Input<'a>,
+    second: Option<Input<'a>>,
 ) -> Ending
     ensures status { IsStatus result.status }
 {
