@@ -327,18 +327,18 @@ prevented_first task files unread second_unread bytes fault are stops = inl (sto
 -- ---- a refusal of which nothing is reported
 
 pub quiet_first : (cause : Refusal) (file : Bor (List ℕ)) (own : List ℕ) (fault : Failure) → cause ≢ Memory → fault ≡ fault_of_bytes cause file own → fault ≢ FaultMemory
-quiet_first (Codec error) file own told other is e = (let z : FaultMemory ≡ fault_of_bytes (Codec error) file own = sym e ∙ is in cc)
-quiet_first (Object fault) file own told other is e = (let z : FaultMemory ≡ fault_of_bytes (Object fault) file own = sym e ∙ is in cc)
-quiet_first (Verifier fault) file own told other is e = (let z : FaultMemory ≡ fault_of_bytes (Verifier fault) file own = sym e ∙ is in cc)
-quiet_first (Assembly error) file own told other is e = (let z : FaultMemory ≡ fault_of_bytes (Assembly error) file own = sym e ∙ is in cc)
-quiet_first (Table error) file own told other is e = (let z : FaultMemory ≡ fault_of_bytes (Table error) file own = sym e ∙ is in cc)
-quiet_first (Scenario error) file own told other is e = (let z : FaultMemory ≡ fault_of_bytes (Scenario error) file own = sym e ∙ is in cc)
-quiet_first (Setting error) file own told other is e = (let z : FaultMemory ≡ fault_of_bytes (Setting error) file own = sym e ∙ is in cc)
-quiet_first (Trace error) file own told other is e = (let z : FaultMemory ≡ fault_of_bytes (Trace error) file own = sym e ∙ is in cc)
-quiet_first (Threads error) file own told other is e = (let z : FaultMemory ≡ fault_of_bytes (Threads error) file own = sym e ∙ is in cc)
-quiet_first (Accesses fault) file own told other is e = (let z : FaultMemory ≡ fault_of_bytes (Accesses fault) file own = sym e ∙ is in cc)
-quiet_first (Stranger general generals) file own told other is e = (let z : FaultMemory ≡ fault_of_bytes (Stranger general generals) file own = sym e ∙ is in cc)
-quiet_first NotText file own told other is e = (let z : FaultMemory ≡ fault_of_bytes NotText file own = sym e ∙ is in cc)
+quiet_first (Codec error) file own told other is e = (let z : FaultMemory ≡ Refused (Codec error) (seems_behind (Codec error) own) = sym e ∙ is in cc)
+quiet_first (Object fault) file own told other is e = (let z : FaultMemory ≡ Refused (Object fault) (seems_behind (Object fault) own) = sym e ∙ is in cc)
+quiet_first (Verifier fault) file own told other is e = (let z : FaultMemory ≡ Refused (Verifier fault) (seems_behind (Verifier fault) own) = sym e ∙ is in cc)
+quiet_first (Assembly error) file own told other is e = (let z : FaultMemory ≡ Refused (Assembly error) (seems_behind (Assembly error) own) = sym e ∙ is in cc)
+quiet_first (Table error) file own told other is e = (let z : FaultMemory ≡ Refused (Table error) (seems_behind (Table error) own) = sym e ∙ is in cc)
+quiet_first (Scenario error) file own told other is e = (let z : FaultMemory ≡ Refused (Scenario error) (seems_behind (Scenario error) own) = sym e ∙ is in cc)
+quiet_first (Setting error) file own told other is e = (let z : FaultMemory ≡ Refused (Setting error) (seems_behind (Setting error) own) = sym e ∙ is in cc)
+quiet_first (Trace error) file own told other is e = (let z : FaultMemory ≡ Refused (Trace error) (seems_behind (Trace error) own) = sym e ∙ is in cc)
+quiet_first (Threads error) file own told other is e = (let z : FaultMemory ≡ Refused (Threads error) (seems_behind (Threads error) own) = sym e ∙ is in cc)
+quiet_first (Accesses fault) file own told other is e = (let z : FaultMemory ≡ Refused (Accesses fault) (seems_behind (Accesses fault) own) = sym e ∙ is in cc)
+quiet_first (Stranger general generals) file own told other is e = (let z : FaultMemory ≡ Refused (Stranger general generals) (seems_behind (Stranger general generals) own) = sym e ∙ is in cc)
+quiet_first NotText file own told other is e = (let z : FaultMemory ≡ Text file = sym e ∙ is in cc)
 quiet_first Memory file own told other is e = other refl
 
 pub asked_reports : (task : Task) (refusal : Refusal) (notation : Notation) → asked_of refusal task ≡ Some notation → is_reported task refusal ≡ true
