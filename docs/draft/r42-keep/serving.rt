@@ -1,0 +1,292 @@
+ghost use Rattle.std.specs.Prelude.{◌≡◌, ◌≢◌, ◌⊎◌, [], Ok, Err, IfOk, IfErr, IfSome, IsErrAnd, IsSomeAnd, MatchResult, OnOk, codes, option_map};
+ghost use Rattle.std.specs.Fmt.{with_newline};
+ghost use Rattle.std.specs.Io.KnownBytes.{Appends};
+ghost use Rattle.faults.specs.Faults.{IsToldIf, Stops, fault_text, status_of};
+ghost use Rattle.lab.specs.Faults.{Undoes, Prevents};
+ghost use Rattle.lab.specs.Hints.{explained_in};
+ghost use Rattle.faults.specs.Whys.{Nothing, TellsWhyOf, is_explained};
+ghost use Rattle.lab.specs.Serving.{IsAnswer, IsAuditOf, IsFault, IsPlayedBy, IsPrinted, IsScheduleOf, IsScheduleTold, IsToldLater, IsTrialOf, Tells, files, second_name};
+ghost use Rattle.lab.specs.declared.first_answer.FirstAnswer.TheVariants.{Trial, Play, Audit};
+ghost use Rattle.faults.specs.declared.failure.Failure.TheVariants.{Write as unwritten};
+ghost use Rattle.streams.specs.Writing.{AppendsFront};
+
+use crate::answering::answer;
+use crate::behind::{draw_by, draw_record, page_by, page_record, retrace_of};
+use crate::explaining::refused;
+use crate::first_answer::FirstAnswer;
+use crate::placing::trial_at;
+use crate::reading::{read_first, read_schedule, read_second};
+use campaign_tasks::{audited, mustered, played};
+use command_line::{Account, Lieutenants, Task};
+use faults::{Failure, Traced, is_explained, later};
+use inputs::{Refusal, schedule_of};
+use scenario::Campaign;
+use std::alloc::Global;
+use std::sync::Wait;
+use std::thread::Threads;
+use streams::{Output, Source};
+use verify::Verified;
+use world::Schedule;
+
+/// Does the task on its files: prints what it answers, or what is at fault, a line and what is said behind it. The
+/// second file is read where the task has one, and only where the first is not refused. All that is printed is in
+/// memory first. Only a muster starts threads, and it waits for them. A task that reads no file is given an empty one.
+/// The result is the exit status: 0 done, 1 refused or a fault of a file, 3 want of memory.
+pub fn serve<T, R, O, F>(
+    rt: &T,
+    alloc: Global,
+    task: &Task,
+    first: R,
+    second: Option<R>,
+    out: &mut O,
+    fault: &mut F,
+) -> u8
+where
+    T: Threads + Wait + Sync,
+    R: Source,
+    O: Output,
+    F: Output,
+    ensures status { (result ≡ 0) ⊎ ((result ≡ 1) ⊎ (result ≡ 3)) }
+
+    ensures done { result ≡ 0 →
+        IsPrinted task.now (files R.bytes first second) (O.contents out.old) (O.contents out.new) }
+    ensures quiet { result ≡ 0 → fault.new ≡ fault.old }
+
+    ensures at_fault { result ≡ 1 →
+        IsFault (R.fails first) (IsSomeAnd second R.fails) (O.fails out.old)
+        (AppendsFront (O.contents out.old) (O.contents out.new)) task.now (files R.bytes first second)
+        (out.new ≡ out.old) (Tells (F.fails fault.old) (F.contents fault.old) (F.contents fault.new)) }
+
+    ensures unprinted { result ≡ 3 → out.new ≡ out.old }
+    ensures memory { result ≡ 3 →
+        Tells (F.fails fault.old) (F.contents fault.old) (F.contents fault.new) (codes "out of memory") }
+{
+    match print(rt, alloc, task, first, second, out) {
+        Ok(()) => 0,
+        Err(failure) => ended(&failure, fault),
+    }
+}
+
+/// Says why a task is not done. The result is the exit status.
+fn ended<F: Output>(failure: &Failure<'_>, fault: &mut F) -> u8
+    ensures status { result ≡ status_of failure.now }
+    ensures told { F.fails fault.old ⊎ IfSome (with_newline (fault_text failure.now))
+        (Appends (F.contents fault.old) (F.contents fault.new)) }
+{
+    let _ = fault.tell(failure);
+    failure.status()
+}
+
+/// Prints the whole answer, or nothing where there is none. Where the output fails, at most a beginning of the answer
+/// was printed.
+fn print<'a, T, R, O>(
+    rt: &T,
+    alloc: Global,
+    task: &'a Task,
+    first: R,
+    second: Option<R>,
+    out: &mut O,
+) -> Result<(), Failure<'a>>
+where
+    T: Threads + Wait + Sync,
+    R: Source,
+    O: Output,
+    ensures done { OnOk result
+        (IsPrinted task.entry.now (files R.bytes first second) (O.contents out.old) (O.contents out.new)) }
+    ensures fault { IfErr result
+        (Undoes (R.fails first) (IsSomeAnd second R.fails) (O.fails out.old)
+        (AppendsFront (O.contents out.old) (O.contents out.new)) task.entry.now (files R.bytes first second)) }
+    ensures unprinted { IfErr result (λ fault. fault ≢ unwritten → out.new ≡ out.old) }
+{
+    let text = answered(rt, alloc, task, first, second)?;
+    match out.put(text.as_slice()) {
+        Ok(()) => Ok(()),
+        Err(_) => Err(Failure::Write),
+    }
+}
+
+/// The task's answer on its files, which `serve` prints.
+///
+/// # Errors
+///
+/// A file that cannot be read or is refused, or want of memory.
+pub fn answered<'a, T, R>(
+    rt: &T,
+    alloc: Global,
+    task: &'a Task,
+    first: R,
+    second: Option<R>,
+) -> Result<Vec<u8>, Failure<'a>>
+where
+    T: Threads + Wait + Sync,
+    R: Source,
+    ensures answer { IfOk result
+        (λ text. IsAnswer task.entry.now (files R.bytes first second) text.items) }
+    ensures fault { IfErr result
+        (Prevents (R.fails first) (IsSomeAnd second R.fails) task.entry.now (files R.bytes first second)) }
+{
+    let bytes = read_first(alloc, task, first)?;
+    let file = task.second().unwrap_or("");
+    let reported = is_explained(task);
+    match answer(alloc, task, bytes.as_slice()) {
+        Ok(FirstAnswer::Text(text)) => Ok(text.into_bytes()),
+        Ok(FirstAnswer::Bytes(bytes)) => Ok(bytes),
+        Ok(FirstAnswer::Trial(program, traced)) => {
+            trial_of(alloc, task, bytes.as_slice(), program, traced, file, second)
+        }
+        Ok(FirstAnswer::Play(campaign, account, explained)) => {
+            play_by(alloc, campaign, account, explained, reported, file, second)
+        }
+        Ok(FirstAnswer::Muster(scenario, explained)) => {
+            let text = mustered(rt, alloc, scenario, explained);
+            mustered_text(alloc, text, reported, file)
+        }
+        Ok(FirstAnswer::Audit(campaign, explained)) => {
+            audit_of(alloc, &campaign, explained, reported, file, second)
+        }
+        Ok(FirstAnswer::Draw(campaign)) => draw_by(alloc, campaign, reported, file, second),
+        Ok(FirstAnswer::DrawRecorded(campaign)) => {
+            draw_record(alloc, &campaign, reported, file, second)
+        }
+        Ok(FirstAnswer::Page(campaign, text)) => {
+            page_by(alloc, campaign, text, reported, file, second)
+        }
+        Ok(FirstAnswer::PageRecorded(campaign, text)) => {
+            page_record(alloc, campaign, text, reported, file, second)
+        }
+        Ok(FirstAnswer::Retrace(scenario)) => {
+            retrace_of(alloc, &scenario, reported, file, second)
+        }
+        Err(refusal) => Err(refused(alloc, task, refusal, bytes.as_slice())),
+    }
+}
+
+/// The text of a muster, or the fault of a campaign that is not mustered, whose second file has this name.
+fn mustered_text<'a>(
+    alloc: Global,
+    text: Result<Vec<u8>, Refusal>,
+    explained: bool,
+    file: &'a str,
+) -> Result<Vec<u8>, Failure<'a>>
+    ensures { MatchResult text (λ own. result ≡ Ok own)
+        (λ refusal. IsErrAnd result
+        (IsToldIf explained refusal file.entry (TellsWhyOf refusal Nothing file.entry.now []))) }
+{
+    match text {
+        Ok(text) => Ok(text),
+        Err(unmustered) => Err(later(alloc, explained, Traced::Nothing, unmustered, file, &[])),
+    }
+}
+
+/// What is told of the program's trial in the setting of the second file.
+#[tactic(auto, using(crate::proofs::PlaceLemmas::of_place))]
+fn trial_of<'a, R: Source>(
+    alloc: Global,
+    task: &Task,
+    first: &[u8],
+    program: Verified,
+    traced: bool,
+    file: &'a str,
+    second: Option<R>,
+) -> Result<Vec<u8>, Failure<'a>>
+    ensures tried { IfOk result
+        (λ text. IsTrialOf (option_map R.bytes second) traced
+        (explained_in task.now) first.now program text.items) }
+    ensures fault { IfErr result
+        (Stops (IsSomeAnd second R.fails)
+        (IsToldLater (is_explained task.now) file.entry.now (option_map R.bytes second)
+        (Trial program traced)) file.entry.now) }
+{
+    match trial_at(alloc, task, first, &program, traced, file, second) {
+        Ok(answer) => Ok(answer.text),
+        Err(failure) => Err(failure),
+    }
+}
+
+/// The text of the campaign by the schedule of the second file: this account of it, and how these decisions come about.
+fn play_by<'a, R: Source>(
+    alloc: Global,
+    campaign: Campaign,
+    account: Account,
+    explained: Option<Lieutenants>,
+    reported: bool,
+    file: &'a str,
+    second: Option<R>,
+) -> Result<Vec<u8>, Failure<'a>>
+    ensures played { IfOk result
+        (λ text. IsPlayedBy (option_map R.bytes second) campaign account explained text.items) }
+    ensures fault { IfErr result
+        (Stops (IsSomeAnd second R.fails)
+        (IsToldLater reported file.entry.now (option_map R.bytes second)
+        (Play campaign account explained)) file.entry.now) }
+{
+    let schedule = scheduled(alloc, reported, file, second)?;
+    match played(alloc, campaign, &schedule, account, explained) {
+        Ok(text) => Ok(text),
+        Err(_) => Err(Failure::Memory),
+    }
+}
+
+/// The schedule of the second file, the empty one where there is none.
+pub(crate) fn scheduled<'a, R: Source>(
+    alloc: Global,
+    reported: bool,
+    file: &'a str,
+    second: Option<R>,
+) -> Result<Schedule, Failure<'a>>
+    ensures told { IfOk result (λ schedule. IsScheduleOf (option_map R.bytes second) schedule) }
+    ensures fault { IfErr result
+        (Stops (IsSomeAnd second R.fails)
+        (IsScheduleTold reported file.entry.now (option_map R.bytes second)) file.entry.now) }
+{
+    let Some(second) = second else {
+        return Ok(Schedule {
+            lines: Vec::new(alloc),
+        });
+    };
+    let front = read_schedule(alloc, file, second)?;
+    match schedule_of(alloc, front.as_slice()) {
+        Ok(schedule) => Ok(schedule),
+        Err(refusal) => {
+            Err(later(
+                alloc,
+                reported,
+                Traced::Schedule,
+                refusal,
+                file,
+                front.as_slice(),
+            ))
+        }
+    }
+}
+
+/// The audit of the second file as a chronicle of the campaign, and how these decisions come about.
+fn audit_of<'a, R: Source>(
+    alloc: Global,
+    campaign: &Campaign,
+    explained: Option<Lieutenants>,
+    reported: bool,
+    file: &'a str,
+    second: Option<R>,
+) -> Result<Vec<u8>, Failure<'a>>
+    ensures audited { IfOk result (λ text. IsAuditOf (option_map R.bytes second) campaign.now explained text.items) }
+    ensures fault { IfErr result
+        (Stops (IsSomeAnd second R.fails)
+        (IsToldLater reported file.entry.now (option_map R.bytes second)
+        (Audit campaign.now explained)) file.entry.now) }
+{
+    let bytes = read_second(alloc, file, second)?;
+    match audited(alloc, campaign, bytes.as_slice(), explained) {
+        Ok(text) => Ok(text),
+        Err(refusal) => {
+            Err(later(
+                alloc,
+                reported,
+                Traced::Chronicle(campaign),
+                refusal,
+                file,
+                bytes.as_slice(),
+            ))
+        }
+    }
+}
