@@ -108,9 +108,12 @@ place_of (Some text) = string_bytes text
 unfoldable pub unit_told : List (String Global) → ℕ → List ℕ
 unit_told places unit = decimal unit ++ in_brackets (place_of (slice_get places unit))
 
+unfoldable pub slip_told : Helper → List ℕ
+slip_told helper = codes ", " ++ helper_name helper ++ codes " puts nothing: "
+
 abbrev pub note_of : List (String Global) → Relay → Call → List ℕ
-note_of places r call = codes "note: at " ++ unit_told places call.unit ++ codes ", " ++ helper_name call.helper
-    ++ codes " puts nothing: " ++ reason_of r call ++ codes "\n"
+note_of places r call = codes "note: at " ++ unit_told places call.unit ++ slip_told call.helper ++ reason_of r call
+    ++ codes "\n"
 
 -- the places that a call chooses, of those helpers that put orders
 abbrev pub chosen : List ℕ → State → Helper → Option (Result Choice Cause)

@@ -2,7 +2,7 @@
 ghost use Rattle.std.specs.Prelude.{◌≡◌, ◌<◌, ◌∷◌, ◌++◌, List, ℕ, Some, length, slice_get, string_bytes, IfOk, OnOk};
 ghost use Rattle.label.specs.Relay.{IsShape, relay};
 ghost use Rattle.semantics.specs.Relay.{relayed};
-ghost use Rattle.tracing.specs.Slips.{note_of, reason_of, dotted, in_brackets, no_label, no_place, no_row, passed_over, past, place_of, unheard, unit_told};
+ghost use Rattle.tracing.specs.Slips.{note_of, reason_of, dotted, in_brackets, no_label, no_place, no_row, passed_over, past, place_of, slip_told, unheard, unit_told};
 
 use explain::helper_name;
 use helper::Helper;
@@ -30,12 +30,20 @@ pub fn put_note(
 ) -> Result<(), AllocError>
     ensures { OnOk result (string_bytes out.new ≡ string_bytes out.old ++ note_of places.now outbox.now.relay call) }
 {
-    let name = helper_name(call.helper);
     out.push_str("note: at ")?;
     put_unit(out, places, call.unit)?;
-    write!(out, ", {name} puts nothing: ")?;
+    put_slip(out, call.helper)?;
     put_reason(alloc, out, outbox, call)?;
     out.push_str("\n")
+}
+
+/// Adds that a call of a helper puts nothing.
+#[tactic(auto, unfolding(crate::specs::Slips::slip_told))]
+fn put_slip(out: &mut String, helper: Helper) -> Result<(), AllocError>
+    ensures { OnOk result (string_bytes out.new ≡ string_bytes out.old ++ slip_told helper) }
+{
+    let name = helper_name(helper);
+    write!(out, ", {name} puts nothing: ")
 }
 
 /// Adds a unit and, where that is known, its place in the text that the program was written in.
