@@ -9,11 +9,13 @@ pub(crate) enum Flow {
     Asked(Request),
 }
 
-/// How a program goes on after an instruction.
+/// How a program goes on after an instruction, or a pair of them.
 #[derive(Clone, Copy, Debug, PartialEq, Eq)]
 pub(crate) enum Stride {
     /// It goes on at the unit.
     Onward(usize),
+    /// It goes on at the unit, two steps on.
+    Twice(usize),
     /// It calls the helper of this number.
     Call(i32),
     /// It exits.

@@ -7,6 +7,7 @@ mod arithmetic;
 mod calls;
 mod execution;
 mod flow;
+mod pairs;
 mod registers;
 mod replies;
 mod stop;

@@ -44,5 +44,6 @@ pub mod JudgedSound
 pub mod JudgedAnswers
 pub mod KnownLaws
 pub mod ReadyLemmas
+pub mod PairLemmas
 pub mod HandLaws
 pub mod CombineLemmas

@@ -8,6 +8,7 @@ mod error;
 mod known;
 mod laws;
 mod memory;
+mod pairing;
 mod pass;
 mod pending;
 mod ready;

@@ -8,6 +8,7 @@ ghost use Rattle.verify.specs.Ready.{AreMade};
 ghost use Rattle.insn.specs.Program.{slots_of};
 
 use crate::error::{Refused, VerifyError};
+use crate::pairing::paired;
 use crate::pass::pass;
 use crate::ready::Ready;
 use crate::recalling::recall_program;
@@ -57,7 +58,7 @@ pub fn verify(alloc: Global, program: Program) -> Result<Verified, Refused>
     recall_program(&program);
     let mut codes = Vec::new(alloc);
     match check(alloc, &program, &mut codes) {
-        Ok(()) => Ok(Verified::of(program, codes)),
+        Ok(()) => Ok(Verified::of(program, paired(codes))),
         Err(fault) => Err(Refused { program, fault }),
     }
 }

@@ -21,8 +21,8 @@ of-requires c =
     record {
       sound = record {
         sound = judged_sound c.args.program c.recall_program.ensures.well c.recall_program.ensures.some accepted;
-        ready = is_ready c.args.program c.check.new.codes.items c.recall_program.ensures.well c.recall_program.ensures.some accepted made long;
-        bound = let most = c.recall_program.ensures.bound in omega (arith, long, most);
+        ready = is_ready c.args.program c.check.new.codes.items c.paired.result.items c.recall_program.ensures.well c.recall_program.ensures.some accepted made long c.paired.ensures.paired c.paired.ensures.long;
+        bound = let most = c.recall_program.ensures.bound in let same = c.paired.ensures.long in omega (arith, long, most, same);
       };
     }
 
