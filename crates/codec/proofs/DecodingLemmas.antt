@@ -1,6 +1,7 @@
 -- What a form's reading says of the fields.
-use Rattle.std.proofs.Common.{◌≡◌, ◌≤◌, ◌<◌, ◌*◌, ℕ, drop, take, get_or, List, [], ◌∷◌, Some, Result, Ok, Err, length, refl, sym, subst, ◌∙◌}
-use Rattle.std.specs.Prelude.{IfOk, IfErr}
+use Rattle.std.proofs.Common.{◌≡◌, ◌≤◌, ◌<◌, ◌+◌, ◌*◌, ℕ, drop, take, get_or, List, [], ◌∷◌, Some, Result, Ok, Err, length, refl, sym, ap, subst, ◌∙◌, arith}
+use Rattle.std.proofs.lemmas.List.{length-drop}
+use Rattle.std.specs.Prelude.{IfOk, IfErr, MatchResult}
 use Rattle.insn.specs.declared.insn.Insn.{Insn}
 use Rattle.insn.specs.Insn.{IsInsn, units_of}
 use Rattle.codec.specs.declared.fault.Fault.{Fault}
@@ -8,28 +9,57 @@ use Rattle.codec.specs.declared.fields.Fields.{Fields}
 use Rattle.codec.specs.declared.form.Form.{Form}
 use Rattle.codec.specs.Spelling.{spelling, instruction_bytes}
 use Rattle.codec.specs.Form.{form_of}
-use Rattle.codec.proofs.FrontLemmas.{insn_written}
+use Rattle.codec.proofs.FrontLemmas.{insn_written, length-spelling}
 use Rattle.codec.specs.Reading.{fields_of, checks_of, first_fault, fault_in, AreUnits}
 
+-- no more units than fit
+units_inside : (fs : List Fields) (f : Fields) (behind : List ℕ) → AreUnits fs f behind → 8 * length fs ≤ 8 + length behind
+units_inside [] f behind units = absurd units
+units_inside (first ∷ []) f behind units = omega arith
+units_inside (first ∷ second ∷ []) f behind units = omega (arith, units.1)
+units_inside (first ∷ second ∷ third ∷ more) f behind units = absurd units
+
+-- what is put into the place is the instruction that was read, or there is its fault
+abbrev pub IsPut : Result ℕ Fault → Result Insn Fault → Insn → Type 0
+IsPut o r place = MatchResult o (λ n. (r ≡ Ok place) × (n ≡ units_of place)) (λ e. r ≡ Err e)
+
+-- it has these units
+abbrev pub IsMeant : Result ℕ Fault → Insn → Fields → List ℕ → Type 0
+IsMeant o place f behind = IfOk o (λ n. (n ≡ units_of place) × IsInsn place × AreUnits (spelling place) f behind)
+
 -- an instruction of one unit
-pub one_unit : (r : Result Insn Fault) (f : Fields) (behind : List ℕ) → IfOk r (λ i. IsInsn i × (spelling i ≡ f ∷ [])) → IfOk r (λ i. AreUnits (spelling i) f behind)
-one_unit (Ok i) f behind s = rw (s.1) refl
-one_unit (Err e) f behind s = s
+pub one_unit : (o : Result ℕ Fault) (r : Result Insn Fault) (place : Insn) (f : Fields) (behind : List ℕ) → IsPut o r place → IfOk r (λ i. IsInsn i × (spelling i ≡ f ∷ [])) → IsMeant o place f behind
+one_unit (Ok n) r place f behind put s =
+    let t : IsInsn place × (spelling place ≡ f ∷ []) = subst (λ (x : Result Insn Fault). IfOk x (λ i. IsInsn i × (spelling i ≡ f ∷ []))) put.0 s in
+    (put.1, t.0, subst (λ (us : List Fields). AreUnits us f behind) (sym t.1) refl)
+one_unit (Err e) r place f behind put s = tt
 
 -- the wide instruction
-pub two_units : (r : Result Insn Fault) (f : Fields) (behind : List ℕ) → IfOk r (λ i. IsInsn i × (8 ≤ length behind) × (spelling i ≡ f ∷ fields_of behind ∷ [])) → IfOk r (λ i. AreUnits (spelling i) f behind)
-two_units (Ok i) f behind s = rw (s.2) (refl, s.1, refl)
-two_units (Err e) f behind s = s
+pub two_units : (o : Result ℕ Fault) (r : Result Insn Fault) (place : Insn) (f : Fields) (behind : List ℕ) → IsPut o r place →
+    IfOk r (λ i. IsInsn i × (8 ≤ length behind) × (spelling i ≡ f ∷ fields_of behind ∷ [])) → IsMeant o place f behind
+two_units (Ok n) r place f behind put s =
+    let t : IsInsn place × (8 ≤ length behind) × (spelling place ≡ f ∷ fields_of behind ∷ []) =
+    subst (λ (x : Result Insn Fault). IfOk x (λ i. IsInsn i × (8 ≤ length behind) × (spelling i ≡ f ∷ fields_of behind ∷ []))) put.0 s in
+    (put.1, t.0, subst (λ (us : List Fields). AreUnits us f behind) (sym t.2) (refl, t.1, refl))
+two_units (Err e) r place f behind put s = tt
 
 -- the checks are those of the opcode's form
-pub form_fault : (form given : Form) (r : Result Insn Fault) (f : Fields) (behind : List ℕ) → given ≡ form → given ≡ form_of f.opcode →
-    IfErr r (λ e. first_fault (checks_of form f behind) ≡ Some e) → IfErr r (λ e. fault_in f behind ≡ Some e)
-form_fault form given (Ok i) f behind is same found = found
-form_fault form given (Err e) f behind is same found = subst (λ (g : Form). first_fault (checks_of g f behind) ≡ Some e) (sym is ∙ same) found
+pub form_fault : (form given : Form) (o : Result ℕ Fault) (r : Result Insn Fault) (place : Insn) (f : Fields) (behind : List ℕ) → given ≡ form → given ≡ form_of f.opcode → IsPut o r place →
+    IfErr r (λ e. first_fault (checks_of form f behind) ≡ Some e) → IfErr o (λ e. fault_in f behind ≡ Some e)
+form_fault form given (Ok n) r place f behind is same put found = tt
+form_fault form given (Err e) r place f behind is same put found =
+    let t : first_fault (checks_of form f behind) ≡ Some e = subst (λ (x : Result Insn Fault). IfErr x (λ y. first_fault (checks_of form f behind) ≡ Some y)) put found in
+    subst (λ (g : Form). first_fault (checks_of g f behind) ≡ Some e) (sym is ∙ same) t
 
 -- what the meaning's units say of the bytes
-pub all_written : (r : Result Insn Fault) (bytes tail : List ℕ) (f : Fields) → 8 ≤ length bytes → ((k : ℕ) → get_or bytes k 0 < 256) → f ≡ fields_of bytes → tail ≡ drop 8 bytes →
-    IfOk r (λ i. AreUnits (spelling i) f tail) → IfOk r (λ i. take (8 * units_of i) bytes ≡ instruction_bytes i)
-all_written (Ok i) bytes tail f long small same behind units =
-    insn_written i bytes long small (subst (λ (t : List ℕ). AreUnits (spelling i) (fields_of bytes) t) behind (subst (λ (g : Fields). AreUnits (spelling i) g tail) same units))
-all_written (Err e) bytes tail f long small same behind units = units
+pub all_written : (o : Result ℕ Fault) (place : Insn) (bytes tail : List ℕ) (f : Fields) → 8 ≤ length bytes → ((k : ℕ) → get_or bytes k 0 < 256) → f ≡ fields_of bytes → tail ≡ drop 8 bytes → IsMeant o place f tail →
+    IfOk o (λ _. take (8 * units_of place) bytes ≡ instruction_bytes place)
+all_written (Ok n) place bytes tail f long small same behind meant =
+    insn_written place bytes long small (subst (λ (t : List ℕ). AreUnits (spelling place) (fields_of bytes) t) behind (subst (λ (g : Fields). AreUnits (spelling place) g tail) same meant.2))
+all_written (Err e) place bytes tail f long small same behind meant = tt
+
+-- and of how many there are
+pub all_inside : (o : Result ℕ Fault) (place : Insn) (bytes tail : List ℕ) (f : Fields) → 8 ≤ length bytes → tail ≡ drop 8 bytes → IsMeant o place f tail → IfOk o (λ _. 8 * units_of place ≤ length bytes)
+all_inside (Ok n) place bytes tail f long behind meant =
+    omega (arith, units_inside (spelling place) f tail meant.2, length-spelling place, ap length behind, length-drop 8 bytes)
+all_inside (Err e) place bytes tail f long behind meant = tt

@@ -62,7 +62,7 @@ last_class : (n : ℕ) → n % 16 == 0x0 || n % 16 == 0x8 ≡ false → n % 16 =
     → n % 16 == 0x4 ≡ false → n % 16 == 0x5 ≡ false → n % 16 == 0x6 ≡ false → n % 16 == 0x7 ≡ false → n % 16 == 0xc ≡ false → n % 16 == 0xd ≡ false → n % 16 == 0xe ≡ false → n % 16 == 0xf ≡ true
 last_class n a b c d e f g h i j k = let few : n % 16 < 16 = omega arith in grind (arith, nat_tests)
 
-form_opcode : (n : ℕ) → IsOpcode (form_of n) n
+pub form_opcode : (n : ℕ) → IsOpcode (form_of n) n
 form_opcode n =
     chosen P (n % 16 == 0x0 || n % 16 == 0x8) _ _ (λ t. wide_opcode n) (λ a.
     chosen P (n % 16 == 0x1 || n % 16 == 0x9) _ _ (λ t. load_opcode n) (λ b.

@@ -1,6 +1,7 @@
 -- The bytes of programs, unit by unit.
-use Rattle.std.proofs.Common.{◌≡◌, ◌≤◌, ◌<◌, ◌+◌, ◌-◌, ◌*◌, ℕ, List, [], ◌∷◌, ◌++◌, Some, length, take, drop, refl, sym, ap, subst, ◌∙◌, arith, inl, inr, append_assoc, length-append}
+use Rattle.std.proofs.Common.{◌≡◌, ◌≤◌, ◌<◌, ◌+◌, ◌-◌, ◌*◌, ℕ, List, [], ◌∷◌, ◌++◌, Some, length, take, drop, set, length-set, refl, sym, ap, subst, ◌∙◌, arith, inl, inr, append_assoc, length-append}
 use Rattle.std.proofs.lemmas.List.{length-drop, take_all, append-nil}
+use Rattle.std.proofs.lemmas.Grind.{take-set_at}
 use Rattle.std.proofs.Math.Seq.{take-add}
 use Rattle.std.specs.List.{AllByRecursion}
 use Rattle.insn.specs.declared.insn.Insn.{Insn}
@@ -12,7 +13,7 @@ use Rattle.codec.specs.declared.fault.Fault.{Fault}
 use Rattle.codec.specs.Spelling.{instruction_bytes, program_bytes}
 use Rattle.codec.specs.Reading.{fault_at}
 use Rattle.codec.specs.Program.{SpellsProgram, IsFirstFault}
-use Rattle.codec.proofs.FrontLemmas.{length-instruction_bytes}
+use Rattle.codec.proofs.FrontLemmas.{length-instruction_bytes, units_few}
 
 pub program_bytes-append : (xs ys : List Insn) → program_bytes (xs ++ ys) ≡ program_bytes xs ++ program_bytes ys
 program_bytes-append [] ys = refl
@@ -56,6 +57,24 @@ read_more bytes is new unit next units i tail whole r tail-is fits long found ne
 
     here : take (8 * units_of i) (drop (8 * unit) bytes) ≡ instruction_bytes i
     here = ap (λ (b : List ℕ). take (8 * units_of i) b) (sym same) ∙ found
+
+-- the first places have the instructions of the units so far, so there is a place for the next
+pub record IsFilledTo (bytes : List ℕ) (places : List Insn) (count unit units : ℕ) : Type 0 where
+  pub read : IsReadTo bytes (take count places) unit units
+  pub behind : count ≤ unit
+  pub same : length places ≡ units
+
+-- one place more
+pub fill_more : (bytes : List ℕ) (places new : List Insn) (count unit next units : ℕ) (i : Insn) (tail : List ℕ) → length bytes ≡ 8 * units → IsFilledTo bytes places count unit units → unit < units →
+    tail ≡ take (length bytes - 8 * unit) (drop (8 * unit) bytes) → IsInsn i → 8 * units_of i ≤ length tail → take (8 * units_of i) tail ≡ instruction_bytes i → new ≡ set places count i → next ≡ unit + units_of i →
+    IsFilledTo bytes new (count + 1) next units
+fill_more bytes places new count unit next units i tail whole r more tail-is fits long found new-is next-is =
+    let inside : count < length places = omega (arith, r.behind, r.same, more) in record {
+      read = read_more bytes (take count places) (take (count + 1) new) unit next units i tail whole r.read tail-is fits long found
+          (ap (λ (x : List Insn). take (count + 1) x) new-is ∙ take-set_at places count (count + 1) i refl inside) next-is;
+      behind = omega (arith, r.behind, next-is, (units_few i).0);
+      same = ap length new-is ∙ (length-set places count i ∙ r.same);
+    }
 
 -- no unit is left
 pub read_all : (bytes : List ℕ) (is : List Insn) (unit units : ℕ) → length bytes ≡ 8 * units → 0 < units → units ≤ 4096 → units ≤ unit → IsReadTo bytes is unit units → SpellsProgram bytes is

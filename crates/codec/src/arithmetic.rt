@@ -7,7 +7,7 @@ ghost use Rattle.codec.specs.Form.{divided, IsMoved};
 ghost use Rattle.codec.specs.Reading.{checks_of, first_fault, is_no_part, is_no_swap};
 
 use crate::fault::Fault;
-use crate::fields::{Fields, used};
+use crate::fields::{Fields, alone, used};
 use crate::form::Division;
 use insn::{Insn, Operand};
 use word::{ByteOrder, Narrow, Operation, SwapSize, Width};
@@ -20,8 +20,8 @@ pub fn immediate(width: Width, operation: Operation, fields: Fields) -> Result<I
     ensures fault { (behind : List ℕ) →
         IfErr result (λ e. first_fault (checks_of (forms.Immediate width operation) fields behind) ≡ Some e) }
 {
-    let dst = used(fields.dst)?;
-    if fields.src != 0 || fields.offset != 0 {
+    let dst = alone(fields)?;
+    if fields.offset != 0 {
         return Err(Fault::Reserved);
     }
     Ok(Insn::Arithmetic {
@@ -165,8 +165,8 @@ pub fn negate(width: Width, fields: Fields) -> Result<Insn, Fault>
     ensures fault { (behind : List ℕ) →
         IfErr result (λ e. first_fault (checks_of (forms.Negate width) fields behind) ≡ Some e) }
 {
-    let dst = used(fields.dst)?;
-    if fields.src != 0 || fields.offset != 0 || fields.imm != 0 {
+    let dst = alone(fields)?;
+    if fields.imm != 0 || fields.offset != 0 {
         return Err(Fault::Reserved);
     }
     Ok(Insn::Negate { width, dst })

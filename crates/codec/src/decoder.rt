@@ -1,4 +1,4 @@
-ghost use Rattle.std.specs.Prelude.{◌≡◌, ◌≤◌, ◌<◌, ◌+◌, ◌*◌, ◌/◌, length, take, drop, IfOk, IfErr, MatchOption, MatchResult, Some, List};
+ghost use Rattle.std.specs.Prelude.{◌≡◌, ◌≤◌, ◌<◌, ◌+◌, ◌*◌, ◌/◌, length, take, drop, IfOk, IfErr, MatchOption, MatchResult, Ok, Err, Some, List};
 ghost use Rattle.insn.specs.declared.insn.Insn.{Insn as InsnValue};
 ghost use Rattle.insn.specs.Insn.{IsInsn, units_of};
 ghost use Rattle.insn.specs.Program.{slots_of};
@@ -10,42 +10,87 @@ use crate::fault::{CodecError, Fault};
 use crate::fields::{Fields, read_fields};
 use crate::form::{Form, form_at};
 use crate::{arithmetic, jump, memory};
-use insn::{Insn, Program};
-use std::alloc::Global;
+use insn::{Insn, Operand, Program, Reg};
+use std::alloc::{AllocError, Global};
+use word::{Operation, Width};
 
-/// The instruction that the fields and what stands behind them begin with.
+/// Puts the instruction that was read into the place, and gives how many units it takes; none is put where there is a
+/// fault.
 #[inline(always)]
-fn meaning(fields: Fields, behind: &[u8]) -> Result<Insn, Fault>
-    ensures well_formed { IfOk result (λ i. IsInsn i) }
-    ensures found { IfOk result (λ i. AreUnits (spelling i) fields behind.now) }
+fn put(place: &mut Insn, read: Result<Insn, Fault>) -> Result<u16, Fault>
+    ensures { MatchResult result (λ n. (read ≡ Ok place.new) × (n ≡ units_of place.new)) (λ e. read ≡ Err e) }
+{
+    match read {
+        Ok(insn) => {
+            *place = insn;
+            Ok(place.units())
+        }
+        Err(fault) => Err(fault),
+    }
+}
+
+/// Puts the instruction that the fields and what stands behind them begin with into the place, and gives how many units
+/// it takes.
+#[inline(always)]
+fn meaning(place: &mut Insn, fields: Fields, behind: &[u8]) -> Result<u16, Fault>
+    ensures found { IfOk result (λ n. (n ≡ units_of place.new)
+        × IsInsn place.new × AreUnits (spelling place.new) fields behind.now) }
     ensures fault { IfErr result (λ e. fault_in fields behind.now ≡ Some e) }
 {
     match form_at(fields.opcode) {
-        Form::Immediate(width, operation) => arithmetic::immediate(width, operation, fields),
-        Form::Register(width, operation) => arithmetic::register(width, operation, fields),
-        Form::DivideImmediate(width, division) => {
-            arithmetic::divide_immediate(width, division, fields)
-        }
-        Form::DivideRegister(width, division) => {
-            arithmetic::divide_register(width, division, fields)
-        }
-        Form::MoveRegister(width) => arithmetic::move_register(width, fields),
-        Form::Negate(width) => arithmetic::negate(width, fields),
-        Form::Swap(order) => arithmetic::swap(order, fields),
-        Form::LoadImmediate => memory::load_immediate(fields, behind),
-        Form::Jump => jump::near(fields),
-        Form::LongJump => jump::long(fields),
-        Form::BranchImmediate(width, condition) => jump::branch_immediate(width, condition, fields),
-        Form::BranchRegister(width, condition) => jump::branch_register(width, condition, fields),
-        Form::Load(size) => memory::load(size, fields),
-        Form::LoadSigned(part) => memory::load_signed(part, fields),
-        Form::StoreImmediate(size) => memory::store_immediate(size, fields),
-        Form::StoreRegister(size) => memory::store_register(size, fields),
-        Form::Call => jump::call(fields),
-        Form::Exit => jump::exit(fields),
+        Form::Immediate(width, operation) => put(
+            place,
+            arithmetic::immediate(width, operation, fields),
+        ),
+        Form::Register(width, operation) => put(
+            place,
+            arithmetic::register(width, operation, fields),
+        ),
+        Form::DivideImmediate(width, division) => put(
+            place,
+            arithmetic::divide_immediate(width, division, fields),
+        ),
+        Form::DivideRegister(width, division) => put(
+            place,
+            arithmetic::divide_register(width, division, fields),
+        ),
+        Form::MoveRegister(width) => put(place, arithmetic::move_register(width, fields)),
+        Form::Negate(width) => put(place, arithmetic::negate(width, fields)),
+        Form::Swap(order) => put(place, arithmetic::swap(order, fields)),
+        Form::LoadImmediate => put(place, memory::load_immediate(fields, behind)),
+        Form::Jump => put(place, jump::near(fields)),
+        Form::LongJump => put(place, jump::long(fields)),
+        Form::BranchImmediate(width, condition) => put(
+            place,
+            jump::branch_immediate(width, condition, fields),
+        ),
+        Form::BranchRegister(width, condition) => put(
+            place,
+            jump::branch_register(width, condition, fields),
+        ),
+        Form::Load(size) => put(place, memory::load(size, fields)),
+        Form::LoadSigned(part) => put(place, memory::load_signed(part, fields)),
+        Form::StoreImmediate(size) => put(place, memory::store_immediate(size, fields)),
+        Form::StoreRegister(size) => put(place, memory::store_register(size, fields)),
+        Form::Call => put(place, jump::call(fields)),
+        Form::Exit => put(place, jump::exit(fields)),
         Form::LeftOut => Err(Fault::LeftOut),
         Form::Unknown => Err(Fault::Opcode),
     }
+}
+
+/// Puts the instruction that the bytes begin with into the place, whatever stands behind it, and gives how many units
+/// it takes.
+#[inline(always)]
+fn read(place: &mut Insn, bytes: &[u8]) -> Result<u16, Fault>
+    requires { 8 ≤ length bytes.now }
+    ensures units { IfOk result (λ n. n ≡ units_of place.new) }
+    ensures well_formed { IfOk result (λ _. IsInsn place.new) }
+    ensures inside { IfOk result (λ _. 8 * units_of place.new ≤ length bytes.now) }
+    ensures found { IfOk result (λ _. take (8 * units_of place.new) bytes.now ≡ instruction_bytes place.new) }
+    ensures fault { IfErr result (λ e. fault_at bytes.now ≡ Some e) }
+{
+    meaning(place, read_fields(bytes), &bytes[8..])
 }
 
 /// The instruction that the bytes begin with, whatever stands behind it.
@@ -53,7 +98,6 @@ fn meaning(fields: Fields, behind: &[u8]) -> Result<Insn, Fault>
 /// # Errors
 ///
 /// The first fault of their first unit, or of the wide instruction that begins there.
-#[inline(always)]
 pub fn instruction(bytes: &[u8]) -> Result<Insn, Fault>
     requires { 8 ≤ length bytes.now }
     ensures well_formed { IfOk result (λ i. IsInsn i) }
@@ -61,7 +105,51 @@ pub fn instruction(bytes: &[u8]) -> Result<Insn, Fault>
     ensures found { IfOk result (λ i. take (8 * units_of i) bytes.now ≡ instruction_bytes i) }
     ensures fault { IfErr result (λ e. fault_at bytes.now ≡ Some e) }
 {
-    meaning(read_fields(bytes), &bytes[8..])
+    let mut insn = Insn::Exit;
+    match read(&mut insn, bytes) {
+        Ok(_) => Ok(insn),
+        Err(fault) => Err(fault),
+    }
+}
+
+/// So many places. What stands there at first is of zeros alone, so all are made at once.
+fn blank_places(alloc: Global, units: usize) -> Result<Vec<Insn>, AllocError>
+    ensures { IfOk result (λ v. length v.items ≡ units) }
+{
+    let blank = match Reg::new(0) {
+        Some(register) => Insn::Arithmetic {
+            width: Width::W32,
+            operation: Operation::Add,
+            dst: register,
+            operand: Operand::Register(register),
+        },
+        None => Insn::Exit,
+    };
+    vec![in alloc; blank; units]
+}
+
+/// Puts the instructions that the bytes spell into the first places, and gives how many there are.
+#[inline(never)]
+fn fill(places: &mut [Insn], bytes: &[u8]) -> Result<usize, CodecError>
+    requires whole { length bytes.now ≡ 8 * length places.old }
+    requires some { 0 < length places.old }
+    requires bound { length places.old ≤ 4096 }
+    ensures units { IfOk result (λ n. length (slots_of (take n places.new)) ≡ length places.old) }
+    ensures found { IfOk result (λ n. SpellsProgram bytes.now (take n places.new)) }
+    ensures fault { IfErr result (λ e. IsAnswered bytes.now e) }
+{
+    let mut count = 0;
+    let mut unit = 0;
+    while unit < places.len() {
+        match read(&mut places[count], &bytes[8 * unit..]) {
+            Ok(units) => {
+                unit += units as usize;
+                count += 1;
+            }
+            Err(fault) => return Err(CodecError::At(fault, unit)),
+        }
+    }
+    Ok(count)
 }
 
 /// The instructions that so many units spell, or the first fault.
@@ -73,23 +161,10 @@ fn instructions(alloc: Global, bytes: &[u8], units: usize) -> Result<Vec<Insn>, 
     ensures found { IfOk result (λ v. SpellsProgram bytes.now v.items) }
     ensures fault { IfErr result (λ e. IsAnswered bytes.now e) }
 {
-    let mut instructions = Vec::with_capacity(alloc, units)?;
-    let mut unit = 0;
-    while unit < units {
-        match instruction(&bytes[8 * unit..]) {
-            // The same as the next arm; without it the checker does not find the types within `Insn`.
-            Ok(wide @ Insn::LoadImmediate { .. }) => {
-                instructions.push(wide)?;
-                unit += 2;
-            }
-            Ok(insn) => {
-                instructions.push(insn)?;
-                unit += insn.units() as usize;
-            }
-            Err(fault) => return Err(CodecError::At(fault, unit)),
-        }
-    }
-    Ok(instructions)
+    let mut places = blank_places(alloc, units)?;
+    let count = fill(places.as_mut_slice(), bytes)?;
+    places.truncate(count);
+    Ok(places)
 }
 
 /// The program that the bytes spell.
@@ -114,7 +189,7 @@ pub fn decode(alloc: Global, bytes: &[u8]) -> Result<Program, CodecError>
     if units == 0 || units > Program::MOST_UNITS {
         return Err(CodecError::At(Fault::Count, 0));
     }
-    Ok(Program::new(alloc, instructions(alloc, bytes, units)?)?)
+    Ok(Program::of_units(alloc, instructions(alloc, bytes, units)?, units)?)
 }
 
 /// The first fault of the bytes with its unit, as `decode` tells it; none exactly where they spell a program. So every

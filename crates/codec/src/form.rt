@@ -1,5 +1,5 @@
 ghost use Rattle.std.specs.Prelude.{◌≡◌};
-ghost use Rattle.codec.specs.Form.{form_of, operation_of, division_of, condition_of, wide_form, load_form, store_form, store_register_form, immediate_form, register_form, jump_form, jump_register_form, IsOpcode};
+ghost use Rattle.codec.specs.Form.{form_of, IsOpcode};
 
 use insn::Size;
 use word::{ByteOrder, Condition, Narrow, Operation, Width};
@@ -38,201 +38,272 @@ pub enum Form {
     Unknown,
 }
 
-/// The operation of an opcode's high four bits whose offset is unused.
-fn operation_at(code: u8) -> Option<Operation>
-    ensures { result ≡ operation_of code }
-{
-    match code {
-        0x0 => Some(Operation::Add),
-        0x1 => Some(Operation::Sub),
-        0x2 => Some(Operation::Mul),
-        0x4 => Some(Operation::Or),
-        0x5 => Some(Operation::And),
-        0x6 => Some(Operation::ShiftLeft),
-        0x7 => Some(Operation::ShiftRight),
-        0xa => Some(Operation::Xor),
-        0xc => Some(Operation::ArithmeticShiftRight),
-        _ => None,
-    }
-}
-
-/// The division of an opcode's high four bits.
-fn division_at(code: u8) -> Option<Division>
-    ensures { result ≡ division_of code }
-{
-    match code {
-        0x3 => Some(Division::Quotient),
-        0x9 => Some(Division::Remainder),
-        _ => None,
-    }
-}
-
-/// The condition of an opcode's high four bits (section 4.3).
-fn condition_at(code: u8) -> Option<Condition>
-    ensures { result ≡ condition_of code }
-{
-    match code {
-        0x1 => Some(Condition::Equal),
-        0x2 => Some(Condition::Above),
-        0x3 => Some(Condition::AtLeast),
-        0x4 => Some(Condition::AnyBit),
-        0x5 => Some(Condition::NotEqual),
-        0x6 => Some(Condition::SignedAbove),
-        0x7 => Some(Condition::SignedAtLeast),
-        0xa => Some(Condition::Below),
-        0xb => Some(Condition::AtMost),
-        0xc => Some(Condition::SignedBelow),
-        0xd => Some(Condition::SignedAtMost),
-        _ => None,
-    }
-}
-
-/// Class LD: the wide instruction, and the packet instructions, which are left out.
-fn wide(opcode: u8) -> Form
-    ensures { result ≡ wide_form opcode }
-{
-    match opcode {
-        0x18 => Form::LoadImmediate,
-        0x20 | 0x28 | 0x30 | 0x40 | 0x48 | 0x50 => Form::LeftOut,
-        _ => Form::Unknown,
-    }
-}
-
-/// Class LDX.
-fn load(opcode: u8) -> Form
-    ensures { result ≡ load_form opcode }
-{
-    match opcode {
-        0x61 => Form::Load(Size::Word),
-        0x69 => Form::Load(Size::Half),
-        0x71 => Form::Load(Size::Byte),
-        0x79 => Form::Load(Size::Double),
-        0x81 => Form::LoadSigned(Narrow::Word),
-        0x89 => Form::LoadSigned(Narrow::Half),
-        0x91 => Form::LoadSigned(Narrow::Byte),
-        _ => Form::Unknown,
-    }
-}
-
-/// Class ST.
-fn store_immediate(opcode: u8) -> Form
-    ensures { result ≡ store_form opcode }
-{
-    match opcode {
-        0x62 => Form::StoreImmediate(Size::Word),
-        0x6a => Form::StoreImmediate(Size::Half),
-        0x72 => Form::StoreImmediate(Size::Byte),
-        0x7a => Form::StoreImmediate(Size::Double),
-        _ => Form::Unknown,
-    }
-}
-
-/// Class STX: stores, and the atomic instructions, which are left out.
-fn store_register(opcode: u8) -> Form
-    ensures { result ≡ store_register_form opcode }
-{
-    match opcode {
-        0x63 => Form::StoreRegister(Size::Word),
-        0x6b => Form::StoreRegister(Size::Half),
-        0x73 => Form::StoreRegister(Size::Byte),
-        0x7b => Form::StoreRegister(Size::Double),
-        0xc3 | 0xdb => Form::LeftOut,
-        _ => Form::Unknown,
-    }
-}
-
-/// Classes ALU and ALU64 without the source bit.
-fn by_immediate(width: Width, code: u8) -> Form
-    ensures { result ≡ immediate_form width code }
-{
-    if let Some(operation) = operation_at(code) {
-        return Form::Immediate(width, operation);
-    }
-    if let Some(division) = division_at(code) {
-        return Form::DivideImmediate(width, division);
-    }
-    match code {
-        0x8 => Form::Negate(width),
-        0xb => Form::Immediate(width, Operation::Move),
-        0xd => match width {
-            Width::W32 => Form::Swap(ByteOrder::Little),
-            Width::W64 => Form::Swap(ByteOrder::Reversed),
-        },
-        _ => Form::Unknown,
-    }
-}
-
-/// Classes ALU and ALU64 with the source bit.
-fn by_register(width: Width, code: u8) -> Form
-    ensures { result ≡ register_form width code }
-{
-    if let Some(operation) = operation_at(code) {
-        return Form::Register(width, operation);
-    }
-    if let Some(division) = division_at(code) {
-        return Form::DivideRegister(width, division);
-    }
-    match code {
-        0xb => Form::MoveRegister(width),
-        0xd => match width {
-            Width::W32 => Form::Swap(ByteOrder::Big),
-            Width::W64 => Form::Unknown,
-        },
-        _ => Form::Unknown,
-    }
-}
-
-/// Classes JMP and JMP32 without the source bit.
-fn jump(width: Width, code: u8) -> Form
-    ensures { result ≡ jump_form width code }
-{
-    if let Some(condition) = condition_at(code) {
-        return Form::BranchImmediate(width, condition);
-    }
-    match width {
-        Width::W32 => match code {
-            0x0 => Form::LongJump,
-            _ => Form::Unknown,
-        },
-        Width::W64 => match code {
-            0x0 => Form::Jump,
-            0x8 => Form::Call,
-            0x9 => Form::Exit,
-            _ => Form::Unknown,
-        },
-    }
-}
-
-/// Classes JMP and JMP32 with the source bit.
-fn jump_register(width: Width, code: u8) -> Form
-    ensures { result ≡ jump_register_form width code }
-{
-    match condition_at(code) {
-        Some(condition) => Form::BranchRegister(width, condition),
-        None => Form::Unknown,
-    }
-}
-
-/// What the opcode stands for: the low three bits are the class, in arithmetic and jumps the next is
+/// What each opcode stands for: the low three bits are the class, in arithmetic and jumps the next is
 /// the source bit and the high four are the code (section 3.3).
+static FORMS: [Form; 256] = [
+    Form::Unknown, // 0x00
+    Form::Unknown, // 0x01
+    Form::Unknown, // 0x02
+    Form::Unknown, // 0x03
+    Form::Immediate(Width::W32, Operation::Add), // 0x04
+    Form::Jump, // 0x05
+    Form::LongJump, // 0x06
+    Form::Immediate(Width::W64, Operation::Add), // 0x07
+    Form::Unknown, // 0x08
+    Form::Unknown, // 0x09
+    Form::Unknown, // 0x0a
+    Form::Unknown, // 0x0b
+    Form::Register(Width::W32, Operation::Add), // 0x0c
+    Form::Unknown, // 0x0d
+    Form::Unknown, // 0x0e
+    Form::Register(Width::W64, Operation::Add), // 0x0f
+    Form::Unknown, // 0x10
+    Form::Unknown, // 0x11
+    Form::Unknown, // 0x12
+    Form::Unknown, // 0x13
+    Form::Immediate(Width::W32, Operation::Sub), // 0x14
+    Form::BranchImmediate(Width::W64, Condition::Equal), // 0x15
+    Form::BranchImmediate(Width::W32, Condition::Equal), // 0x16
+    Form::Immediate(Width::W64, Operation::Sub), // 0x17
+    Form::LoadImmediate, // 0x18
+    Form::Unknown, // 0x19
+    Form::Unknown, // 0x1a
+    Form::Unknown, // 0x1b
+    Form::Register(Width::W32, Operation::Sub), // 0x1c
+    Form::BranchRegister(Width::W64, Condition::Equal), // 0x1d
+    Form::BranchRegister(Width::W32, Condition::Equal), // 0x1e
+    Form::Register(Width::W64, Operation::Sub), // 0x1f
+    Form::LeftOut, // 0x20
+    Form::Unknown, // 0x21
+    Form::Unknown, // 0x22
+    Form::Unknown, // 0x23
+    Form::Immediate(Width::W32, Operation::Mul), // 0x24
+    Form::BranchImmediate(Width::W64, Condition::Above), // 0x25
+    Form::BranchImmediate(Width::W32, Condition::Above), // 0x26
+    Form::Immediate(Width::W64, Operation::Mul), // 0x27
+    Form::LeftOut, // 0x28
+    Form::Unknown, // 0x29
+    Form::Unknown, // 0x2a
+    Form::Unknown, // 0x2b
+    Form::Register(Width::W32, Operation::Mul), // 0x2c
+    Form::BranchRegister(Width::W64, Condition::Above), // 0x2d
+    Form::BranchRegister(Width::W32, Condition::Above), // 0x2e
+    Form::Register(Width::W64, Operation::Mul), // 0x2f
+    Form::LeftOut, // 0x30
+    Form::Unknown, // 0x31
+    Form::Unknown, // 0x32
+    Form::Unknown, // 0x33
+    Form::DivideImmediate(Width::W32, Division::Quotient), // 0x34
+    Form::BranchImmediate(Width::W64, Condition::AtLeast), // 0x35
+    Form::BranchImmediate(Width::W32, Condition::AtLeast), // 0x36
+    Form::DivideImmediate(Width::W64, Division::Quotient), // 0x37
+    Form::Unknown, // 0x38
+    Form::Unknown, // 0x39
+    Form::Unknown, // 0x3a
+    Form::Unknown, // 0x3b
+    Form::DivideRegister(Width::W32, Division::Quotient), // 0x3c
+    Form::BranchRegister(Width::W64, Condition::AtLeast), // 0x3d
+    Form::BranchRegister(Width::W32, Condition::AtLeast), // 0x3e
+    Form::DivideRegister(Width::W64, Division::Quotient), // 0x3f
+    Form::LeftOut, // 0x40
+    Form::Unknown, // 0x41
+    Form::Unknown, // 0x42
+    Form::Unknown, // 0x43
+    Form::Immediate(Width::W32, Operation::Or), // 0x44
+    Form::BranchImmediate(Width::W64, Condition::AnyBit), // 0x45
+    Form::BranchImmediate(Width::W32, Condition::AnyBit), // 0x46
+    Form::Immediate(Width::W64, Operation::Or), // 0x47
+    Form::LeftOut, // 0x48
+    Form::Unknown, // 0x49
+    Form::Unknown, // 0x4a
+    Form::Unknown, // 0x4b
+    Form::Register(Width::W32, Operation::Or), // 0x4c
+    Form::BranchRegister(Width::W64, Condition::AnyBit), // 0x4d
+    Form::BranchRegister(Width::W32, Condition::AnyBit), // 0x4e
+    Form::Register(Width::W64, Operation::Or), // 0x4f
+    Form::LeftOut, // 0x50
+    Form::Unknown, // 0x51
+    Form::Unknown, // 0x52
+    Form::Unknown, // 0x53
+    Form::Immediate(Width::W32, Operation::And), // 0x54
+    Form::BranchImmediate(Width::W64, Condition::NotEqual), // 0x55
+    Form::BranchImmediate(Width::W32, Condition::NotEqual), // 0x56
+    Form::Immediate(Width::W64, Operation::And), // 0x57
+    Form::Unknown, // 0x58
+    Form::Unknown, // 0x59
+    Form::Unknown, // 0x5a
+    Form::Unknown, // 0x5b
+    Form::Register(Width::W32, Operation::And), // 0x5c
+    Form::BranchRegister(Width::W64, Condition::NotEqual), // 0x5d
+    Form::BranchRegister(Width::W32, Condition::NotEqual), // 0x5e
+    Form::Register(Width::W64, Operation::And), // 0x5f
+    Form::Unknown, // 0x60
+    Form::Load(Size::Word), // 0x61
+    Form::StoreImmediate(Size::Word), // 0x62
+    Form::StoreRegister(Size::Word), // 0x63
+    Form::Immediate(Width::W32, Operation::ShiftLeft), // 0x64
+    Form::BranchImmediate(Width::W64, Condition::SignedAbove), // 0x65
+    Form::BranchImmediate(Width::W32, Condition::SignedAbove), // 0x66
+    Form::Immediate(Width::W64, Operation::ShiftLeft), // 0x67
+    Form::Unknown, // 0x68
+    Form::Load(Size::Half), // 0x69
+    Form::StoreImmediate(Size::Half), // 0x6a
+    Form::StoreRegister(Size::Half), // 0x6b
+    Form::Register(Width::W32, Operation::ShiftLeft), // 0x6c
+    Form::BranchRegister(Width::W64, Condition::SignedAbove), // 0x6d
+    Form::BranchRegister(Width::W32, Condition::SignedAbove), // 0x6e
+    Form::Register(Width::W64, Operation::ShiftLeft), // 0x6f
+    Form::Unknown, // 0x70
+    Form::Load(Size::Byte), // 0x71
+    Form::StoreImmediate(Size::Byte), // 0x72
+    Form::StoreRegister(Size::Byte), // 0x73
+    Form::Immediate(Width::W32, Operation::ShiftRight), // 0x74
+    Form::BranchImmediate(Width::W64, Condition::SignedAtLeast), // 0x75
+    Form::BranchImmediate(Width::W32, Condition::SignedAtLeast), // 0x76
+    Form::Immediate(Width::W64, Operation::ShiftRight), // 0x77
+    Form::Unknown, // 0x78
+    Form::Load(Size::Double), // 0x79
+    Form::StoreImmediate(Size::Double), // 0x7a
+    Form::StoreRegister(Size::Double), // 0x7b
+    Form::Register(Width::W32, Operation::ShiftRight), // 0x7c
+    Form::BranchRegister(Width::W64, Condition::SignedAtLeast), // 0x7d
+    Form::BranchRegister(Width::W32, Condition::SignedAtLeast), // 0x7e
+    Form::Register(Width::W64, Operation::ShiftRight), // 0x7f
+    Form::Unknown, // 0x80
+    Form::LoadSigned(Narrow::Word), // 0x81
+    Form::Unknown, // 0x82
+    Form::Unknown, // 0x83
+    Form::Negate(Width::W32), // 0x84
+    Form::Call, // 0x85
+    Form::Unknown, // 0x86
+    Form::Negate(Width::W64), // 0x87
+    Form::Unknown, // 0x88
+    Form::LoadSigned(Narrow::Half), // 0x89
+    Form::Unknown, // 0x8a
+    Form::Unknown, // 0x8b
+    Form::Unknown, // 0x8c
+    Form::Unknown, // 0x8d
+    Form::Unknown, // 0x8e
+    Form::Unknown, // 0x8f
+    Form::Unknown, // 0x90
+    Form::LoadSigned(Narrow::Byte), // 0x91
+    Form::Unknown, // 0x92
+    Form::Unknown, // 0x93
+    Form::DivideImmediate(Width::W32, Division::Remainder), // 0x94
+    Form::Exit, // 0x95
+    Form::Unknown, // 0x96
+    Form::DivideImmediate(Width::W64, Division::Remainder), // 0x97
+    Form::Unknown, // 0x98
+    Form::Unknown, // 0x99
+    Form::Unknown, // 0x9a
+    Form::Unknown, // 0x9b
+    Form::DivideRegister(Width::W32, Division::Remainder), // 0x9c
+    Form::Unknown, // 0x9d
+    Form::Unknown, // 0x9e
+    Form::DivideRegister(Width::W64, Division::Remainder), // 0x9f
+    Form::Unknown, // 0xa0
+    Form::Unknown, // 0xa1
+    Form::Unknown, // 0xa2
+    Form::Unknown, // 0xa3
+    Form::Immediate(Width::W32, Operation::Xor), // 0xa4
+    Form::BranchImmediate(Width::W64, Condition::Below), // 0xa5
+    Form::BranchImmediate(Width::W32, Condition::Below), // 0xa6
+    Form::Immediate(Width::W64, Operation::Xor), // 0xa7
+    Form::Unknown, // 0xa8
+    Form::Unknown, // 0xa9
+    Form::Unknown, // 0xaa
+    Form::Unknown, // 0xab
+    Form::Register(Width::W32, Operation::Xor), // 0xac
+    Form::BranchRegister(Width::W64, Condition::Below), // 0xad
+    Form::BranchRegister(Width::W32, Condition::Below), // 0xae
+    Form::Register(Width::W64, Operation::Xor), // 0xaf
+    Form::Unknown, // 0xb0
+    Form::Unknown, // 0xb1
+    Form::Unknown, // 0xb2
+    Form::Unknown, // 0xb3
+    Form::Immediate(Width::W32, Operation::Move), // 0xb4
+    Form::BranchImmediate(Width::W64, Condition::AtMost), // 0xb5
+    Form::BranchImmediate(Width::W32, Condition::AtMost), // 0xb6
+    Form::Immediate(Width::W64, Operation::Move), // 0xb7
+    Form::Unknown, // 0xb8
+    Form::Unknown, // 0xb9
+    Form::Unknown, // 0xba
+    Form::Unknown, // 0xbb
+    Form::MoveRegister(Width::W32), // 0xbc
+    Form::BranchRegister(Width::W64, Condition::AtMost), // 0xbd
+    Form::BranchRegister(Width::W32, Condition::AtMost), // 0xbe
+    Form::MoveRegister(Width::W64), // 0xbf
+    Form::Unknown, // 0xc0
+    Form::Unknown, // 0xc1
+    Form::Unknown, // 0xc2
+    Form::LeftOut, // 0xc3
+    Form::Immediate(Width::W32, Operation::ArithmeticShiftRight), // 0xc4
+    Form::BranchImmediate(Width::W64, Condition::SignedBelow), // 0xc5
+    Form::BranchImmediate(Width::W32, Condition::SignedBelow), // 0xc6
+    Form::Immediate(Width::W64, Operation::ArithmeticShiftRight), // 0xc7
+    Form::Unknown, // 0xc8
+    Form::Unknown, // 0xc9
+    Form::Unknown, // 0xca
+    Form::Unknown, // 0xcb
+    Form::Register(Width::W32, Operation::ArithmeticShiftRight), // 0xcc
+    Form::BranchRegister(Width::W64, Condition::SignedBelow), // 0xcd
+    Form::BranchRegister(Width::W32, Condition::SignedBelow), // 0xce
+    Form::Register(Width::W64, Operation::ArithmeticShiftRight), // 0xcf
+    Form::Unknown, // 0xd0
+    Form::Unknown, // 0xd1
+    Form::Unknown, // 0xd2
+    Form::Unknown, // 0xd3
+    Form::Swap(ByteOrder::Little), // 0xd4
+    Form::BranchImmediate(Width::W64, Condition::SignedAtMost), // 0xd5
+    Form::BranchImmediate(Width::W32, Condition::SignedAtMost), // 0xd6
+    Form::Swap(ByteOrder::Reversed), // 0xd7
+    Form::Unknown, // 0xd8
+    Form::Unknown, // 0xd9
+    Form::Unknown, // 0xda
+    Form::LeftOut, // 0xdb
+    Form::Swap(ByteOrder::Big), // 0xdc
+    Form::BranchRegister(Width::W64, Condition::SignedAtMost), // 0xdd
+    Form::BranchRegister(Width::W32, Condition::SignedAtMost), // 0xde
+    Form::Unknown, // 0xdf
+    Form::Unknown, // 0xe0
+    Form::Unknown, // 0xe1
+    Form::Unknown, // 0xe2
+    Form::Unknown, // 0xe3
+    Form::Unknown, // 0xe4
+    Form::Unknown, // 0xe5
+    Form::Unknown, // 0xe6
+    Form::Unknown, // 0xe7
+    Form::Unknown, // 0xe8
+    Form::Unknown, // 0xe9
+    Form::Unknown, // 0xea
+    Form::Unknown, // 0xeb
+    Form::Unknown, // 0xec
+    Form::Unknown, // 0xed
+    Form::Unknown, // 0xee
+    Form::Unknown, // 0xef
+    Form::Unknown, // 0xf0
+    Form::Unknown, // 0xf1
+    Form::Unknown, // 0xf2
+    Form::Unknown, // 0xf3
+    Form::Unknown, // 0xf4
+    Form::Unknown, // 0xf5
+    Form::Unknown, // 0xf6
+    Form::Unknown, // 0xf7
+    Form::Unknown, // 0xf8
+    Form::Unknown, // 0xf9
+    Form::Unknown, // 0xfa
+    Form::Unknown, // 0xfb
+    Form::Unknown, // 0xfc
+    Form::Unknown, // 0xfd
+    Form::Unknown, // 0xfe
+    Form::Unknown, // 0xff
+];
+
+/// What the opcode stands for.
 #[inline(always)]
 pub fn form_at(opcode: u8) -> Form
     ensures form { result ≡ form_of opcode }
     ensures opcode { IsOpcode result opcode }
 {
-    let code = opcode / 16;
-    match opcode % 16 {
-        0x0 | 0x8 => wide(opcode),
-        0x1 | 0x9 => load(opcode),
-        0x2 | 0xa => store_immediate(opcode),
-        0x3 | 0xb => store_register(opcode),
-        0x4 => by_immediate(Width::W32, code),
-        0x5 => jump(Width::W64, code),
-        0x6 => jump(Width::W32, code),
-        0x7 => by_immediate(Width::W64, code),
-        0xc => by_register(Width::W32, code),
-        0xd => jump_register(Width::W64, code),
-        0xe => jump_register(Width::W32, code),
-        _ => by_register(Width::W64, code),
-    }
+    FORMS[opcode as usize]
 }

@@ -5,7 +5,7 @@ ghost use Rattle.codec.specs.Spelling.{spelling, jump_class, condition_code};
 ghost use Rattle.codec.specs.Reading.{checks_of, first_fault};
 
 use crate::fault::Fault;
-use crate::fields::{Fields, used};
+use crate::fields::{Fields, alone, used};
 use insn::{Insn, Operand};
 use word::{Condition, Width};
 
@@ -45,10 +45,7 @@ pub fn branch_immediate(width: Width, condition: Condition, fields: Fields) -> R
     ensures fault { (behind : List ℕ) →
         IfErr result (λ e. first_fault (checks_of (forms.BranchImmediate width condition) fields behind) ≡ Some e) }
 {
-    let dst = used(fields.dst)?;
-    if fields.src != 0 {
-        return Err(Fault::Reserved);
-    }
+    let dst = alone(fields)?;
     Ok(Insn::Branch {
         width,
         condition,

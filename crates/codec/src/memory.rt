@@ -5,7 +5,7 @@ ghost use Rattle.codec.specs.Spelling.{spelling, size_code, part_code};
 ghost use Rattle.codec.specs.Reading.{checks_of, first_fault, fields_of};
 
 use crate::fault::Fault;
-use crate::fields::{Fields, read_fields, used};
+use crate::fields::{Fields, alone, read_fields, used};
 use insn::{Insn, Operand, Size};
 use word::Narrow;
 
@@ -56,10 +56,7 @@ pub fn store_immediate(size: Size, fields: Fields) -> Result<Insn, Fault>
     ensures fault { (behind : List ℕ) →
         IfErr result (λ e. first_fault (checks_of (forms.StoreImmediate size) fields behind) ≡ Some e) }
 {
-    let base = used(fields.dst)?;
-    if fields.src != 0 {
-        return Err(Fault::Reserved);
-    }
+    let base = alone(fields)?;
     Ok(Insn::Store {
         size,
         base,

@@ -1,5 +1,4 @@
 use Rattle.std.proofs.Common.{◌∙◌}
-use Rattle.insn.proofs.WellLemmas.{insns_well}
 use Rattle.codec.proofs.ProgramLaws.{whole_units, one_program, none_answered}
 use Rattle.codec.proofs.decoder.decode.Goals as goal
 
@@ -12,7 +11,4 @@ returns-in_err-instructions-clause-only c = λ p spelled.
 
 pub returns-clause-only : goal.returns-clause-only
 returns-clause-only c = λ p spelled.
-    c.in_ok-new.ensures ∙ one_program c.args.bytes.now c.in_ok-instructions.field-0.items p c.in_ok-instructions.ensures.found spelled
-
-pub new-requires-clause-well : goal.new-requires-clause-well
-new-requires-clause-well c = insns_well c.in_ok-instructions.field-0.items c.in_ok-instructions.ensures.found.well_formed
+    c.in_ok-of_units.ensures ∙ one_program c.args.bytes.now c.in_ok-instructions.field-0.items p c.in_ok-instructions.ensures.found spelled
