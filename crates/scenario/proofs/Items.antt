@@ -15,7 +15,7 @@ items_length_view (v ∷ vs) = ap suc (items_length_view vs)
 
 -- a failing first part fails the whole
 pub fails_on : {A B : Type 0} (e : ScenarioError) (r : Result A Flaw) (f : A → Result B Flaw) → Fails e r → Fails e (r >>= f)
-fails_on errors.Memory r f h = tt
+fails_on errors.Memory r f h = absurd h
 fails_on errors.Toml r f h = absurd h
 fails_on (errors.Program g v) r f h = absurd h
 fails_on (errors.Unknown i k) r f h = rw h refl

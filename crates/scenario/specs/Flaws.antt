@@ -16,9 +16,8 @@ abbrev pub ◌>>=◌ : {A B : Type 0} → Result A Flaw → (A → Result B Flaw
 (Ok x) >>= f = f x
 (Err e) >>= f = Err e
 
--- an error tells what the checks found, unless memory ran out
+-- an error tells what the checks found: want of memory never does
 abbrev pub Fails : {Y : Type 0} → ScenarioError → Result Y Flaw → Type 0
-Fails errors.Memory read = Unit {0}
 Fails (errors.Unknown at key) read = read ≡ Err (unknown at (string_bytes key))
 Fails (errors.At fault place) read = read ≡ Err (faulty fault place)
 Fails _ read = ⊥
@@ -27,3 +26,8 @@ Fails _ read = ⊥
 abbrev pub Gives : {X Y : Type 0} → (X → Y) → Result X ScenarioError → Result Y Flaw → Type 0
 Gives view (Ok x) read = read ≡ Ok (view x)
 Gives view (Err e) read = Fails e read
+
+-- the answer, or that memory was refused
+abbrev pub OrMemory : {X : Type 0} → (Result X ScenarioError → Type 0) → Result X ScenarioError → Type 0
+OrMemory IsAnswer (Err errors.Memory) = Unit {0}
+OrMemory IsAnswer r = IsAnswer r

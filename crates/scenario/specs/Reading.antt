@@ -19,7 +19,7 @@ use Rattle.scenario.specs.declared.fault.ProgramFault.{ProgramFault}
 use Rattle.scenario.specs.declared.fault.ProgramFault.TheVariants as faults
 use Rattle.scenario.specs.declared.fault.ScenarioError.{ScenarioError}
 use Rattle.scenario.specs.declared.fault.ScenarioError.TheVariants as errors
-use Rattle.scenario.specs.Flaws.{Flaw, Fails}
+use Rattle.scenario.specs.Flaws.{Flaw, Fails, OrMemory}
 use Rattle.scenario.specs.Checks.{Head, head, tables}
 use Rattle.scenario.specs.Tables.{Source, Assembly, Hex, Table, Seats, table}
 
@@ -42,12 +42,11 @@ IsFaultOf _ _ = ⊥
 abbrev pub TableGives : Result Table Flaw → Result (ℕ × List Insn) ScenarioError → Type 0
 TableGives (Ok t) (Ok seated) = (seated.0 ≡ t.general) × IsProgramOf t.source seated.1 × (judged seated.1 ≡ None)
 TableGives (Ok t) (Err (errors.Program g fault)) = (g ≡ t.general) × IsFaultOf fault t.source
-TableGives (Ok t) (Err errors.Memory) = Unit {0}
 TableGives (Ok t) (Err _) = ⊥
 TableGives (Err flaw) (Ok seated) = ⊥
 TableGives (Err flaw) (Err e) = Fails {Y = Table} e (Err flaw)
 
--- an error tells what was found, unless memory ran out
+-- an error tells what was found
 abbrev pub Stopped : {X : Type 0} → Result Table Flaw → Result X ScenarioError → Type 0
 Stopped read (Ok x) = ⊥
 Stopped read (Err e) = TableGives read (Err e)
@@ -55,8 +54,7 @@ Stopped read (Err e) = TableGives read (Err e)
 -- the tables from this one on: one of them stops, or each seats its general, and then the answer is what is made of the
 -- seats
 abbrev pub Answers : {X : Type 0} → (Seats → X) → ℕ → ℕ → Seats → Items → Result X ScenarioError → Type 0
-Answers made n i seats no_items (Ok x) = x ≡ made seats
-Answers made n i seats no_items (Err e) = e ≡ errors.Memory
+Answers made n i seats no_items r = r ≡ Ok (made seats)
 Answers made n i seats (item d ds) r =
     Stopped (table n seats i d) r
     ⊎ ((seated : ℕ × List Insn) × TableGives (table n seats i d) (Ok seated)
@@ -101,21 +99,19 @@ Headed made (Err flaw) ms (Ok x) = ⊥
 Headed made (Err flaw) ms (Err e) = Fails {Y = Head} e (Err flaw)
 
 -- the answer to a text: what is made of the head and the seats that its table tells, or the first fault, in the table's
--- order; no other answer but want of memory
+-- order
 abbrev pub Answered : {X : Type 0} → (Head → Seats → X) → (Members → Result Head Flaw) → Option Members →
     Result X ScenarioError → Type 0
-Answered made head_of None (Err errors.Toml) = Unit {0}
-Answered made head_of None (Err errors.Memory) = Unit {0}
-Answered made head_of None _ = ⊥
+Answered made head_of None r = r ≡ Err errors.Toml
 Answered made head_of (Some ms) r = Headed made (head_of ms) ms r
 
--- the answer to a text of an oral campaign: its scenario, or the first fault
+-- the answer to a text of an oral campaign: its scenario, or the first fault; or memory was refused
 abbrev pub Reads : Option Members → Result Scenario ScenarioError → Type 0
-Reads parsed r = Answered scenario_of (head OralAlone) parsed r
+Reads parsed r = OrMemory (Answered scenario_of (head OralAlone) parsed) r
 
--- the answer to a text of an oral or a signed campaign
+-- the answer to a text of an oral or a signed campaign, likewise
 abbrev pub ReadsAny : Option Members → Result Campaign ScenarioError → Type 0
-ReadsAny parsed r = Answered campaign_of (head Both) parsed r
+ReadsAny parsed r = OrMemory (Answered campaign_of (head Both) parsed) r
 
 -- the text tells the scenario
 abbrev pub Tells : List ℕ → Scenario → Type 0

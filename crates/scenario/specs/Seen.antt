@@ -28,7 +28,6 @@ source_of (written.Code text) = Hex text.now
 abbrev pub Makes : ℕ → Source → Result (List Insn) ScenarioError → Type 0
 Makes g source (Ok program) = IsProgramOf source program
 Makes g source (Err (errors.Program h fault)) = (h ≡ g) × IsFaultOf fault source
-Makes g source (Err errors.Memory) = Unit {0}
 Makes g source (Err _) = ⊥
 
 -- the program, accepted, or why it is not
@@ -36,7 +35,6 @@ abbrev pub Accepts : ℕ → List Insn → Result (List Insn) ScenarioError → 
 Accepts g program (Ok accepted) = (accepted ≡ program) × (judged program ≡ None)
 Accepts g program (Err (errors.Program h (Verifier reason unit))) =
     (h ≡ g) × (judged program ≡ Some (verifier.At reason unit))
-Accepts g program (Err errors.Memory) = Unit {0}
 Accepts g program (Err _) = ⊥
 
 -- the error that tells of the assembler's, of the hex text's, of the decoder's and of the verifier's: memory of memory

@@ -1,11 +1,11 @@
 //! The values of single keys, each the value or the first fault of its checks.
 
-ghost use Rattle.std.specs.Prelude.{◌≡◌, ◌≢◌, ℕ, ◌≤◌, ◌<◌, ◌^◌, option_map, IfOk, IfSome, IfErr, MatchResult};
+ghost use Rattle.std.specs.Prelude.{◌≡◌, ℕ, ◌≤◌, ◌<◌, ◌^◌, option_map, IfOk, IfSome, MatchResult};
 ghost use Rattle.toml.specs.Data.{get_member};
 ghost use Rattle.toml.specs.View.{view, table_view, array_view, items_view};
 ghost use Rattle.scenario.specs.Names.{is_top_key, is_entry_key, text_of};
 ghost use Rattle.scenario.specs.Checks.{first_unknown, known, required, whole, elements, natural, number, optional_number, general};
-ghost use Rattle.scenario.specs.Flaws.{Gives};
+ghost use Rattle.scenario.specs.Flaws.{Gives, OrMemory};
 ghost use Rattle.scenario.specs.declared.fault.ScenarioError.TheVariants.{Unknown, Memory};
 
 use crate::fault::{Fault, ScenarioError};
@@ -68,7 +68,7 @@ fn unknown(at: Option<usize>, key: Result<String, AllocError>) -> ScenarioError
 }
 
 fn refuse_unknown(alloc: Global, at: Option<usize>, key: Option<&str>) -> Result<(), ScenarioError>
-    ensures { Gives (λ _. tt) result (known at (option_map (λ k. k.now) key.entry)) }
+    ensures { OrMemory (λ r. Gives (λ _. tt) r (known at (option_map (λ k. k.now) key.entry))) result }
 {
     match key {
         None => Ok(()),
@@ -78,14 +78,15 @@ fn refuse_unknown(alloc: Global, at: Option<usize>, key: Option<&str>) -> Result
 
 /// All keys at the top are known.
 pub fn top_is_known(alloc: Global, table: &Table) -> Result<(), ScenarioError>
-    ensures { Gives (λ _. tt) result (known None (first_unknown is_top_key (table_view table.now))) }
+    ensures { OrMemory (λ r. Gives (λ _. tt) r (known None (first_unknown is_top_key (table_view table.now)))) result }
 {
     refuse_unknown(alloc, None, first_unknown_at_top(table))
 }
 
 /// All keys of the traitor's table are known.
 pub fn entry_is_known(alloc: Global, index: usize, table: &Table) -> Result<(), ScenarioError>
-    ensures { Gives (λ _. tt) result (known (Some index) (first_unknown is_entry_key (table_view table.now))) }
+    ensures { OrMemory (λ r. Gives (λ _. tt) r
+        (known (Some index) (first_unknown is_entry_key (table_view table.now)))) result }
 {
     refuse_unknown(alloc, Some(index), first_unknown_in_entry(table))
 }
@@ -99,8 +100,7 @@ pub fn at<'a>(table: &'a Table, name: Name) -> Option<&'a Value>
 
 /// The value of a required key.
 fn required(place: Place, value: Option<&Value>) -> Result<&Value, ScenarioError>
-    ensures value { Gives (λ v. view v.now) result (required place (option_map (λ v. view v.now) value.entry)) }
-    ensures fault { IfErr result (λ e. e ≢ Memory) }
+    ensures { Gives (λ v. view v.now) result (required place (option_map (λ v. view v.now) value.entry)) }
 {
     match value {
         Some(value) => Ok(value),
@@ -110,8 +110,7 @@ fn required(place: Place, value: Option<&Value>) -> Result<&Value, ScenarioError
 
 /// An integer.
 pub fn whole(place: Place, value: &Value) -> Result<i64, ScenarioError>
-    ensures value { Gives (λ z. z) result (whole place (view value.now)) }
-    ensures fault { IfErr result (λ e. e ≢ Memory) }
+    ensures { Gives (λ z. z) result (whole place (view value.now)) }
 {
     match value.as_integer() {
         Some(integer) => Ok(integer),
@@ -121,8 +120,7 @@ pub fn whole(place: Place, value: &Value) -> Result<i64, ScenarioError>
 
 /// The elements of an array.
 pub fn elements(place: Place, value: &Value) -> Result<&[Value], ScenarioError>
-    ensures value { Gives (λ a. items_view a.now) result (elements place (view value.now)) }
-    ensures fault { IfErr result (λ e. e ≢ Memory) }
+    ensures { Gives (λ a. items_view a.now) result (elements place (view value.now)) }
 {
     match value.as_array() {
         Some(array) => Ok(array.as_slice()),
@@ -132,8 +130,7 @@ pub fn elements(place: Place, value: &Value) -> Result<&[Value], ScenarioError>
 
 /// An integer that is not below 0.
 pub fn natural(fault: Fault, place: Place, integer: i64) -> Result<u64, ScenarioError>
-    ensures value { Gives (λ n. n) result (natural fault place integer) }
-    ensures fault { IfErr result (λ e. e ≢ Memory) }
+    ensures { Gives (λ n. n) result (natural fault place integer) }
 {
     match u64::try_from(integer) {
         Ok(number) => Ok(number),
@@ -151,7 +148,6 @@ pub fn number(
 ) -> Result<u32, ScenarioError>
     ensures value { Gives (λ n. n) result (number place least most (option_map (λ v. view v.now) value.entry)) }
     ensures within { IfOk result (λ n. (least ≤ n) × (n ≤ most)) }
-    ensures fault { IfErr result (λ e. e ≢ Memory) }
 {
     let value = required(place, value)?;
     let integer = whole(place, value)?;
@@ -173,7 +169,6 @@ pub fn optional_number(
     ensures value { Gives (λ n. n) result
         (optional_number place least most (option_map (λ v. view v.now) value.entry)) }
     ensures within { IfOk result (λ o. IfSome o (λ n. (least ≤ n) × (n ≤ most))) }
-    ensures fault { IfErr result (λ e. e ≢ Memory) }
 {
     match value {
         None => Ok(None),
@@ -191,7 +186,6 @@ pub fn general(
 ) -> Result<u8, ScenarioError>
     ensures value { Gives (λ n. n) result (general place low generals (option_map (λ v. view v.now) value.entry)) }
     ensures small { IfOk result (λ g. g < generals) }
-    ensures fault { IfErr result (λ e. e ≢ Memory) }
 {
     let value = required(place, value)?;
     let integer = whole(place, value)?;

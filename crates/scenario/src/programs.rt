@@ -1,5 +1,6 @@
 //! The traitors' programs, assembled or decoded, and verified.
 ghost use Rattle.std.specs.Prelude.{◌≡◌};
+ghost use Rattle.scenario.specs.Flaws.{OrMemory};
 ghost use Rattle.scenario.specs.Tables.{Assembly, Hex};
 ghost use Rattle.scenario.specs.Seen.{source_of, Makes, Accepts, unassembled, unhexed, undecoded, unverified};
 
@@ -22,7 +23,7 @@ pub enum Written<'a> {
 
 /// The program that assembly says.
 fn said(alloc: Global, general: u8, text: &str) -> Result<Program, ScenarioError>
-    ensures { Makes general (Assembly text.now) result }
+    ensures { OrMemory (Makes general (Assembly text.now)) result }
 {
     match assemble(alloc, text) {
         Ok(program) => Ok(program),
@@ -44,7 +45,7 @@ fn unassembled(general: u8, error: AsmError) -> ScenarioError
 
 /// The program that bytes in hex spell.
 fn spelled(alloc: Global, general: u8, text: &str) -> Result<Program, ScenarioError>
-    ensures { Makes general (Hex text.now) result }
+    ensures { OrMemory (Makes general (Hex text.now)) result }
 {
     let bytes = match hex::decode(alloc, text) {
         Ok(bytes) => bytes,
@@ -82,7 +83,7 @@ fn undecoded(general: u8, error: CodecError) -> ScenarioError
 
 /// The program of a table.
 pub fn program(alloc: Global, general: u8, written: Written<'_>) -> Result<Program, ScenarioError>
-    ensures { Makes general (source_of written.entry) result }
+    ensures { OrMemory (Makes general (source_of written.entry)) result }
 {
     match written {
         Written::Asm(text) => said(alloc, general, text),
@@ -92,7 +93,7 @@ pub fn program(alloc: Global, general: u8, written: Written<'_>) -> Result<Progr
 
 /// The program, where the verifier accepts it.
 pub fn accepted(alloc: Global, general: u8, program: Program) -> Result<Verified, ScenarioError>
-    ensures { Accepts general program result }
+    ensures { OrMemory (Accepts general program) result }
 {
     match verify(alloc, program) {
         Ok(verified) => Ok(verified),

@@ -1,8 +1,8 @@
 //! Scenarios, read from their text.
-ghost use Rattle.std.specs.Prelude.{◌≡◌, ◌≢◌, ◌-◌, ◌≤◌, min, length, replicate, option_map, None, Some, IfOk, OnOk, MatchBool, MatchResult, IfErr};
+ghost use Rattle.std.specs.Prelude.{◌≡◌, ◌-◌, ◌≤◌, min, length, replicate, option_map, None, Some, IfOk, OnOk, MatchBool, MatchResult};
 ghost use Rattle.toml.specs.Parse.{parse_document};
 ghost use Rattle.toml.specs.View.{view, table_view, items_view};
-ghost use Rattle.scenario.specs.Flaws.{Gives};
+ghost use Rattle.scenario.specs.Flaws.{Gives, OrMemory};
 ghost use Rattle.scenario.specs.Checks.{head, rule_by_name, rule, messages_by_name, messages, fitting, tables};
 ghost use Rattle.scenario.specs.Reading.{Answers, scenario_of, campaign_by, unseated, Reads, ReadsAny};
 ghost use Rattle.scenario.specs.declared.fault.ScenarioError.TheVariants.{Memory, Toml};
@@ -23,8 +23,7 @@ use verify::Verified;
 
 /// The rule that a text names.
 fn rule_by_name(text: &str) -> Result<Rule, ScenarioError>
-    ensures value { Gives (λ r. r) result (rule_by_name text.now) }
-    ensures fault { IfErr result (λ e. e ≢ Memory) }
+    ensures { Gives (λ r. r) result (rule_by_name text.now) }
 {
     match Rule::named(text.as_bytes()) {
         Some(rule) => Ok(rule),
@@ -35,8 +34,7 @@ fn rule_by_name(text: &str) -> Result<Rule, ScenarioError>
 /// The rule, or what is so where there is no key.
 #[tactic(auto, unfolding(crate::specs::Checks::rule))]
 fn rule(value: Option<&Value>) -> Result<Rule, ScenarioError>
-    ensures value { Gives (λ r. r) result (rule (option_map (λ v. view v.now) value.entry)) }
-    ensures fault { IfErr result (λ e. e ≢ Memory) }
+    ensures { Gives (λ r. r) result (rule (option_map (λ v. view v.now) value.entry)) }
 {
     let Some(value) = value else {
         return Ok(Rule::DEFAULT);
@@ -49,8 +47,7 @@ fn rule(value: Option<&Value>) -> Result<Rule, ScenarioError>
 
 /// How orders are sent, as a text names it.
 fn messages_by_name(kinds: Kinds, text: &str) -> Result<Messages, ScenarioError>
-    ensures value { Gives (λ m. m) result (messages_by_name kinds text.now) }
-    ensures fault { IfErr result (λ e. e ≢ Memory) }
+    ensures { Gives (λ m. m) result (messages_by_name kinds text.now) }
 {
     match kinds {
         Kinds::OralAlone | Kinds::Both if text == "oral" => Ok(Messages::Oral),
@@ -64,8 +61,7 @@ fn messages_by_name(kinds: Kinds, text: &str) -> Result<Messages, ScenarioError>
 /// How orders are sent, orally where there is no key.
 #[tactic(auto, unfolding(crate::specs::Checks::messages))]
 fn messages(kinds: Kinds, value: Option<&Value>) -> Result<Messages, ScenarioError>
-    ensures value { Gives (λ m. m) result (messages kinds (option_map (λ v. view v.now) value.entry)) }
-    ensures fault { IfErr result (λ e. e ≢ Memory) }
+    ensures { Gives (λ m. m) result (messages kinds (option_map (λ v. view v.now) value.entry)) }
 {
     let Some(value) = value else {
         return Ok(Messages::Oral);
@@ -78,8 +74,7 @@ fn messages(kinds: Kinds, value: Option<&Value>) -> Result<Messages, ScenarioErr
 
 /// A signed campaign has no rule.
 fn fitting(messages: Messages, rule: Option<&Value>) -> Result<(), ScenarioError>
-    ensures value { Gives (λ _. tt) result (fitting messages (option_map (λ v. view v.now) rule.entry)) }
-    ensures fault { IfErr result (λ e. e ≢ Memory) }
+    ensures { Gives (λ _. tt) result (fitting messages (option_map (λ v. view v.now) rule.entry)) }
 {
     match (messages, rule) {
         (Messages::Signed, Some(_)) => {
@@ -99,7 +94,7 @@ fn greatest_bound(generals: u8) -> u8
 /// All but the traitors, for a reader of these kinds.
 #[tactic(auto, unfolding(crate::specs::Checks::head))]
 fn head(alloc: Global, table: &Table, kinds: Kinds) -> Result<Head, ScenarioError>
-    ensures { Gives (λ h. h) result (head kinds (table_view table.now)) }
+    ensures { OrMemory (λ r. Gives (λ h. h) r (head kinds (table_view table.now))) result }
 {
     top_is_known(alloc, table)?;
     let generals = number(Place::Key(Name::Generals), 2, 13, at(table, Name::Generals))? as u8;
@@ -133,8 +128,7 @@ fn head(alloc: Global, table: &Table, kinds: Kinds) -> Result<Head, ScenarioErro
 /// The traitors' tables, none where the key is absent.
 #[tactic(auto, unfolding(crate::specs::Checks::tables))]
 fn tables(value: Option<&Value>) -> Result<&[Value], ScenarioError>
-    ensures value { Gives (λ t. items_view t.now) result (tables (option_map (λ v. view v.now) value.entry)) }
-    ensures fault { IfErr result (λ e. e ≢ Memory) }
+    ensures { Gives (λ t. items_view t.now) result (tables (option_map (λ v. view v.now) value.entry)) }
 {
     match value {
         None => Ok(&[]),
@@ -162,7 +156,7 @@ fn seat_of(alloc: Global, program: Verified) -> Result<Seat, ScenarioError>
 
 /// The scenario with the tables' traitors in their seats.
 fn seated(alloc: Global, head: Head, values: &[Value]) -> Result<Scenario, ScenarioError>
-    ensures { Answers (scenario_of head) head.generals 0 (unseated head) (items_view values.now) result }
+    ensures { OrMemory (Answers (scenario_of head) head.generals 0 (unseated head) (items_view values.now)) result }
 {
     let Head {
         generals,

@@ -1,13 +1,12 @@
 //! The traitors' tables, one after the other.
-ghost use Rattle.std.specs.Prelude.{◌≡◌, ◌≢◌, ◌<◌, ◌≤◌, ℕ, not, None, Some, Ok, option_map, ok_or, IfOk, length, replicate, IfErr};
+ghost use Rattle.std.specs.Prelude.{◌≡◌, ◌<◌, ◌≤◌, ℕ, not, None, Some, Ok, option_map, ok_or, IfOk, length, replicate};
 ghost use Rattle.toml.specs.Data.{as_table};
 ghost use Rattle.toml.specs.View.{view, items_view, table_view};
 ghost use Rattle.scenario.specs.Checks.{test};
-ghost use Rattle.scenario.specs.Flaws.{Gives, faulty};
+ghost use Rattle.scenario.specs.Flaws.{Gives, OrMemory, faulty};
 ghost use Rattle.scenario.specs.Tables.{is_seated, source, table_in, table};
 ghost use Rattle.scenario.specs.Reading.{TableGives};
 ghost use Rattle.scenario.specs.Seen.{source_of};
-ghost use Rattle.scenario.specs.declared.fault.ScenarioError.TheVariants.{Memory};
 
 use crate::fault::{Fault, ScenarioError};
 use crate::keys::{at, entry_is_known, general};
@@ -25,9 +24,8 @@ fn written<'a>(
     asm: Option<&'a Value>,
     code: Option<&'a Value>,
 ) -> Result<Written<'a>, ScenarioError>
-    ensures value { Gives source_of result
+    ensures { Gives source_of result
         (source index (option_map (λ v. view v.now) asm.entry) (option_map (λ v. view v.now) code.entry)) }
-    ensures fault { IfErr result (λ e. e ≢ Memory) }
 {
     match (asm, code) {
         (Some(asm), None) => match asm.as_str() {
@@ -55,8 +53,7 @@ fn is_seated(seats: &[Seat], general: u8) -> bool
 /// No table before seated the general.
 fn once(place: Place, seats: &[Seat], general: u8) -> Result<(), ScenarioError>
     requires { general < length seats.now }
-    ensures value { Gives (λ _. tt) result (test (not (is_seated seats.now general)) Fault.Twice place) }
-    ensures fault { IfErr result (λ e. e ≢ Memory) }
+    ensures { Gives (λ _. tt) result (test (not (is_seated seats.now general)) Fault.Twice place) }
 {
     if is_seated(seats, general) {
         return Err(ScenarioError::At(Fault::Twice, place));
@@ -66,9 +63,8 @@ fn once(place: Place, seats: &[Seat], general: u8) -> Result<(), ScenarioError>
 
 /// An element of the list, which is a table.
 fn as_table(index: usize, value: &Value) -> Result<&Table, ScenarioError>
-    ensures value { Gives (λ t. table_view t.now) result
+    ensures { Gives (λ t. table_view t.now) result
         (ok_or (as_table (view value.now)) (faulty Fault.Kind (Place.Table index))) }
-    ensures fault { IfErr result (λ e. e ≢ Memory) }
 {
     match value.as_table() {
         Some(table) => Ok(table),
@@ -86,10 +82,10 @@ fn in_table<'a>(
     table: &'a Table,
 ) -> Result<(u8, Written<'a>), ScenarioError>
     requires { length seats.now ≡ generals }
-    ensures gives { Gives (λ t. record {
+    ensures gives { OrMemory (λ r. Gives (λ t. record {
       general = t.0;
       source = source_of t.1;
-    }) result (table_in generals seats.now index (table_view table.now)) }
+    }) r (table_in generals seats.now index (table_view table.now))) result }
     ensures small { IfOk result (λ t. t.0 < generals) }
 {
     entry_is_known(alloc, index, table)?;
@@ -110,10 +106,10 @@ fn table<'a>(
     value: &'a Value,
 ) -> Result<(u8, Written<'a>), ScenarioError>
     requires { length seats.now ≡ generals }
-    ensures gives { Gives (λ t. record {
+    ensures gives { OrMemory (λ r. Gives (λ t. record {
       general = t.0;
       source = source_of t.1;
-    }) result (table generals seats.now index (view value.now)) }
+    }) r (table generals seats.now index (view value.now))) result }
     ensures small { IfOk result (λ t. t.0 < generals) }
 {
     in_table(alloc, generals, seats, index, as_table(index, value)?)
@@ -128,7 +124,7 @@ pub fn traitor(
     value: &Value,
 ) -> Result<(u8, Verified), ScenarioError>
     requires { length seats.now ≡ generals }
-    ensures gives { TableGives (table generals seats.now index (view value.now)) result }
+    ensures gives { OrMemory (TableGives (table generals seats.now index (view value.now))) result }
     ensures small { IfOk result (λ t. t.0 < generals) }
 {
     let (general, written) = table(alloc, generals, seats, index, value)?;

@@ -1,10 +1,9 @@
 //! The words of the board.
 
-ghost use Rattle.std.specs.Prelude.{◌≡◌, ◌≢◌, ℕ, ◌≤◌, length, replicate, option_map, IfErr};
+ghost use Rattle.std.specs.Prelude.{◌≡◌, ℕ, ◌≤◌, length, replicate, option_map};
 ghost use Rattle.toml.specs.View.{view, items_view};
 ghost use Rattle.scenario.specs.Checks.{over, is_integer, word, set_word, board_words, board};
 ghost use Rattle.scenario.specs.Flaws.{Gives};
-ghost use Rattle.scenario.specs.declared.fault.ScenarioError.TheVariants.{Memory};
 
 use crate::fault::{Fault, ScenarioError};
 use crate::keys::{elements, natural, whole};
@@ -12,8 +11,7 @@ use crate::place::{Name, Place};
 use toml::Value;
 
 fn are_integers(values: &[Value]) -> Result<(), ScenarioError>
-    ensures value { Gives (λ _. tt) result (over is_integer 0 tt (items_view values.now)) }
-    ensures fault { IfErr result (λ e. e ≢ Memory) }
+    ensures { Gives (λ _. tt) result (over is_integer 0 tt (items_view values.now)) }
 {
     for index in 0..values.len() {
         whole(Place::Word(index), &values[index])?;
@@ -23,8 +21,7 @@ fn are_integers(values: &[Value]) -> Result<(), ScenarioError>
 
 #[tactic(auto, unfolding(crate::specs::Checks::word))]
 fn word(index: usize, value: &Value) -> Result<u64, ScenarioError>
-    ensures value { Gives (λ n. n) result (word index (view value.now)) }
-    ensures fault { IfErr result (λ e. e ≢ Memory) }
+    ensures { Gives (λ n. n) result (word index (view value.now)) }
 {
     let integer = whole(Place::Word(index), value)?;
     natural(Fault::Range, Place::Word(index), integer)
@@ -32,8 +29,7 @@ fn word(index: usize, value: &Value) -> Result<u64, ScenarioError>
 
 fn words(values: &[Value]) -> Result<[u64; 64], ScenarioError>
     requires { length values.now ≤ 64 }
-    ensures value { Gives (λ ws. ws) result (over set_word 0 (replicate 64 0) (items_view values.now)) }
-    ensures fault { IfErr result (λ e. e ≢ Memory) }
+    ensures { Gives (λ ws. ws) result (over set_word 0 (replicate 64 0) (items_view values.now)) }
 {
     let mut words = [0; 64];
     for index in 0..values.len() {
@@ -44,8 +40,7 @@ fn words(values: &[Value]) -> Result<[u64; 64], ScenarioError>
 
 #[tactic(auto, unfolding(crate::specs::Checks::board_words), using(crate::proofs::Items::items_length_view))]
 fn board_words(values: &[Value]) -> Result<[u64; 64], ScenarioError>
-    ensures value { Gives (λ ws. ws) result (board_words (items_view values.now)) }
-    ensures fault { IfErr result (λ e. e ≢ Memory) }
+    ensures { Gives (λ ws. ws) result (board_words (items_view values.now)) }
 {
     are_integers(values)?;
     if 64 < values.len() {
@@ -57,8 +52,7 @@ fn board_words(values: &[Value]) -> Result<[u64; 64], ScenarioError>
 /// The words of the board, 0 where none is given.
 #[tactic(auto, unfolding(crate::specs::Checks::board))]
 pub fn board(value: Option<&Value>) -> Result<[u64; 64], ScenarioError>
-    ensures value { Gives (λ ws. ws) result (board (option_map (λ v. view v.now) value.entry)) }
-    ensures fault { IfErr result (λ e. e ≢ Memory) }
+    ensures { Gives (λ ws. ws) result (board (option_map (λ v. view v.now) value.entry)) }
 {
     match value {
         None => Ok([0; 64]),

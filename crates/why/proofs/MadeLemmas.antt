@@ -3,6 +3,7 @@ use Rattle.std.proofs.Common.{ℕ, ◌≡◌, List, [], inr, refl, subst, sym}
 use Rattle.std.specs.Prelude.{Result, Ok, Err, IfOk, Option, Some, None}
 use Rattle.std.specs.declared.alloc.AllocError.{AllocError}
 use Rattle.insn.specs.declared.insn.Insn.{Insn}
+use Rattle.scenario.specs.Flaws.{OrMemory}
 use Rattle.scenario.specs.Seen.{Makes}
 use Rattle.scenario.specs.Tables.{Source}
 use Rattle.scenario.specs.Reading.{IsProgramOf}
@@ -12,7 +13,7 @@ use Rattle.why.specs.Judged.{GivesProgram, IsExplainedOf, IsMadeBy}
 use Rattle.why.specs.Keys.{Found}
 
 pub made_is_had : (g : ℕ) (source : Source) (made : Result (List Insn) ScenarioError)
-    (answer : Result (Option (List Insn)) AllocError) → Makes g source made → IsMadeBy made answer
+    (answer : Result (Option (List Insn)) AllocError) → OrMemory (Makes g source) made → IsMadeBy made answer
     → IfOk answer (GivesProgram source)
 made_is_had g source (Ok program) (Ok (Some own)) makes is = subst (IsProgramOf source) (sym is) makes
 made_is_had g source (Ok program) (Ok None) makes is = absurd is

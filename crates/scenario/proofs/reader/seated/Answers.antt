@@ -1,14 +1,14 @@
 use Rattle.std.proofs.Common.{rules, refl, ◌+◌, slice_set}
 use Rattle.std.proofs.lemmas.Result.{err_from_is_err_and}
 use Rattle.toml.specs.View.{items_view}
-use Rattle.scenario.specs.Reading.{scenario_of, unseated}
-use Rattle.scenario.proofs.Answering.{answers_memory, answers_further}
+use Rattle.scenario.specs.Reading.{Answers, scenario_of, unseated}
+use Rattle.scenario.proofs.Answering.{answers_further, or_refused}
 use Rattle.scenario.proofs.reader.seated.Goals as goal
 
 pub returns-in_err-seats : goal.returns-in_err-seats
 returns-in_err-seats c =
     let p = err_from_is_err_and c.from_residual.result c.from_residual.ensures.1 in
-    rw p.1 (answers_memory (scenario_of c.args.head) c.args.head.generals 0 (unseated c.args.head) (items_view c.args.values.now) p.0 p.2)
+    rw p.1 (or_refused (Answers (scenario_of c.args.head) c.args.head.generals 0 (unseated c.args.head) (items_view c.args.values.now)) p.0 p.2)
 
 pub loop-index-preserved : goal.loop-index-preserved
 loop-index-preserved c = record {
