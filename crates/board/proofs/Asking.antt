@@ -7,14 +7,14 @@ use Rattle.semantics.specs.Relay.{Relay}
 use Rattle.semantics.specs.declared.value.Value.{Value}
 use Rattle.semantics.specs.declared.value.Value.TheVariants.{Unset, Number, Pointer}
 use Rattle.semantics.specs.declared.request.Helper.{Helper}
-use Rattle.semantics.specs.declared.request.Helper.TheVariants.{BoardGet, BoardSwap, BoardAdd, BoardCas, BoardCopy, Send, SendRow, Sway, Honest, SignOrder, PassOn}
+use Rattle.semantics.specs.declared.request.Helper.TheVariants.{BoardGet, BoardSwap, BoardAdd, BoardCas, BoardCopy}
 use Rattle.semantics.specs.declared.request.Request.{Request}
 use Rattle.semantics.specs.declared.request.Request.TheVariants.{Get, Swap, Add, Cas, Copy}
 use Rattle.semantics.specs.declared.entry.Entry.{Entry}
 use Rattle.semantics.specs.State.{Cause, State, Outcome, Next, Ask, Exit, Trap, value_at, given}
 use Rattle.semantics.specs.Memory.{stack_place}
 use Rattle.semantics.specs.Outbox.{Choice}
-use Rattle.semantics.specs.Call.{below, pointer, copy_of, called, asked, sent, attempted}
+use Rattle.semantics.specs.Call.{Effect, Asks, Puts, Enters, IfAsks, told, effect, done, below, pointer, copy_of, called, asked, sent, attempted}
 use Rattle.semantics.specs.Execution.{step}
 use Rattle.semantics.proofs.Walk.{changed_walk, step_walk}
 use Rattle.board.specs.Requests.{IsRequest}
@@ -88,19 +88,22 @@ copies_within a b c =
     pointer_within b (λ to. given (below 65 c) (λ count. copy_of slot to count)) (λ to.
     below_within 65 c (λ count. copy_of slot to count) (λ count few. copy_within slot to count)))
 
+requested_within : (context : List ℕ) (s : State) (h : Helper) → IfAsks Within (effect context s h)
+requested_within context s BoardGet = get_within (value_at s.registers 1)
+requested_within context s BoardSwap = swap_within (value_at s.registers 1) (value_at s.registers 2)
+requested_within context s BoardAdd = add_within (value_at s.registers 1) (value_at s.registers 2)
+requested_within context s BoardCas = cas_within (value_at s.registers 1) (value_at s.registers 2) (value_at s.registers 3)
+requested_within context s BoardCopy = copies_within (value_at s.registers 1) (value_at s.registers 2) (value_at s.registers 3)
+requested_within context s h = tt
+
+done_within : (relay : Relay) (s : State) (e : Effect) → IfAsks Within e → AsksWithin (done relay s e)
+done_within relay s (Asks request) within = asked_within s request within
+done_within relay s (Puts tells choice) within = sent_within relay s (told tells) choice
+done_within relay s (Enters entry) within = attempted_within relay s entry
+
 called_within : (context : List ℕ) (relay : Relay) (s : State) (h : Option Helper) → AsksWithin (called context relay s h)
 called_within context relay s None = tt
-called_within context relay s (Some BoardGet) = asked_within s _ (get_within (value_at s.registers 1))
-called_within context relay s (Some BoardSwap) = asked_within s _ (swap_within (value_at s.registers 1) (value_at s.registers 2))
-called_within context relay s (Some BoardAdd) = asked_within s _ (add_within (value_at s.registers 1) (value_at s.registers 2))
-called_within context relay s (Some BoardCas) = asked_within s _ (cas_within (value_at s.registers 1) (value_at s.registers 2) (value_at s.registers 3))
-called_within context relay s (Some BoardCopy) = asked_within s _ (copies_within (value_at s.registers 1) (value_at s.registers 2) (value_at s.registers 3))
-called_within context relay s (Some Send) = sent_within relay s (λ set. 1 - set) _
-called_within context relay s (Some SendRow) = sent_within relay s (λ set. set) _
-called_within context relay s (Some Sway) = sent_within relay s (λ set. set) _
-called_within context relay s (Some Honest) = sent_within relay s (λ set. set) _
-called_within context relay s (Some SignOrder) = attempted_within relay s _
-called_within context relay s (Some PassOn) = attempted_within relay s _
+called_within context relay s (Some helper) = done_within relay s (effect context s helper) (requested_within context s helper)
 
 step_within : (program : List Insn) (context : List ℕ) (relay : Relay) (s : State) → AsksWithin (step program context relay s)
 step_within program context relay s =
