@@ -1,5 +1,5 @@
 -- What a step asks lies within the board.
-use Rattle.std.proofs.Common.{◌≡◌, ℕ, pos, ◌+◌, ◌-◌, ◌*◌, ◌^◌, ◌<◌, ◌≤◌, List, Bool, true, false, refl, subst}
+use Rattle.std.proofs.Common.{◌≡◌, ℕ, pos, ◌+◌, ◌*◌, ◌<◌, ◌≤◌, List, Bool, true, false, refl, subst}
 use Rattle.std.specs.Prelude.{Option, Some, None, Result, Ok, Err, if◌then◌else◌, nat_lt, nat_le}
 use Rattle.std.proofs.lemmas.Bool.{ltb-true, leb-true}
 use Rattle.insn.specs.declared.insn.Insn.{Insn}
@@ -7,11 +7,11 @@ use Rattle.semantics.specs.Relay.{Relay}
 use Rattle.semantics.specs.declared.value.Value.{Value}
 use Rattle.semantics.specs.declared.value.Value.TheVariants.{Unset, Number, Pointer}
 use Rattle.semantics.specs.declared.request.Helper.{Helper}
-use Rattle.semantics.specs.declared.request.Helper.TheVariants.{BoardGet, BoardSwap, BoardAdd, BoardCas, BoardCopy}
+use Rattle.semantics.specs.declared.request.Helper.TheVariants.{BoardCopy}
 use Rattle.semantics.specs.declared.request.Request.{Request}
-use Rattle.semantics.specs.declared.request.Request.TheVariants.{Get, Swap, Add, Cas, Copy}
+use Rattle.semantics.specs.declared.request.Request.TheVariants.{Copy}
 use Rattle.semantics.specs.declared.entry.Entry.{Entry}
-use Rattle.semantics.specs.State.{Cause, State, Outcome, Next, Ask, Exit, Trap, value_at, given}
+use Rattle.semantics.specs.State.{Cause, State, Outcome, Next, Ask, Exit, Trap, given}
 use Rattle.semantics.specs.Memory.{stack_place}
 use Rattle.semantics.specs.Outbox.{Choice}
 use Rattle.semantics.specs.Call.{Effect, Asks, Puts, Enters, IfAsks, told, effect, done, below, pointer, copy_of, called, asked, sent, attempted}
@@ -63,38 +63,9 @@ attempted_within : (relay : Relay) (s : State) (r : Result Entry Cause) → Asks
 attempted_within relay s (Err cause) = tt
 attempted_within relay s (Ok entry) = tt
 
-get_within : (a : Value) → Within (given (below 64 a) (λ slot. Ok (Get slot)))
-get_within a = below_within 64 a (λ slot. Ok (Get slot)) (λ slot lt. lt)
-
-swap_within : (a b : Value) → Within (given (below 64 a) (λ slot. given (below (2 ^ 64) b) (λ value. Ok (Swap slot value))))
-swap_within a b =
-    below_within 64 a (λ slot. given (below (2 ^ 64) b) (λ value. Ok (Swap slot value))) (λ slot lt.
-    below_within (2 ^ 64) b (λ value. Ok (Swap slot value)) (λ value small. (lt, small)))
-
-add_within : (a b : Value) → Within (given (below 64 a) (λ slot. given (below (2 ^ 64) b) (λ value. Ok (Add slot value))))
-add_within a b =
-    below_within 64 a (λ slot. given (below (2 ^ 64) b) (λ value. Ok (Add slot value))) (λ slot lt.
-    below_within (2 ^ 64) b (λ value. Ok (Add slot value)) (λ value small. lt))
-
-cas_within : (a b c : Value) → Within (given (below 64 a) (λ slot. given (below (2 ^ 64) b) (λ expected. given (below (2 ^ 64) c) (λ new. Ok (Cas slot expected new)))))
-cas_within a b c =
-    below_within 64 a (λ slot. given (below (2 ^ 64) b) (λ expected. given (below (2 ^ 64) c) (λ new. Ok (Cas slot expected new)))) (λ slot lt.
-    below_within (2 ^ 64) b (λ expected. given (below (2 ^ 64) c) (λ new. Ok (Cas slot expected new))) (λ expected e.
-    below_within (2 ^ 64) c (λ new. Ok (Cas slot expected new)) (λ new small. (lt, small))))
-
-copies_within : (a b c : Value) → Within (given (below 64 a) (λ slot. given (pointer b) (λ to. given (below 65 c) (λ count. copy_of slot to count))))
-copies_within a b c =
-    below_within 64 a (λ slot. given (pointer b) (λ to. given (below 65 c) (λ count. copy_of slot to count))) (λ slot lt.
-    pointer_within b (λ to. given (below 65 c) (λ count. copy_of slot to count)) (λ to.
-    below_within 65 c (λ count. copy_of slot to count) (λ count few. copy_within slot to count)))
-
 requested_within : (context : List ℕ) (s : State) (h : Helper) → IfAsks Within (effect context s h)
-requested_within context s BoardGet = get_within (value_at s.registers 1)
-requested_within context s BoardSwap = swap_within (value_at s.registers 1) (value_at s.registers 2)
-requested_within context s BoardAdd = add_within (value_at s.registers 1) (value_at s.registers 2)
-requested_within context s BoardCas = cas_within (value_at s.registers 1) (value_at s.registers 2) (value_at s.registers 3)
-requested_within context s BoardCopy = copies_within (value_at s.registers 1) (value_at s.registers 2) (value_at s.registers 3)
-requested_within context s h = tt
+requested_within context s BoardCopy = search (below_within, pointer_within, copy_within)
+requested_within context s h = search (below_within)
 
 done_within : (relay : Relay) (s : State) (e : Effect) → IfAsks Within e → AsksWithin (done relay s e)
 done_within relay s (Asks request) within = asked_within s request within
