@@ -1,5 +1,5 @@
 -- The board as an object of one thread (its sequential specification, as in Herlihy and Wing 1990), and its ledger.
-use Rattle.std.specs.Prelude.{ℕ, ◌≡◌, ◌<◌, ◌≤◌, ◌+◌, ◌%◌, ◌^◌, ◌==◌, if◌then◌else◌, List, [], ◌∷◌, All, length, take, drop, slice_index, slice_set}
+use Rattle.std.specs.Prelude.{ℕ, ◌≡◌, ◌<◌, ◌+◌, ◌%◌, ◌^◌, ◌==◌, if◌then◌else◌, List, [], ◌∷◌, All, length, take, drop, slice_index, slice_set}
 use Rattle.semantics.specs.declared.request.Request.{Request}
 use Rattle.semantics.specs.declared.request.Request.TheVariants.{Get, Swap, Add, Cas, Copy}
 
@@ -7,14 +7,6 @@ use Rattle.semantics.specs.declared.request.Request.TheVariants.{Get, Swap, Add,
 pub record IsBoard (words : List ℕ) : Type 0 where
   pub long : length words ≡ 64
   pub each : All (λ word. word < 2 ^ 64) words
-
--- the words it names are on a board, and what it writes are words
-abbrev pub IsRequest : Request → Type 0
-IsRequest (Get slot) = slot < 64
-IsRequest (Swap slot value) = (slot < 64) × (value < 2 ^ 64)
-IsRequest (Add slot value) = slot < 64
-IsRequest (Cas slot expected new) = (slot < 64) × (new < 2 ^ 64)
-IsRequest (Copy span) = span.0 + span.1 ≤ 64
 
 -- what the board answers: the word as it was, or the words copied
 abbrev pub reply : List ℕ → Request → List ℕ

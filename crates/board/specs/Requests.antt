@@ -4,7 +4,7 @@ use Rattle.semantics.specs.declared.reply.Reply.{Reply}
 use Rattle.semantics.specs.declared.reply.Reply.TheVariants.{Word, Words}
 use Rattle.semantics.specs.declared.request.Request.{Request}
 use Rattle.semantics.specs.declared.request.Request.TheVariants.{Copy}
-pub use Rattle.board.specs.Board.{IsRequest}
+pub use Rattle.semantics.specs.Call.{IsRequest}
 
 -- the form of a request's reply: the words of a copy, as many as were asked for, else one word
 abbrev pub IsReplyTo : Request → Reply → Type 0
