@@ -13,7 +13,7 @@ is_right c = not (is_plain c) || (not (is_hidden c) && is_none (reference c) && 
 up_to : (low high c : ℕ) → is_within low high c ≡ true → c ≤ high
 up_to low high c e = leb-true c high (and_parts (nat_le low c) (nat_le c high) e).1
 
-small : (c : ℕ) → is_plain c ≡ true → c < 127
+pub small : (c : ℕ) → is_plain c ≡ true → c < 127
 small c e =
     let a : Bool = is_within 32 33 c in
     let b : Bool = is_within 35 37 c in

@@ -1,13 +1,13 @@
 -- Sections take no more than their room, and none is left out that there is room for.
-use Rattle.std.proofs.Common.{ℕ, ◌+◌, ◌-◌, ◌≤◌, ◌<◌, ◌≡◌, List, [], ◌∷◌, ◌++◌, length, length-append, refl, sym, ap, subst, ◌∙◌, arith, append_assoc, append-nil, true, false}
+use Rattle.std.proofs.Common.{ℕ, suc, ◌+◌, ◌-◌, ◌≤◌, ◌<◌, ◌≡◌, List, [], ◌∷◌, ◌++◌, length, length-append, refl, sym, ap, subst, ◌∙◌, arith, append_assoc, append-nil, true, false, inl, inr, ◌⊎◌}
 use Rattle.std.specs.Prelude.{nat_le, if◌then◌else◌}
 use Rattle.std.specs.List.{AllByRecursion}
 use Rattle.std.proofs.lemmas.Bool.{cond-true, cond_both, le-leb, leb-false, leb-true}
 use Rattle.std.proofs.lemmas.List.Elements.{recursion_from_All}
 use Rattle.markup.specs.Grammar.{IsContent, joined, no_text, text}
 use Rattle.page.specs.Page.{heading}
-use Rattle.page.specs.Laws.{IsFilled, IsRoomy, SectionsAreFitted, StandsIn}
-use Rattle.page.specs.Sections.{Section, all_sections, fitted_sections, heading_bytes, left_by, more, rooms, section, sections_in, sure, told_bytes}
+use Rattle.page.specs.Laws.{IsFilled, IsRoomy, IsToldOrTooLong, SectionsAreFitted, StandsIn}
+use Rattle.page.specs.Sections.{Section, all_sections, bytes_of, fitted_sections, heading_bytes, left_by, more, rooms, section, sections_in, standing, standing_in, sure, titled, told_bytes}
 use Rattle.page.proofs.PageLaws.{proved_parts_are_content}
 
 -- of a section
@@ -56,8 +56,8 @@ fitted_short : (left : ℕ) (ss : List Section) → length (fitted_sections left
 unfolding sure_bytes
 fitted_short left [] = omega arith
 fitted_short left (s ∷ ss) =
-    cond_both (nat_le (more s) left) (section s.title s.told ++ fitted_sections (left - more s) ss)
-    (section s.title s.instead ++ fitted_sections left ss) (λ xs. length xs ≤ left + (length (sure s) + sure_bytes ss) + (length (heading s.title) + heading_bytes ss))
+    cond_both (nat_le (more s) left) (s.told ∷ standing (left - more s) ss) (s.instead ∷ standing left ss)
+    (λ texts. length (titled (s ∷ ss) texts) ≤ left + (length (sure s) + sure_bytes ss) + (length (heading s.title) + heading_bytes ss))
     (λ e.
     let one = section_short s.title s.told in
     let low = leb-true (more s) left e in
@@ -84,12 +84,15 @@ short room ss low each =
 
 -- ---- which are told
 
+-- a section that fits, and one that does not
+fits_told : (left : ℕ) (s : Section) (ss : List Section) → more s ≤ left → standing left (s ∷ ss) ≡ s.told ∷ standing (left - more s) ss
+fits_told left s ss low = cond-true (nat_le (more s) left) (s.told ∷ standing (left - more s) ss) (s.instead ∷ standing left ss) (le-leb (more s) left low)
+
 all_fitted : (left : ℕ) (ss : List Section) → more_bytes ss ≤ left → fitted_sections left ss ≡ all_sections ss
 unfolding more_bytes
 all_fitted left [] low = refl
 all_fitted left (s ∷ ss) low =
-    cond-true (nat_le (more s) left) (section s.title s.told ++ fitted_sections (left - more s) ss)
-    (section s.title s.instead ++ fitted_sections left ss) (le-leb (more s) left (omega arith))
+    ap (titled (s ∷ ss)) (fits_told left s ss (omega arith))
     ∙ ap (λ xs. section s.title s.told ++ xs) (all_fitted (left - more s) ss (omega arith))
 
 all_told : (room : ℕ) (ss : List Section) → told_bytes ss ≤ room → AllByRecursion IsRoomy ss → sections_in room ss ≡ all_sections ss
@@ -113,14 +116,103 @@ own_fitted : (left : ℕ) (before : List Section) (s : Section) (after : List Se
 own_fitted left [] s after low =
     let sure_is : length (sure s) ≡ length s.told = ap length (sure_told s low) in
     subst (StandsIn s.told)
-    (sym (cond-true (nat_le (more s) left) (section s.title s.told ++ fitted_sections (left - more s) after)
-    (section s.title s.instead ++ fitted_sections left after) (le-leb (more s) left (omega arith))))
+    (sym (ap (titled (s ∷ after)) (fits_told left s after (omega arith))))
     (ahead s.told (section s.title s.told) (fitted_sections (left - more s) after) (section_stands s.title s.told))
 own_fitted left (b ∷ before) s after low =
-    cond_both (nat_le (more b) left) (section b.title b.told ++ fitted_sections (left - more b) (before ++ s ∷ after))
-    (section b.title b.instead ++ fitted_sections left (before ++ s ∷ after)) (StandsIn s.told)
+    cond_both (nat_le (more b) left) (b.told ∷ standing (left - more b) (before ++ s ∷ after)) (b.instead ∷ standing left (before ++ s ∷ after))
+    (λ texts. StandsIn s.told (titled (b ∷ (before ++ s ∷ after)) texts))
     (λ _. behind s.told (fitted_sections (left - more b) (before ++ s ∷ after)) (section b.title b.told) (own_fitted (left - more b) before s after low))
     (λ _. behind s.told (fitted_sections left (before ++ s ∷ after)) (section b.title b.instead) (own_fitted left before s after low))
+
+one_stands : (left : ℕ) (before : List Section) (s : Section) (after : List Section)
+    → StandsIn s.told (fitted_sections left (before ++ s ∷ after)) ⊎ StandsIn s.instead (fitted_sections left (before ++ s ∷ after))
+one_stands left [] s after =
+    cond_both (nat_le (more s) left) (s.told ∷ standing (left - more s) after) (s.instead ∷ standing left after)
+    (λ texts. StandsIn s.told (titled (s ∷ after) texts) ⊎ StandsIn s.instead (titled (s ∷ after) texts))
+    (λ _. inl (ahead s.told (section s.title s.told) (fitted_sections (left - more s) after) (section_stands s.title s.told)))
+    (λ _. inr (ahead s.instead (section s.title s.instead) (fitted_sections left after) (section_stands s.title s.instead)))
+one_stands left (b ∷ before) s after =
+    let rest : List Section = before ++ s ∷ after in
+    cond_both (nat_le (more b) left) (b.told ∷ standing (left - more b) rest) (b.instead ∷ standing left rest)
+    (λ texts. StandsIn s.told (titled (b ∷ rest) texts) ⊎ StandsIn s.instead (titled (b ∷ rest) texts))
+    (λ _. further s (section b.title b.told) (fitted_sections (left - more b) rest) (one_stands (left - more b) before s after))
+    (λ _. further s (section b.title b.instead) (fitted_sections left rest) (one_stands left before s after))
+  where
+    further : (s : Section) (first rest : List ℕ) → StandsIn s.told rest ⊎ StandsIn s.instead rest → StandsIn s.told (first ++ rest) ⊎ StandsIn s.instead (first ++ rest)
+    further s first rest is = elim is [ inl told ↦ inl (behind s.told rest first told) | inr other ↦ inr (behind s.instead rest first other) ]
+
+-- ---- which are left out
+
+-- of a section that needs more its room has no place for it
+sure_instead : (s : Section) → 0 < more s → sure s ≡ s.instead
+sure_instead s needs =
+    cond_both (nat_le (length s.told) s.room) s.told s.instead (λ xs. 0 < length s.told - length xs → xs ≡ s.instead) (λ _ none. absurd (omega arith)) (λ _ _. refl) needs
+
+-- what stands is what is sure at least
+standing_least : (left : ℕ) (ss : List Section) → AllByRecursion IsRoomy ss → sure_bytes ss ≤ bytes_of (standing left ss)
+unfolding sure_bytes
+standing_least left [] each = omega arith
+standing_least left (s ∷ ss) each =
+    cond_both (nat_le (more s) left) (s.told ∷ standing (left - more s) ss) (s.instead ∷ standing left ss) (λ texts. length (sure s) + sure_bytes ss ≤ bytes_of texts)
+    (λ _.
+    let own = sure_least s each.0 in
+    let rest = standing_least (left - more s) ss each.1 in
+    omega arith)
+    (λ e.
+    let long = leb-false (more s) left e in
+    let own : length (sure s) ≡ length s.instead = ap length (sure_instead s (omega arith)) in
+    let rest = standing_least left ss each.1 in
+    omega arith)
+
+-- so many bytes are left, but for what is sure
+abbrev IsLeftOut : ℕ → List Section → Section → List Section → List (List ℕ) → Type 0
+IsLeftOut room before s after texts =
+    (ahead : List (List ℕ)) × (own : List ℕ) × (behind : List (List ℕ)) × (length ahead ≡ length before) × (texts ≡ ahead ++ own ∷ behind) × IsToldOrTooLong room s ahead own behind
+
+one_more : (room least : ℕ) (before : List Section) (b s : Section) (after : List Section) (first : List ℕ) (texts : List (List ℕ)) → least ≤ length first
+    → IsLeftOut room before s after texts → IsLeftOut (room + least) (b ∷ before) s after (first ∷ texts)
+one_more room least before b s after first texts low is = (
+  first ∷ is.0,
+  is.1,
+  is.2,
+  ap suc is.3,
+  ap (λ (xs : List (List ℕ)). first ∷ xs) is.4,
+  elim is.5 [ inl told ↦ inl told | inr long ↦ inr (long.0, (let large = long.1 in omega arith)) ],
+)
+
+left_out : (left : ℕ) (before : List Section) (s : Section) (after : List Section) → AllByRecursion IsRoomy (before ++ s ∷ after)
+    → IsLeftOut (left + sure_bytes (before ++ s ∷ after)) before s after (standing left (before ++ s ∷ after))
+unfolding sure_bytes
+left_out left [] s after each =
+    cond_both (nat_le (more s) left) (s.told ∷ standing (left - more s) after) (s.instead ∷ standing left after)
+    (λ texts. IsLeftOut (left + (length (sure s) + sure_bytes after)) [] s after texts)
+    (λ _. ([], s.told, standing (left - more s) after, refl, refl, inl refl))
+    (λ e.
+    let long = leb-false (more s) left e in
+    let rest = standing_least left after each.1 in
+    ([], s.instead, standing left after, refl, refl, inr (refl, omega arith)))
+left_out left (b ∷ before) s after each =
+    let rest : List Section = before ++ s ∷ after in
+    cond_both (nat_le (more b) left) (b.told ∷ standing (left - more b) rest) (b.instead ∷ standing left rest)
+    (λ texts. IsLeftOut (left + (length (sure b) + sure_bytes rest)) (b ∷ before) s after texts)
+    (λ e.
+    let low = leb-true (more b) left e in
+    let own = sure_least b each.0 in
+    subst (λ (room : ℕ). IsLeftOut room (b ∷ before) s after (b.told ∷ standing (left - more b) rest)) (omega arith)
+    (one_more (left - more b + sure_bytes rest) (length b.told) before b s after b.told (standing (left - more b) rest) (omega arith) (left_out (left - more b) before s after each.1)))
+    (λ e.
+    let long = leb-false (more b) left e in
+    let own : length (sure b) ≡ length b.instead = ap length (sure_instead b (omega arith)) in
+    subst (λ (room : ℕ). IsLeftOut room (b ∷ before) s after (b.instead ∷ standing left rest)) (omega arith)
+    (one_more (left + sure_bytes rest) (length (sure b)) before b s after b.instead (standing left rest) (omega arith) (left_out left before s after each.1)))
+
+in_room : (room : ℕ) (before : List Section) (s : Section) (after : List Section) → AllByRecursion IsRoomy (before ++ s ∷ after)
+    → IsLeftOut room before s after (standing_in room (before ++ s ∷ after))
+in_room room before s after each =
+    let all : List Section = before ++ s ∷ after in
+    let is = left_out (left_by room all) before s after each in
+    let left = left_is room all in
+    (is.0, is.1, is.2, is.3, is.4, elim is.5 [ inl told ↦ inl told | inr long ↦ inr (long.0, (let large = long.1 in omega arith)) ])
 
 -- ---- content
 
@@ -131,8 +223,7 @@ section_content title (x ∷ xs) c = joined (heading title) (x ∷ xs) (proved_p
 fitted_content : (left : ℕ) (ss : List Section) → AllByRecursion IsFilled ss → IsContent (fitted_sections left ss)
 fitted_content left [] each = text [] no_text
 fitted_content left (s ∷ ss) each =
-    cond_both (nat_le (more s) left) (section s.title s.told ++ fitted_sections (left - more s) ss)
-    (section s.title s.instead ++ fitted_sections left ss) IsContent
+    cond_both (nat_le (more s) left) (s.told ∷ standing (left - more s) ss) (s.instead ∷ standing left ss) (λ texts. IsContent (titled (s ∷ ss) texts))
     (λ _. joined (section s.title s.told) (fitted_sections (left - more s) ss) (section_content s.title s.told each.0.0) (fitted_content (left - more s) ss each.1))
     (λ _. joined (section s.title s.instead) (fitted_sections left ss) (section_content s.title s.instead each.0.1) (fitted_content left ss each.1))
 
@@ -140,6 +231,8 @@ pub proved_sections_are_fitted : SectionsAreFitted
 proved_sections_are_fitted = record {
   short = λ room ss low each. short room ss low (recursion_from_All IsRoomy ss each);
   own = λ room before s after low. own_fitted (left_by room (before ++ s ∷ after)) before s after low;
+  stands = λ room before s after. one_stands (left_by room (before ++ s ∷ after)) before s after;
+  left_out = λ room before s after each. in_room room before s after (recursion_from_All IsRoomy (before ++ s ∷ after) each);
   all = λ room ss low each. all_told room ss low (recursion_from_All IsRoomy ss each);
   content = λ room ss each. fitted_content (left_by room ss) ss (recursion_from_All IsFilled ss each);
 }

@@ -1,9 +1,9 @@
 -- Laws of pages. Each is the contract of a function of this crate.
-use Rattle.std.specs.Prelude.{ℕ, ◌+◌, ◌≤◌, ◌≡◌, Bool, true, not, List, ◌∷◌, ◌++◌, codes, length}
+use Rattle.std.specs.Prelude.{ℕ, ◌+◌, ◌≤◌, ◌<◌, ◌≡◌, ◌⊎◌, Bool, true, not, List, ◌∷◌, ◌++◌, codes, length}
 use Rattle.std.specs.List.{All, list_all}
 use Rattle.markup.specs.Grammar.{IsContent, IsElement, IsText}
 use Rattle.page.specs.Page.{begun_lines, cell, fold, head, heading, item, lines, list, page, paragraph, picture, row, shown, table, text_item}
-use Rattle.page.specs.Sections.{Section, all_sections, heading_bytes, rooms, sections_in, told_bytes}
+use Rattle.page.specs.Sections.{Section, all_sections, bytes_of, heading_bytes, rooms, sections_in, standing_in, told_bytes}
 use Rattle.page.specs.Visible.{is_hidden, visible}
 
 -- a text of others is text without tags: no < > and ", and no & but that of a reference
@@ -49,8 +49,15 @@ IsRoomy s = length s.instead ≤ s.room
 abbrev pub IsFilled : Section → Type 0
 IsFilled s = IsContent s.told × IsContent s.instead
 
+-- what stands of a section, between these of the others, is what it tells, or what stands in its place, where it is
+-- longer than what they leave
+abbrev pub IsToldOrTooLong : ℕ → Section → List (List ℕ) → List ℕ → List (List ℕ) → Type 0
+IsToldOrTooLong room s ahead own behind =
+    (own ≡ s.told) ⊎ ((own ≡ s.instead) × (room < bytes_of ahead + length s.told + bytes_of behind))
+
 -- sections whose own rooms are there take the room and their headings at most; each within its own room is told, and
--- where the room suffices for all, so are all; and they are content where each is
+-- where the room suffices for all, so are all; one that is left out is longer than what the others leave; what stands
+-- of each stands in the text; and they are content where each is
 pub record SectionsAreFitted : Type 0 where
   pub short :
       (room : ℕ) (ss : List Section) → rooms ss ≤ room → All IsRoomy ss
@@ -60,4 +67,12 @@ pub record SectionsAreFitted : Type 0 where
       → length s.told ≤ s.room → StandsIn s.told (sections_in room (before ++ s ∷ after))
   pub all :
       (room : ℕ) (ss : List Section) → told_bytes ss ≤ room → All IsRoomy ss → sections_in room ss ≡ all_sections ss
+  pub left_out :
+      (room : ℕ) (before : List Section) (s : Section) (after : List Section) → All IsRoomy (before ++ s ∷ after)
+      → (ahead : List (List ℕ)) × (own : List ℕ) × (behind : List (List ℕ)) × (length ahead ≡ length before)
+      × (standing_in room (before ++ s ∷ after) ≡ ahead ++ own ∷ behind) × IsToldOrTooLong room s ahead own behind
+  pub stands :
+      (room : ℕ) (before : List Section) (s : Section) (after : List Section)
+      → StandsIn s.told (sections_in room (before ++ s ∷ after))
+      ⊎ StandsIn s.instead (sections_in room (before ++ s ∷ after))
   pub content : (room : ℕ) (ss : List Section) → All IsFilled ss → IsContent (sections_in room ss)

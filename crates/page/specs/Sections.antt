@@ -29,17 +29,30 @@ abbrev pub section : List ℕ → List ℕ → List ℕ
 section title [] = []
 section title (c ∷ cs) = heading title ++ c ∷ cs
 
--- sections where so many bytes are left: the first one that needs more has them first
-abbrev pub fitted_sections : ℕ → List Section → List ℕ
-fitted_sections left [] = []
-fitted_sections left (s ∷ ss) =
+-- what stands of each where so many bytes are left: the first one that needs more has them first
+abbrev pub standing : ℕ → List Section → List (List ℕ)
+standing left [] = []
+standing left (s ∷ ss) =
     if nat_le (more s) left
-    then section s.title s.told ++ fitted_sections (left - more s) ss
-    else section s.title s.instead ++ fitted_sections left ss
+    then s.told ∷ standing (left - more s) ss
+    else s.instead ∷ standing left ss
 
--- sections in so many bytes
+-- and in so many bytes
+abbrev pub standing_in : ℕ → List Section → List (List ℕ)
+standing_in room ss = standing (left_by room ss) ss
+
+-- what stands of each, under its title
+abbrev pub titled : List Section → List (List ℕ) → List ℕ
+titled [] texts = []
+titled (s ∷ ss) [] = []
+titled (s ∷ ss) (text ∷ texts) = section s.title text ++ titled ss texts
+
+-- sections where so many bytes are left, and in so many bytes
+abbrev pub fitted_sections : ℕ → List Section → List ℕ
+fitted_sections left ss = titled ss (standing left ss)
+
 abbrev pub sections_in : ℕ → List Section → List ℕ
-sections_in room ss = fitted_sections (left_by room ss) ss
+sections_in room ss = titled ss (standing_in room ss)
 
 -- and all of them, whether there is room or not
 abbrev pub all_sections : List Section → List ℕ
@@ -55,6 +68,10 @@ rooms (s ∷ ss) = s.room + rooms ss
 abbrev pub told_bytes : List Section → ℕ
 told_bytes [] = 0
 told_bytes (s ∷ ss) = length s.told + told_bytes ss
+
+abbrev pub bytes_of : List (List ℕ) → ℕ
+bytes_of [] = 0
+bytes_of (text ∷ texts) = length text + bytes_of texts
 
 abbrev pub heading_bytes : List Section → ℕ
 heading_bytes [] = 0

@@ -23,7 +23,8 @@ pub fn pages_are_elements()
 {}
 
 /// Sections take no more than their room and their headings; each that its own room suffices for is told, and all are
-/// where the room suffices for all; and they are content where each is.
+/// where the room suffices for all; one that is left out is longer than what the others leave; what stands of each
+/// stands in the text; and they are content where each is.
 pub fn sections_are_fitted()
     ensures { SectionsAreFitted }
 {}
