@@ -1,5 +1,5 @@
 //! What a picture says, in words.
-ghost use Rattle.std.specs.Prelude.{◌≡◌, ◌++◌, flat_map, map, slice_index_or, string_bytes, OnOk};
+ghost use Rattle.std.specs.Prelude.{◌≡◌, ◌++◌, decimal, flat_map, map, slice_index_or, string_bytes, OnOk};
 ghost use Rattle.semantics.specs.Replies.{words_in};
 ghost use Rattle.diagram.specs.Words.{answer_words, answered_words, access_words, asked_words, copied_words, differs_words, kind, labels_words, order_words, outline, from_words, general_words, is_copy, kind_of, outline_of, piece_words, role_words, row_words, shown_words, stroke_words, tells_words, word_words};
 
@@ -133,10 +133,16 @@ fn put_sentence(
         ++ flat_map (piece_words numbers.now) (map (λ p. (p.0.now, p.1)) sentence.now)) }
 {
     for (piece, place) in sentence {
-        let number = number_at(numbers, *place);
-        write!(out, "{piece}{number}")?;
+        put_piece(out, piece, number_at(numbers, *place))?;
     }
     Ok(())
+}
+
+/// Adds a piece of a sentence and the number behind it.
+fn put_piece(out: &mut String, piece: &str, number: u64) -> Result<(), AllocError>
+    ensures { OnOk result (string_bytes out.new ≡ string_bytes out.old ++ (piece.now ++ decimal number)) }
+{
+    write!(out, "{piece}{number}")
 }
 
 /// The number of this place, or 0 where there is none.

@@ -6,5 +6,5 @@ use Rattle.diagram.proofs.words.put_sentence.Given as goal
 
 abbrev pub invariant-loop-piece : goal.invariant-loop-piece
 invariant-loop-piece l =
-    string_bytes l.out ++ flat_map (piece_words l.numbers) (map (λ p. (p.0.now, p.1)) (drop l.sentence-index l.sentence))
+    string_bytes l.out ++ flat_map (piece_words l.numbers) (map (λ p. (p.0.now, p.1)) (drop l.piece-index l.sentence))
     ≡ string_bytes l.fn.out ++ flat_map (piece_words l.numbers) (map (λ p. (p.0.now, p.1)) l.sentence)
