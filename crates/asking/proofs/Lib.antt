@@ -1,1 +1,1 @@
-mod RowLemmas
+pub mod RowLemmas

@@ -130,7 +130,11 @@ pub fn numbers(request: &Request) -> ([u64; 3], usize)
         Request::Get { slot } => ([slot.number() as u64, 0, 0], 1),
         Request::Swap { slot, value } => ([slot.number() as u64, value, 0], 2),
         Request::Add { slot, value } => ([slot.number() as u64, value, 0], 2),
-        Request::Cas { slot, expected, new } => ([slot.number() as u64, expected, new], 3),
+        Request::Cas {
+            slot,
+            expected,
+            new,
+        } => ([slot.number() as u64, expected, new], 3),
         Request::Copy { span } => ([span.slot() as u64, span.count() as u64, 0], 2),
     }
 }

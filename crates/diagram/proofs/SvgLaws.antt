@@ -83,7 +83,7 @@ outline_text true None = bare_text (codes "M-5-5L5 5M5-5L-5 5") refl
 pub numbered : (words : List ℕ) (n : ℕ) → IsText words → IsText (words ++ decimal n)
 numbered words n t = many words (decimal n) t (decimal_text n)
 
-has_bare_pieces : Row → Bool
+abbrev has_bare_pieces : Row → Bool
 has_bare_pieces r = list_all (λ piece. list_all is_bare piece.0) r.sentence
 
 pieces_text : (numbers : List ℕ) (pieces : List (List ℕ × ℕ)) → list_all (λ piece. list_all is_bare piece.0) pieces ≡ true → IsText (flat_map (piece_words numbers) pieces)

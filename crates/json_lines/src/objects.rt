@@ -136,7 +136,7 @@ fn access_object(
     line: &[u8],
 ) -> Result<Option<Map<String, Value>>, AllocError>
     ensures { IfOk result (λ o. option_map (λ object. members_view object.entries) o
-        ≡ first_shaped held (map (λ w. access_row (asking.row_of w)) wordings.now) (pieces space line.now)) }
+        ≡ first_shaped held (map access_row (map asking.row_of wordings.now)) (pieces space line.now)) }
 {
     for wording in wordings {
         let shape = access_shape(wording);

@@ -39,7 +39,7 @@ decimals_plain : (ns : List ℕ) → ArePlain (map decimal ns)
 decimals_plain [] = tt
 decimals_plain (n ∷ ns) = (decimal_plain n, decimals_plain ns)
 
-is_plain_word : Row → Bool
+abbrev is_plain_word : Row → Bool
 is_plain_word r = list_all (λ c. nat_lt 32 c) r.word
 
 question_plain : (q : Request) → ArePlain (question q)

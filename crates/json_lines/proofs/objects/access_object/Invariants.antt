@@ -8,5 +8,5 @@ use Rattle.json_lines.proofs.objects.access_object.Given as goal
 
 abbrev pub invariant-loop-wording : goal.invariant-loop-wording
 invariant-loop-wording l =
-    first_shaped l.held (map (λ w. access_row (asking.row_of w)) (drop l.wording-index l.wordings)) (pieces space l.line)
-    ≡ first_shaped l.held (map (λ w. access_row (asking.row_of w)) l.wordings) (pieces space l.line)
+    first_shaped l.held (map access_row (map asking.row_of (drop l.wording-index l.wordings))) (pieces space l.line)
+    ≡ first_shaped l.held (map access_row (map asking.row_of l.wordings)) (pieces space l.line)
