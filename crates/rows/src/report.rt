@@ -14,12 +14,8 @@ use std::sync::Wait;
 use std::thread::Threads;
 
 /// Asks what the rows of the table ask, and prints each that is answered otherwise, with its first difference, and how
-/// many they are; how many rows there are goes to standard error.
-///
-/// # Errors
-///
-/// A table that cannot be read, or that has no row.
-pub fn report<R: Print + Eprint + Files + Threads + Wait + Sync + AllocGlobal>(
+/// many they are.
+pub fn report<R: Print + Files + Threads + Wait + Sync + AllocGlobal>(
     rt: &R,
     table: &str,
 ) -> Result<()> {
@@ -27,9 +23,6 @@ pub fn report<R: Print + Eprint + Files + Threads + Wait + Sync + AllocGlobal>(
     let file = format!(in alloc; "{table}.rows")?;
     let text = fs::read_to_string(rt, file.as_str())?;
     let rows = rows(alloc, text.as_str())?;
-    if rows.is_empty() {
-        bail!("{table}: there is no row");
-    }
     let mut wrong = 0usize;
     for row in &rows {
         if let Some(difference) = differing(rt, row)? {
@@ -39,8 +32,7 @@ pub fn report<R: Print + Eprint + Files + Threads + Wait + Sync + AllocGlobal>(
         }
     }
     let number = rows.len();
-    eprintln!(rt; "{table}: {number} rows")?;
-    println!(rt; "{table}: {wrong} wrong")?;
+    println!(rt; "{table}: {number} rows, {wrong} wrong")?;
     Ok(())
 }
 

@@ -27,22 +27,22 @@ pub fn report<R: Print + Files + AllocGlobal>(rt: &R, files: &[String]) -> Resul
 fn report_file<R: Print + Files + AllocGlobal>(rt: &R, file: &str) -> Result<()> {
     if file.ends_with(".asm") {
         let text = fs::read_to_string(rt, file)?;
-        answer_all(rt.alloc(), text.as_str())?;
-    } else {
-        let bytes = fs::read(rt, file)?;
-        answer(rt.alloc(), file, bytes.as_slice())?;
+        let programs = programs(rt.alloc(), text.as_str())?;
+        let number = programs.len();
+        answer_all(rt.alloc(), programs.as_slice())?;
+        println!(rt; "{file}, {number} programs: each beginning and each change answered")?;
+        return Ok(());
     }
-    println!(rt; "{file}: each beginning and each change answered")?;
+    let bytes = fs::read(rt, file)?;
+    let length = bytes.len();
+    answer(rt.alloc(), file, bytes.as_slice())?;
+    println!(rt; "{file}, {length} bytes: each beginning and each change answered")?;
     Ok(())
 }
 
-/// Answers what comes of each program of a text.
-fn answer_all(alloc: Global, text: &str) -> Result<()> {
-    let programs = programs(alloc, text)?;
-    if programs.is_empty() {
-        bail!("there is no program");
-    }
-    for program in &programs {
+/// Answers what comes of each program.
+fn answer_all(alloc: Global, programs: &[Program]) -> Result<()> {
+    for program in programs {
         let bytes = assembled(alloc, program.text.as_str())?;
         answer(alloc, program.name.as_str(), bytes.as_slice())?;
     }
