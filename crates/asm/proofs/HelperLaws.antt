@@ -1,6 +1,7 @@
 -- The helpers' names.
-use Rattle.std.proofs.Common.{◌≡◌, ℕ, ℤ, pos, zero, suc, ◌+◌, Bool, true, false, cond, List, [], ◌∷◌, Option, Some, None, refl, sym, ap, subst, ◌∙◌, arith}
-use Rattle.std.specs.Prelude.{slice_get, codes}
+use Rattle.std.proofs.Common.{◌≡◌, ℕ, ℤ, pos, zero, suc, ◌+◌, Bool, true, false, cond, List, [], ◌∷◌, Option, Some, None, refl, sym, ap, ◌∙◌, arith}
+use Rattle.std.specs.Prelude.{slice_get, ◌&&◌, not}
+use Rattle.std.proofs.lemmas.Bool.{and_parts, not-true}
 use Rattle.std.specs.Str.{bytes_eq}
 use Rattle.std.proofs.lemmas.Slice.Eq.{bytes_eq-Decides}
 use Rattle.text.specs.Options.{◌>>=◌}
@@ -38,23 +39,38 @@ some word = Some word
 is_word : (a b : List ℕ) → some a ≡ some b → a ≡ b
 is_word a b e = cc
 
-named : (name word : List ℕ) (n : ℕ) → helper_of name ≡ Some (pos n) → some name ≡ some word → helper_of word ≡ Some (pos n)
-named name word n h e = subst (λ w. helper_of w ≡ Some (pos n)) (is_word name word e) h
+-- no two of the names are the same
+abbrev lack : List ℕ → List (List ℕ) → Bool
+lack word [] = true
+lack word (name ∷ names) = not (bytes_eq name word) && lack word names
+
+abbrev are_distinct : List (List ℕ) → Bool
+are_distinct [] = true
+are_distinct (name ∷ names) = lack name names && are_distinct names
+
+other_at : (word : List ℕ) (names : List (List ℕ)) (k : ℕ) (later : List ℕ) → lack word names ≡ true → slice_get names k ≡ Some later → bytes_eq later word ≡ false
+other_at word [] k later l e = absurd cc
+other_at word (name ∷ names) zero later l e =
+    let parts = and_parts (not (bytes_eq name word)) (lack word names) l in
+    ap (λ (w : List ℕ). bytes_eq w word) (sym (is_word name later e)) ∙ not-true (bytes_eq name word) parts.0
+other_at word (name ∷ names) (suc k) later l e =
+    let parts = and_parts (not (bytes_eq name word)) (lack word names) l in
+    other_at word names k later parts.1 e
+
+-- so the first place of a name is where it stands
+stands : (names : List (List ℕ)) (n k : ℕ) (word : List ℕ) → are_distinct names ≡ true → slice_get names k ≡ Some word → place_in word n names ≡ Some (n + k)
+stands [] n k word d e = absurd cc
+stands (name ∷ names) n zero word d e =
+    ap (λ (b : Bool). cond b (Some n) (place_in word (n + 1) names)) ((bytes_eq-Decides word name).1 (sym (is_word name word e))) ∙ ap Some (omega arith)
+stands (name ∷ names) n (suc k) word d e =
+    let parts = and_parts (lack name names) (are_distinct names) d in
+    ap (λ (b : Bool). cond b (Some n) (place_in word (n + 1) names)) (other_at name names k word parts.0 e)
+    ∙ stands names (n + 1) k word parts.1 e ∙ ap Some (omega arith)
 
 helper_written : (k : ℕ) (word : List ℕ) → slice_get helpers k ≡ Some word → helper_of word ≡ Some (pos (k + 1))
 unfolding helper_of
-helper_written zero word e = named (codes "board_get") word 1 refl e
-helper_written (suc zero) word e = named (codes "board_swap") word 2 refl e
-helper_written (suc (suc zero)) word e = named (codes "board_add") word 3 refl e
-helper_written (suc (suc (suc zero))) word e = named (codes "board_cas") word 4 refl e
-helper_written (suc (suc (suc (suc zero)))) word e = named (codes "board_copy") word 5 refl e
-helper_written (suc (suc (suc (suc (suc zero))))) word e = named (codes "send") word 6 refl e
-helper_written (suc (suc (suc (suc (suc (suc zero)))))) word e = named (codes "send_row") word 7 refl e
-helper_written (suc (suc (suc (suc (suc (suc (suc zero))))))) word e = named (codes "sway") word 8 refl e
-helper_written (suc (suc (suc (suc (suc (suc (suc (suc zero)))))))) word e = named (codes "honest") word 9 refl e
-helper_written (suc (suc (suc (suc (suc (suc (suc (suc (suc zero))))))))) word e = named (codes "sign_order") word 10 refl e
-helper_written (suc (suc (suc (suc (suc (suc (suc (suc (suc (suc zero)))))))))) word e = named (codes "pass_on") word 11 refl e
-helper_written (suc (suc (suc (suc (suc (suc (suc (suc (suc (suc (suc k))))))))))) word e = absurd cc
+helper_written k word e =
+    ap (λ (o : Option ℕ). o >>= λ n. Some (pos n)) (stands helpers 1 k word refl e) ∙ ap (λ (n : ℕ). Some (pos n)) (omega arith)
 
 pub helpers_numbered : HelpersAreNumbered
-helpers_numbered = record { eleven = refl; read = helper_read; written = helper_written }
+helpers_numbered = record { read = helper_read; written = helper_written }

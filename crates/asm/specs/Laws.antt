@@ -23,9 +23,8 @@ pub record MnemonicsAreNamed : Type 0 where
   pub read : (word : List ℕ) (m : Mnemonic) → mnemonic_of word ≡ Some m → IsMnemonic m × (word ≡ name_of m)
   pub written : (m : Mnemonic) → IsMnemonic m → mnemonic_of (name_of m) ≡ Some m
 
--- the eleven helpers' names are told apart: each is read as its number, from 1 on, and no other word is
+-- the helpers' names are told apart: each of the list is read as its number, from 1 on, and no other word is
 pub record HelpersAreNumbered : Type 0 where
-  pub eleven : length helpers ≡ 11
   pub read : (word : List ℕ) (number : ℤ) → helper_of word ≡ Some number →
       (k : ℕ) × (slice_get helpers k ≡ Some word) × (number ≡ pos (k + 1))
   pub written : (k : ℕ) (word : List ℕ) → slice_get helpers k ≡ Some word → helper_of word ≡ Some (pos (k + 1))

@@ -12,7 +12,7 @@ pub fn mnemonics_are_named()
     ensures { MnemonicsAreNamed }
 {}
 
-/// Each of the eleven helpers is read from its name, and from no other.
+/// Each helper is read from its name, as its place in the list, from 1 on, and from no other.
 pub fn helpers_are_numbered()
     ensures { HelpersAreNumbered }
 {}

@@ -1,5 +1,5 @@
 -- What a step asks lies within the board.
-use Rattle.std.proofs.Common.{◌≡◌, ℕ, pos, ◌+◌, ◌-◌, ◌*◌, ◌^◌, ◌<◌, ◌≤◌, List, Bool, true, false, refl, subst}
+use Rattle.std.proofs.Common.{◌≡◌, ℕ, pos, ◌+◌, ◌*◌, ◌<◌, ◌≤◌, List, Bool, true, false, refl, subst}
 use Rattle.std.specs.Prelude.{Option, Some, None, Result, Ok, Err, if◌then◌else◌, nat_lt, nat_le}
 use Rattle.std.proofs.lemmas.Bool.{ltb-true, leb-true}
 use Rattle.insn.specs.declared.insn.Insn.{Insn}
@@ -7,14 +7,14 @@ use Rattle.semantics.specs.Relay.{Relay}
 use Rattle.semantics.specs.declared.value.Value.{Value}
 use Rattle.semantics.specs.declared.value.Value.TheVariants.{Unset, Number, Pointer}
 use Rattle.semantics.specs.declared.request.Helper.{Helper}
-use Rattle.semantics.specs.declared.request.Helper.TheVariants.{BoardGet, BoardSwap, BoardAdd, BoardCas, BoardCopy, Send, SendRow, Sway, Honest, SignOrder, PassOn}
+use Rattle.semantics.specs.declared.request.Helper.TheVariants.{BoardCopy}
 use Rattle.semantics.specs.declared.request.Request.{Request}
-use Rattle.semantics.specs.declared.request.Request.TheVariants.{Get, Swap, Add, Cas, Copy}
+use Rattle.semantics.specs.declared.request.Request.TheVariants.{Copy}
 use Rattle.semantics.specs.declared.entry.Entry.{Entry}
-use Rattle.semantics.specs.State.{Cause, State, Outcome, Next, Ask, Exit, Trap, value_at, given}
+use Rattle.semantics.specs.State.{Cause, State, Outcome, Next, Ask, Exit, Trap, given}
 use Rattle.semantics.specs.Memory.{stack_place}
 use Rattle.semantics.specs.Outbox.{Choice}
-use Rattle.semantics.specs.Call.{below, pointer, copy_of, called, asked, sent, attempted}
+use Rattle.semantics.specs.Call.{Effect, Asks, Puts, Enters, IfAsks, told, effect, done, below, pointer, copy_of, called, asked, sent, attempted}
 use Rattle.semantics.specs.Execution.{step}
 use Rattle.semantics.proofs.Walk.{changed_walk, step_walk}
 use Rattle.board.specs.Requests.{IsRequest}
@@ -63,44 +63,18 @@ attempted_within : (relay : Relay) (s : State) (r : Result Entry Cause) → Asks
 attempted_within relay s (Err cause) = tt
 attempted_within relay s (Ok entry) = tt
 
-get_within : (a : Value) → Within (given (below 64 a) (λ slot. Ok (Get slot)))
-get_within a = below_within 64 a (λ slot. Ok (Get slot)) (λ slot lt. lt)
+requested_within : (context : List ℕ) (s : State) (h : Helper) → IfAsks Within (effect context s h)
+requested_within context s BoardCopy = search (below_within, pointer_within, copy_within)
+requested_within context s h = search (below_within)
 
-swap_within : (a b : Value) → Within (given (below 64 a) (λ slot. given (below (2 ^ 64) b) (λ value. Ok (Swap slot value))))
-swap_within a b =
-    below_within 64 a (λ slot. given (below (2 ^ 64) b) (λ value. Ok (Swap slot value))) (λ slot lt.
-    below_within (2 ^ 64) b (λ value. Ok (Swap slot value)) (λ value small. (lt, small)))
-
-add_within : (a b : Value) → Within (given (below 64 a) (λ slot. given (below (2 ^ 64) b) (λ value. Ok (Add slot value))))
-add_within a b =
-    below_within 64 a (λ slot. given (below (2 ^ 64) b) (λ value. Ok (Add slot value))) (λ slot lt.
-    below_within (2 ^ 64) b (λ value. Ok (Add slot value)) (λ value small. lt))
-
-cas_within : (a b c : Value) → Within (given (below 64 a) (λ slot. given (below (2 ^ 64) b) (λ expected. given (below (2 ^ 64) c) (λ new. Ok (Cas slot expected new)))))
-cas_within a b c =
-    below_within 64 a (λ slot. given (below (2 ^ 64) b) (λ expected. given (below (2 ^ 64) c) (λ new. Ok (Cas slot expected new)))) (λ slot lt.
-    below_within (2 ^ 64) b (λ expected. given (below (2 ^ 64) c) (λ new. Ok (Cas slot expected new))) (λ expected e.
-    below_within (2 ^ 64) c (λ new. Ok (Cas slot expected new)) (λ new small. (lt, small))))
-
-copies_within : (a b c : Value) → Within (given (below 64 a) (λ slot. given (pointer b) (λ to. given (below 65 c) (λ count. copy_of slot to count))))
-copies_within a b c =
-    below_within 64 a (λ slot. given (pointer b) (λ to. given (below 65 c) (λ count. copy_of slot to count))) (λ slot lt.
-    pointer_within b (λ to. given (below 65 c) (λ count. copy_of slot to count)) (λ to.
-    below_within 65 c (λ count. copy_of slot to count) (λ count few. copy_within slot to count)))
+done_within : (relay : Relay) (s : State) (e : Effect) → IfAsks Within e → AsksWithin (done relay s e)
+done_within relay s (Asks request) within = asked_within s request within
+done_within relay s (Puts tells choice) within = sent_within relay s (told tells) choice
+done_within relay s (Enters entry) within = attempted_within relay s entry
 
 called_within : (context : List ℕ) (relay : Relay) (s : State) (h : Option Helper) → AsksWithin (called context relay s h)
 called_within context relay s None = tt
-called_within context relay s (Some BoardGet) = asked_within s _ (get_within (value_at s.registers 1))
-called_within context relay s (Some BoardSwap) = asked_within s _ (swap_within (value_at s.registers 1) (value_at s.registers 2))
-called_within context relay s (Some BoardAdd) = asked_within s _ (add_within (value_at s.registers 1) (value_at s.registers 2))
-called_within context relay s (Some BoardCas) = asked_within s _ (cas_within (value_at s.registers 1) (value_at s.registers 2) (value_at s.registers 3))
-called_within context relay s (Some BoardCopy) = asked_within s _ (copies_within (value_at s.registers 1) (value_at s.registers 2) (value_at s.registers 3))
-called_within context relay s (Some Send) = sent_within relay s (λ set. 1 - set) _
-called_within context relay s (Some SendRow) = sent_within relay s (λ set. set) _
-called_within context relay s (Some Sway) = sent_within relay s (λ set. set) _
-called_within context relay s (Some Honest) = sent_within relay s (λ set. set) _
-called_within context relay s (Some SignOrder) = attempted_within relay s _
-called_within context relay s (Some PassOn) = attempted_within relay s _
+called_within context relay s (Some helper) = done_within relay s (effect context s helper) (requested_within context s helper)
 
 step_within : (program : List Insn) (context : List ℕ) (relay : Relay) (s : State) → AsksWithin (step program context relay s)
 step_within program context relay s =

@@ -6,7 +6,7 @@ use Rattle.std.proofs.lemmas.Bool.{lt-ltb, eq-eqb}
 use Rattle.std.proofs.lemmas.List.{length-take-le, length-drop}
 use Rattle.std.proofs.Math.Nat.{mod-lt}
 use Rattle.semantics.specs.declared.request.Request.{Request}
-use Rattle.semantics.specs.declared.request.Request.TheVariants.{Get, Swap, Add, Cas, Copy}
+use Rattle.semantics.specs.declared.request.Request.TheVariants.{Copy}
 use Rattle.semantics.specs.Call.{fits}
 use Rattle.board.specs.Board.{IsBoard, reply, next}
 use Rattle.board.specs.Requests.{IsRequest}
@@ -61,13 +61,10 @@ one_fits : (w : ℕ) → w < 2 ^ 64 → ((1 == 1) && (nat_lt w (2 ^ 64) && true)
 one_fits w h = rw (lt-ltb w (2 ^ 64) h) refl
 
 pub reply_fits : (words : List ℕ) (request : Request) → IsBoard words → IsRequest request → fits request (reply words request) ≡ true
-reply_fits words (Get slot) board within = one_fits (slice_index words slot) (word_at words slot (words_of_all words board.each))
-reply_fits words (Swap slot value) board within = one_fits (slice_index words slot) (word_at words slot (words_of_all words board.each))
-reply_fits words (Add slot value) board within = one_fits (slice_index words slot) (word_at words slot (words_of_all words board.each))
-reply_fits words (Cas slot expected new) board within = one_fits (slice_index words slot) (word_at words slot (words_of_all words board.each))
 reply_fits words (Copy span) board within =
     let long : length (take span.1 (drop span.0 words)) ≡ span.1 = taken_length span.1 span.0 words (let l = board.long in omega arith) in
     rw (eq-eqb (length (take span.1 (drop span.0 words))) span.1 long) (words_tested (take span.1 (drop span.0 words)) (words_take span.1 (drop span.0 words) (words_drop span.0 words (words_of_all words board.each))))
+reply_fits words request board within = one_fits _ (word_at words _ (words_of_all words board.each))
 
 set_board : (words : List ℕ) (slot value : ℕ) → IsBoard words → value < 2 ^ 64 → IsBoard (slice_set words slot value)
 set_board words slot value board small = record {
@@ -75,13 +72,13 @@ set_board words slot value board small = record {
   each = all_of_words (slice_set words slot value) (words_set words slot value (words_of_all words board.each) small);
 }
 
+board_if : (b : Bool) (words others : List ℕ) → IsBoard words → IsBoard others → IsBoard (cond b words others)
+board_if true words others board other = board
+board_if false words others board other = other
+
+cut_small : (n : ℕ) → n % 2 ^ 64 < 2 ^ 64
+cut_small n = mod-lt n (omega arith)
+
 pub next_board : (words : List ℕ) (request : Request) → IsBoard words → IsRequest request → IsBoard (next words request)
-next_board words (Get slot) board within = board
-next_board words (Swap slot value) board within = set_board words slot value board within.1
-next_board words (Add slot value) board within = set_board words slot ((slice_index words slot + value) % 2 ^ 64) board (mod-lt (slice_index words slot + value) (omega arith))
-next_board words (Cas slot expected new) board within = by (slice_index words slot == expected)
-  where
-    by : (b : Bool) → IsBoard (cond b (slice_set words slot new) words)
-    by true = set_board words slot new board within.1
-    by false = board
 next_board words (Copy span) board within = board
+next_board words request board within = search (set_board, board_if, cut_small)

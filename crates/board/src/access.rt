@@ -2,7 +2,7 @@ ghost use Rattle.std.specs.Prelude.{◌≡◌, ◌↔◌, IfOk, IsTrue};
 ghost use Rattle.semantics.specs.Replies.{words_in};
 ghost use Rattle.board.specs.Requests.{IsReplyTo};
 
-use crate::same::{same_reply, same_request};
+use crate::same::same_reply;
 use semantics::{Copied, Reply, Request};
 use std::alloc::{AllocError, Global};
 use std::marker::Model;
@@ -69,7 +69,7 @@ impl Access {
     {
         self.general == other.general
             && self.round == other.round
-            && same_request(&self.request, &other.request)
+            && self.request.same(&other.request)
             && same_reply(&self.reply, &other.reply)
     }
 }

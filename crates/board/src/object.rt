@@ -5,7 +5,7 @@ ghost use Rattle.board.specs.Board.{reply, next, IsLegal, words_after};
 ghost use Rattle.board.specs.Requests.{IsReplyTo};
 
 use crate::access::Access;
-use crate::recalling::{recall_board, recall_request};
+use crate::recalling::recall_board;
 use crate::words;
 use semantics::{Reply, Request};
 use std::alloc::{AllocError, Global};
@@ -62,7 +62,7 @@ impl Board {
         ensures opening { self.new.opening ≡ self.old.opening }
         ensures unserved { OnErr result (self.new ≡ self.old) }
     {
-        recall_request(&request);
+        request.recall();
         let alloc = self.alloc;
         let reply = words::answer(alloc, &self.words, request)?;
         let entry = Access {

@@ -1,5 +1,5 @@
 -- Campaigns' pages are elements.
-use Rattle.std.proofs.Common.{ℕ, zero, suc, ◌≡◌, ◌==◌, nat_lt, Bool, true, false, List, [], ◌∷◌, ◌++◌, length, Option, None, Some, codes, encode_utf8, refl, subst, sym}
+use Rattle.std.proofs.Common.{ℕ, zero, suc, ◌≡◌, ◌==◌, nat_lt, Bool, false, List, [], ◌∷◌, ◌++◌, length, Option, None, Some, codes, encode_utf8, refl, subst, sym}
 use Rattle.std.specs.Prelude.{if◌then◌else◌}
 use Rattle.std.specs.Fmt.{decimal}
 use Rattle.std.specs.List.{AllByRecursion, flat_map, list_all, range_with_len}
@@ -36,7 +36,7 @@ use Rattle.trace.specs.Text.{chronicle_text}
 use Rattle.world.specs.Chronicle.{Chronicle}
 use Rattle.world.specs.declared.schedule.Repeat.{Repeat}
 use Rattle.world.specs.declared.verdict.Verdict.{Verdict}
-use Rattle.campaign_page.specs.Account.{access_heads, access_row, accesses_heading, accesses_section, accesses_told, behind_words, bound_told, chronicle_heading, chronicle_section, course_told, diagram_section, each_lieutenant, each_program, elsewhere_words, explained_told, general_name, hinted, is_wide, lieutenant_part, lieutenant_told, lieutenant_words, lieutenants_roomed, lieutenants_section, lieutenants_told, no_programs, parts, picture_heading, picture_hint, picture_name, picture_section, program_if, program_part, programs_section, programs_told, recorded_words, scenario_instead, scenario_section, schedule_heading, schedule_section, sections, story_told, title, unscheduled_words, verdict_heading, verdict_part, verdict_told, view_of, why_part}
+use Rattle.campaign_page.specs.Account.{access_heads, access_row, accesses_heading, accesses_section, accesses_told, behind_words, bound_told, chronicle_heading, chronicle_section, course_told, diagram_section, each_lieutenant, each_program, elsewhere_words, explained_told, general_name, hinted, is_wide, lieutenant_part, lieutenant_told, lieutenant_words, lieutenants_heading, lieutenants_roomed, no_programs, parts, picture_heading, picture_hint, picture_name, picture_section, program_if, program_part, programs_section, programs_told, recorded_words, scenario_instead, scenario_section, schedule_heading, schedule_section, sections, story_told, title, unscheduled_words, verdict_heading, verdict_part, verdict_told, view_of, why_part}
 use Rattle.campaign_page.specs.Calls.{named_calls}
 use Rattle.campaign_page.specs.Printers.{accesses_printer, chronicle_printer, lieutenants_printer, picture_printer, programs_printer, scenario_printer, schedule_printer}
 use Rattle.campaign_page.specs.Room.{fitted, lines_told, over, over_words, room_for_accesses, room_for_chronicle, room_for_lieutenants, room_for_picture, room_for_programs, room_for_scenario, room_for_schedule, room_for_sections, room_for_story, room_for_units, roomed, share, units_words}
@@ -132,9 +132,10 @@ picture_filled wide svg element is e =
 diagram_filled : (t : MessageTable) (c : Chronicle) → IsFilled (diagram_section t c)
 diagram_filled t c = let drawn = proved_diagrams_are_elements t c in picture_filled (is_wide c.scenario c.accesses) (svg_text t c) drawn.0 drawn.1 drawn.2
 
-why_content : (lists : Bool) (t : MessageTable) (traitors : List ℕ) (g : ℕ) → IsContent (why_part lists t traitors g)
-why_content true t traitors g = proved_parts_are_content.lines (explained_one t traitors g)
-why_content false t traitors g = proved_parts_are_content.paragraph (elsewhere_words g)
+why_content : (t : MessageTable) (traitors : List ℕ) (g : ℕ) → IsContent (why_part t traitors g)
+why_content t traitors g =
+    cond_both (nat_lt t.bound 4) (lines (explained_one t traitors g)) (paragraph (elsewhere_words g)) IsContent
+    (λ _. proved_parts_are_content.lines (explained_one t traitors g)) (λ _. proved_parts_are_content.paragraph (elsewhere_words g))
 
 node_content : (node : Node) (inside : List ℕ) → IsContent inside → IsContent (label_item node inside)
 node_content node inside c =
@@ -158,30 +159,20 @@ tree_content : (t : MessageTable) (traitors : List ℕ) (view : View) (p : ℕ) 
 unfolding tree_told
 tree_content t traitors view p = root_content _ _ (items_content t traitors (deeper view) t.bound (t.commander ∷ []) p)
 
-lieutenant_content : (lists : Bool) (t : MessageTable) (traitors : List ℕ) (view : View) (g : ℕ) → IsContent (lieutenant_told lists t traitors view g)
-lieutenant_content lists t traitors view g =
+lieutenant_content : (t : MessageTable) (traitors : List ℕ) (view : View) (g : ℕ) → IsContent (lieutenant_told t traitors view g)
+lieutenant_content t traitors view g =
     let tree : List ℕ = tree_told t traitors view g in
-    let why : List ℕ = why_part lists t traitors g in
-    proved_parts_are_content.fold (lieutenant_words g (on traitors g) (decision_of t g)) (tree ++ why) (joined tree why (tree_content t traitors view g) (why_content lists t traitors g))
+    let why : List ℕ = why_part t traitors g in
+    proved_parts_are_content.fold (lieutenant_words g (on traitors g) (decision_of t g)) (tree ++ why) (joined tree why (tree_content t traitors view g) (why_content t traitors g))
 
-one_content : (lists : Bool) (t : MessageTable) (traitors : List ℕ) (view : View) (g : ℕ) → IsContent (lieutenant_part lists t traitors view g)
-one_content lists t traitors view g =
-    cond_both (g == t.commander) [] (lieutenant_told lists t traitors view g) IsContent (λ _. text [] no_text) (λ _. lieutenant_content lists t traitors view g)
+one_content : (t : MessageTable) (traitors : List ℕ) (view : View) (g : ℕ) → IsContent (lieutenant_part t traitors view g)
+one_content t traitors view g = cond_both (g == t.commander) [] (lieutenant_told t traitors view g) IsContent (λ _. text [] no_text) (λ _. lieutenant_content t traitors view g)
 
 pub lieutenants_filled : (title told : List ℕ) → IsContent told → IsFilled (lieutenants_roomed title told)
 lieutenants_filled title told is = filled title room_for_lieutenants lieutenants_printer told is
 
-lieutenants_content : (lists : Bool) (t : MessageTable) (traitors : List ℕ) (view : View) → IsContent (each_lieutenant lists t traitors view)
-lieutenants_content lists t traitors view = all (lieutenant_part lists t traitors view) (range_with_len 0 t.generals) (one_content lists t traitors view)
-
-trees_filled : (t : MessageTable) (s : Scenario) → IsFilled (lieutenants_section t s)
-trees_filled t s =
-    let trees : List ℕ = each_lieutenant false t (traitors_of s) (view_of s) in
-    let bytes : ℕ = length (lieutenants_told t s) in (
-      lieutenants_content (nat_lt t.bound 4) t (traitors_of s) (view_of s),
-      cond_both (nat_lt room_for_lieutenants bytes) (fitted room_for_lieutenants lieutenants_printer trees) [] IsContent
-          (λ _. fitted_content room_for_lieutenants lieutenants_printer trees (lieutenants_content false t (traitors_of s) (view_of s))) (λ _. text [] no_text),
-    )
+lieutenants_content : (t : MessageTable) (traitors : List ℕ) (view : View) → IsContent (each_lieutenant t traitors view)
+lieutenants_content t traitors view = all (lieutenant_part t traitors view) (range_with_len 0 t.generals) (one_content t traitors view)
 
 heads_content : IsContent access_heads
 heads_content =
@@ -232,6 +223,8 @@ sections_content ss verdict each is =
 parts_content : (words : List ℕ) (schedule : Option (List (List Repeat))) (t : MessageTable) (c : Chronicle) → IsContent (parts words schedule t c)
 unfolding parts
 parts_content words schedule t c =
+    let traitors : List ℕ = traitors_of c.scenario in
+    let view : View = view_of c.scenario in
     sections_content (sections words schedule t c) (verdict_part c.verdict) (
       scenario_filled words,
       (
@@ -240,7 +233,7 @@ parts_content words schedule t c =
           programs_filled c.scenario,
           (
             diagram_filled t c,
-            (trees_filled t c.scenario, (accesses_filled c.accesses, (chronicle_filled (chronicle_text c), tt))),
+            (lieutenants_filled lieutenants_heading (each_lieutenant t traitors view) (lieutenants_content t traitors view), (accesses_filled c.accesses, (chronicle_filled (chronicle_text c), tt))),
           ),
         ),
       ),

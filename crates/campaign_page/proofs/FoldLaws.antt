@@ -1,8 +1,8 @@
 -- What stands in the folds of a page.
 use Rattle.std.proofs.Common.{ℕ, zero, suc, ◌<◌, ◌≤◌, length, ◌≡◌, ◌≢◌, Bool, true, false, List, [], ◌∷◌, ◌++◌, refl, sym, ap, subst, ◌∙◌, arith, inl, inr, Option, codes}
-use Rattle.std.specs.Prelude.{◌==◌, if◌then◌else◌, nat_lt}
+use Rattle.std.specs.Prelude.{◌==◌, if◌then◌else◌}
 use Rattle.std.specs.List.{AllByRecursion, flat_map, range_with_len}
-use Rattle.std.proofs.lemmas.Bool.{cases_Bool, cond-false, cond-true, eqb-true, le-ltb, ltb-false, ne_eqb, or_cases}
+use Rattle.std.proofs.lemmas.Bool.{cond-false, eqb-true, ne_eqb, or_cases}
 use Rattle.std.proofs.lemmas.List.Elements.{All-from_recursion}
 use Rattle.book.specs.Decisions.{decision_of}
 use Rattle.book.specs.Table.{MessageTable}
@@ -19,16 +19,13 @@ use Rattle.page.specs.Laws.{StandsIn}
 use Rattle.page.specs.Sections.{Section, sections_in}
 use Rattle.page.proofs.SectionLaws.{ahead, behind, proved_sections_are_fitted}
 use Rattle.retold.specs.Retold.{traitors_of}
-use Rattle.roster.specs.Scenario.{IsScenario, Scenario}
 use Rattle.trace.specs.Text.{chronicle_text}
 use Rattle.world.specs.Chronicle.{Chronicle}
 use Rattle.world.specs.declared.schedule.Repeat.{Repeat}
-use Rattle.campaign_page.specs.Account.{accesses_section, chronicle_section, diagram_section, each_lieutenant, lieutenant_part, lieutenant_told, lieutenant_words, lieutenants_instead, lieutenants_section, lieutenants_told, page_text, parts, programs_section, scenario_section, schedule_section, sections, title, verdict_part, view_of, why_part}
-use Rattle.campaign_page.specs.Printers.{lieutenants_printer}
-use Rattle.campaign_page.specs.Room.{fitted, over, room_for_lieutenants, room_for_sections}
-use Rattle.campaign_page.specs.Laws.{FoldsHideNothing, IsShownIn as Shows, IsTableWithin}
+use Rattle.campaign_page.specs.Account.{accesses_section, chronicle_section, diagram_section, each_lieutenant, lieutenant_part, lieutenant_told, lieutenant_words, lieutenants_section, page_text, parts, programs_section, scenario_section, schedule_section, sections, title, verdict_part, view_of, why_part}
+use Rattle.campaign_page.specs.Room.{room_for_lieutenants, room_for_sections}
+use Rattle.campaign_page.specs.Laws.{FoldsHideNothing, IsShownIn as Shows}
 use Rattle.campaign_page.specs.Trees.{item_by, items_below, tree_told}
-use Rattle.campaign_page.proofs.RoomLaws.{trees_fit}
 
 between : (part whole before after : List ℕ) → StandsIn part whole → StandsIn part (before ++ whole ++ after)
 between part whole before after is = ahead part (before ++ whole) after (behind part whole before is)
@@ -101,64 +98,36 @@ among_all part G (x ∷ xs) j there is = elim (or_cases (x == j) (on xs j) there
   | inr later ↦ behind part (flat_map G xs) (G x) (among_all part G xs j later is)
 ]
 
--- what stands in the section of the lieutenants stands in the page
-section_stands : (part words : List ℕ) (schedule : Option (List (List Repeat))) (t : MessageTable) (c : Chronicle) → StandsIn part (sections_in room_for_sections (sections words schedule t c))
-    → StandsIn part (page_text words schedule t c)
+-- the parts of the lieutenants stand in the page, if they are within their own room
+lieutenants_stand : (words : List ℕ) (schedule : Option (List (List Repeat))) (t : MessageTable) (c : Chronicle)
+    → length (each_lieutenant t (traitors_of c.scenario) (view_of c.scenario)) ≤ room_for_lieutenants
+    → StandsIn (each_lieutenant t (traitors_of c.scenario) (view_of c.scenario)) (page_text words schedule t c)
 unfolding parts
-section_stands part words schedule t c is =
-    between part (sections_in room_for_sections (sections words schedule t c) ++ verdict_part c.verdict) (page_start (title c.scenario)) page_end
-    (ahead part (sections_in room_for_sections (sections words schedule t c)) (verdict_part c.verdict) is)
+lieutenants_stand words schedule t c short =
+    let told : List ℕ = each_lieutenant t (traitors_of c.scenario) (view_of c.scenario) in
+    let all : List Section = sections words schedule t c in
+    between told (sections_in room_for_sections all ++ verdict_part c.verdict) (page_start (title c.scenario)) page_end
+    (ahead told (sections_in room_for_sections all) (verdict_part c.verdict)
+    (proved_sections_are_fitted.own room_for_sections (scenario_section words ∷ schedule_section schedule ∷ programs_section c.scenario ∷ diagram_section t c ∷ [])
+    (lieutenants_section t c.scenario) (accesses_section c.accesses ∷ chronicle_section (chronicle_text c) ∷ []) short))
 
--- where there is no room for the lists, the trees have room
-in_place : (t : MessageTable) (s : Scenario) → IsScenario s → IsTableWithin t → nat_lt room_for_lieutenants (length (lieutenants_told t s)) ≡ true
-    → lieutenants_instead t s (length (lieutenants_told t s)) ≡ each_lieutenant false t (traitors_of s) (view_of s)
-in_place t s is within long =
-    let trees : List ℕ = each_lieutenant false t (traitors_of s) (view_of s) in
-    let few = trees_fit t (traitors_of s) s.order within is.order in
-    cond-true (nat_lt room_for_lieutenants (length (lieutenants_told t s))) (fitted room_for_lieutenants lieutenants_printer trees) [] long
-    ∙ cond-false (nat_lt room_for_lieutenants (length trees)) (over room_for_lieutenants lieutenants_printer) trees (le-ltb room_for_lieutenants (length trees) few)
-
--- so the parts of the lieutenants stand in the page, with lists or without
-lieutenants_stand : (words : List ℕ) (schedule : Option (List (List Repeat))) (t : MessageTable) (c : Chronicle) → IsScenario c.scenario → IsTableWithin t
-    → (lists : Bool) × StandsIn (each_lieutenant lists t (traitors_of c.scenario) (view_of c.scenario)) (page_text words schedule t c)
-lieutenants_stand words schedule t c is within =
-    let s : Scenario = c.scenario in
-    let told : List ℕ = lieutenants_told t s in
-    let before : List Section = scenario_section words ∷ schedule_section schedule ∷ programs_section s ∷ diagram_section t c ∷ [] in
-    let after : List Section = accesses_section c.accesses ∷ chronicle_section (chronicle_text c) ∷ [] in
-    let own : Section = lieutenants_section t s in
-    elim (cases_Bool (nat_lt room_for_lieutenants (length told))) [
-      | inr short ↦
-          (nat_lt t.bound 4, section_stands told words schedule t c (proved_sections_are_fitted.own room_for_sections before own after (ltb-false room_for_lieutenants (length told) short)))
-      | inl long ↦ elim (proved_sections_are_fitted.stands room_for_sections before own after) [
-        | inl there ↦ (nat_lt t.bound 4, section_stands told words schedule t c there)
-        | inr instead ↦ (
-          false,
-          subst (λ (part : List ℕ). StandsIn part (page_text words schedule t c)) (in_place t s is within long)
-              (section_stands (lieutenants_instead t s (length told)) words schedule t c instead),
-        )
-      ]
-    ]
-
-lieutenant_stands : (part : List ℕ) (lists : Bool) (t : MessageTable) (traitors : List ℕ) (view : View) (p : ℕ) → p < t.generals → p ≢ t.commander
-    → StandsIn part (tree_told t traitors view p) → StandsIn part (each_lieutenant lists t traitors view)
-lieutenant_stands part lists t traitors view p general lieutenant is =
-    let told : List ℕ = tree_told t traitors view p ++ why_part lists t traitors p in
+lieutenant_stands : (part : List ℕ) (t : MessageTable) (traitors : List ℕ) (view : View) (p : ℕ) → p < t.generals → p ≢ t.commander
+    → StandsIn part (tree_told t traitors view p) → StandsIn part (each_lieutenant t traitors view)
+lieutenant_stands part t traitors view p general lieutenant is =
+    let told : List ℕ = tree_told t traitors view p ++ why_part t traitors p in
     let words : List ℕ = lieutenant_words p (on traitors p) (decision_of t p) in
-    let his : StandsIn part (lieutenant_told lists t traitors view p) =
-    between part told (fold_start words) fold_end (ahead part (tree_told t traitors view p) (why_part lists t traitors p) is) in
-    let own : lieutenant_told lists t traitors view p ≡ lieutenant_part lists t traitors view p =
-    sym (cond-false (p == t.commander) [] (lieutenant_told lists t traitors view p) (ne_eqb p t.commander lieutenant)) in
-    among_all part (lieutenant_part lists t traitors view) (range_with_len 0 t.generals) p (range-on 0 t.generals p (omega arith) (omega arith)) (subst (StandsIn part) own his)
+    let his : StandsIn part (lieutenant_told t traitors view p) = between part told (fold_start words) fold_end (ahead part (tree_told t traitors view p) (why_part t traitors p) is) in
+    let own : lieutenant_told t traitors view p ≡ lieutenant_part t traitors view p = sym (cond-false (p == t.commander) [] (lieutenant_told t traitors view p) (ne_eqb p t.commander lieutenant)) in
+    among_all part (lieutenant_part t traitors view) (range_with_len 0 t.generals) p (range-on 0 t.generals p (omega arith) (omega arith)) (subst (StandsIn part) own his)
 
 pub proved_folds_hide_nothing : FoldsHideNothing
-proved_folds_hide_nothing words schedule t c p is table general lieutenant =
+proved_folds_hide_nothing words schedule t c p general lieutenant short =
     let traitors : List ℕ = traitors_of c.scenario in
     let view : View = view_of c.scenario in
-    let all = lieutenants_stand words schedule t c is table in
     All-from_recursion (Shows (page_text words schedule t c)) (nodes_of t traitors view p)
     (weaker (Shows (tree_told t traitors view p)) (Shows (page_text words schedule t c)) (nodes_of t traitors view p)
-    (λ node there.
+    (λ node is.
     let part : List ℕ = shown (said node) in
-    within part (each_lieutenant all.0 t traitors view) (page_text words schedule t c) (lieutenant_stands part all.0 t traitors view p general lieutenant there) all.1)
+    within part (each_lieutenant t traitors view) (page_text words schedule t c) (lieutenant_stands part t traitors view p general lieutenant is)
+    (lieutenants_stand words schedule t c short))
     (tree_shows t traitors view p))

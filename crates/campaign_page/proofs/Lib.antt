@@ -6,6 +6,3 @@ pub mod ShortLaws
 pub mod ShortLemmas
 mod TreeLemmas
 mod StoryLemmas
-mod NodeLemmas
-mod PlainTexts
-mod RoomLaws

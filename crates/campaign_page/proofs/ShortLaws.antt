@@ -21,7 +21,7 @@ use Rattle.trace.specs.Text.{chronicle_text}
 use Rattle.world.specs.Chronicle.{Chronicle}
 use Rattle.world.specs.declared.schedule.Repeat.{Repeat}
 use Rattle.world.specs.declared.verdict.Verdict.{Verdict}
-use Rattle.campaign_page.specs.Account.{accesses_heading, accesses_section, accesses_told, bound_told, chronicle_heading, chronicle_section, course_told, each_lieutenant, each_program, explained_told, general_name, hinted, is_wide, lieutenants_heading, lieutenants_roomed, lieutenants_section, lieutenants_told, parts, picture_heading, picture_section, program_if, program_part, programs_heading, programs_section, programs_told, promise_words, scenario_heading, scenario_section, schedule_heading, schedule_section, sections, story_told, title, verdict_heading, verdict_part, verdict_told, view_of}
+use Rattle.campaign_page.specs.Account.{accesses_heading, accesses_section, accesses_told, bound_told, chronicle_heading, chronicle_section, course_told, each_lieutenant, each_program, explained_told, general_name, hinted, is_wide, lieutenants_heading, lieutenants_roomed, parts, picture_heading, picture_section, program_if, program_part, programs_heading, programs_section, programs_told, promise_words, scenario_heading, scenario_section, schedule_heading, schedule_section, sections, story_told, title, verdict_heading, verdict_part, verdict_told, view_of}
 use Rattle.campaign_page.specs.Laws.{CampaignPagesAreShort}
 use Rattle.campaign_page.specs.Printers.{accesses_printer, chronicle_printer, lieutenants_printer, picture_printer, programs_printer, scenario_printer, schedule_printer}
 use Rattle.campaign_page.specs.Room.{fitted, lines_told, over, over_words, room_for_sections, roomed, share}
@@ -139,13 +139,6 @@ picture_roomy wide svg = roomy picture_heading 600000 picture_printer (hinted wi
 pub lieutenants_roomy : (title told : List ℕ) → IsRoomy (lieutenants_roomed title told)
 unfolding lieutenants_printer
 lieutenants_roomy title told = roomy title 525000 lieutenants_printer told (omega arith) (omega arith) (known lieutenants_printer 130 refl)
-
-trees_roomy : (t : MessageTable) (s : Scenario) → IsRoomy (lieutenants_section t s)
-unfolding lieutenants_printer
-trees_roomy t s =
-    let trees : List ℕ = each_lieutenant false t (traitors_of s) (view_of s) in
-    cond_both (nat_lt 525000 (length (lieutenants_told t s))) (fitted 525000 lieutenants_printer trees) [] (λ xs. length xs ≤ 525000)
-    (λ _. fitted_short 525000 lieutenants_printer trees (omega arith) (omega arith) (known lieutenants_printer 130 refl)) (λ _. omega arith)
 
 pub accesses_roomy : (accesses : List Access) → IsRoomy (accesses_section accesses)
 unfolding accesses_printer
@@ -285,7 +278,7 @@ parts_short words schedule t c is =
           programs_roomy c.scenario is,
           (
             picture_roomy (is_wide c.scenario c.accesses) (svg_text t c),
-            (trees_roomy t c.scenario, (accesses_roomy c.accesses, (chronicle_roomy (chronicle_text c), tt))),
+            (lieutenants_roomy lieutenants_heading (each_lieutenant t (traitors_of c.scenario) (view_of c.scenario)), (accesses_roomy c.accesses, (chronicle_roomy (chronicle_text c), tt))),
           ),
         ),
       ),

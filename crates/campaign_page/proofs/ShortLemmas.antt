@@ -63,7 +63,7 @@ written_short c =
     (one_more c (c == 13) (codes "&#13;") None refl (by_itself c))))))))
 
 -- characters one behind the other
-pub E_append : (xs ys : List ℕ) → E (xs ++ ys) ≡ E xs ++ E ys
+E_append : (xs ys : List ℕ) → E (xs ++ ys) ≡ E xs ++ E ys
 E_append xs ys = ap encode_utf8_all (flat_map-append written xs ys) ∙ encodes-append (escaped xs) (escaped ys)
 
 first_short : (c : ℕ) → length (E (c ∷ [])) ≤ 6

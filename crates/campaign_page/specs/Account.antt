@@ -192,50 +192,31 @@ unfoldable pub lieutenant_words : ℕ → Bool → ℕ → List ℕ
 lieutenant_words g is_traitor order =
     codes "Lieutenant " ++ (decimal g ++ (traitor_words is_traitor ++ (codes " decides " ++ decimal order)))
 
--- where his lists are left out, who tells them
+-- of five rounds, in which he may have more than a thousand lists, who tells them
 unfoldable pub elsewhere_words : ℕ → List ℕ
 elsewhere_words g =
-    codes "This page leaves out the lists by which he decides so: byzlab play, with --schedule as here, or byzlab "
-    ++ codes "audit of the chronicle tells them with --explain --of " ++ (decimal g ++ codes ".")
+    codes "Of five rounds a page leaves out the lists by which he decides so: byzlab play, with --schedule as here, "
+    ++ codes "or byzlab audit of the chronicle tells them with --explain --of " ++ (decimal g ++ codes ".")
 
-abbrev pub why_part : Bool → MessageTable → List ℕ → ℕ → List ℕ
-why_part lists t traitors g = if lists then lines (explained_one t traitors g) else paragraph (elsewhere_words g)
+abbrev pub why_part : MessageTable → List ℕ → ℕ → List ℕ
+why_part t traitors g = if nat_lt t.bound 4 then lines (explained_one t traitors g) else paragraph (elsewhere_words g)
 
-abbrev pub lieutenant_told : Bool → MessageTable → List ℕ → View → ℕ → List ℕ
-lieutenant_told lists t traitors view g =
-    fold (lieutenant_words g (on traitors g) (decision_of t g))
-    (tree_told t traitors view g ++ why_part lists t traitors g)
+abbrev pub lieutenant_told : MessageTable → List ℕ → View → ℕ → List ℕ
+lieutenant_told t traitors view g =
+    fold (lieutenant_words g (on traitors g) (decision_of t g)) (tree_told t traitors view g ++ why_part t traitors g)
 
-abbrev pub lieutenant_part : Bool → MessageTable → List ℕ → View → ℕ → List ℕ
-lieutenant_part lists t traitors view g =
-    if g == t.commander then [] else lieutenant_told lists t traitors view g
+abbrev pub lieutenant_part : MessageTable → List ℕ → View → ℕ → List ℕ
+lieutenant_part t traitors view g = if g == t.commander then [] else lieutenant_told t traitors view g
 
--- of each, with the lists or without
-abbrev pub each_lieutenant : Bool → MessageTable → List ℕ → View → List ℕ
-each_lieutenant lists t traitors view = flat_map (lieutenant_part lists t traitors view) (range_with_len 0 t.generals)
-
--- without them of five rounds, of which each lieutenant may have more than a thousand
-abbrev pub lieutenants_told : MessageTable → Scenario → List ℕ
-lieutenants_told t s = each_lieutenant (nat_lt t.bound 4) t (traitors_of s) (view_of s)
-
--- and where so many bytes have no room
-abbrev pub lieutenants_instead : MessageTable → Scenario → ℕ → List ℕ
-lieutenants_instead t s bytes =
-    if nat_lt room_for_lieutenants bytes
-    then fitted room_for_lieutenants lieutenants_printer (each_lieutenant false t (traitors_of s) (view_of s))
-    else []
+abbrev pub each_lieutenant : MessageTable → List ℕ → View → List ℕ
+each_lieutenant t traitors view = flat_map (lieutenant_part t traitors view) (range_with_len 0 t.generals)
 
 -- lieutenants of whom this is told, under a title
 abbrev pub lieutenants_roomed : List ℕ → List ℕ → Section
 lieutenants_roomed title told = roomed title room_for_lieutenants lieutenants_printer told
 
 abbrev pub lieutenants_section : MessageTable → Scenario → Section
-lieutenants_section t s = record {
-  title = lieutenants_heading;
-  told = lieutenants_told t s;
-  room = room_for_lieutenants;
-  instead = lieutenants_instead t s (length (lieutenants_told t s));
-}
+lieutenants_section t s = lieutenants_roomed lieutenants_heading (each_lieutenant t (traitors_of s) (view_of s))
 
 -- the accesses, in the board's order, if there are any: a table with a row for each
 abbrev pub access_heads : List ℕ

@@ -13,8 +13,8 @@ pub fn campaign_pages_are_short()
     ensures { CampaignPagesAreShort }
 {}
 
-/// What is said of the labels of a lieutenant's tree stands in the page of a campaign within its limits, whichever
-/// folds are open.
+/// What is said of the labels of a lieutenant's tree stands in the page, whichever folds are open, where it has room
+/// for the lieutenants.
 pub fn folds_hide_nothing()
     ensures { FoldsHideNothing }
 {}

@@ -1,6 +1,6 @@
 //! Sections with a part for each general.
 ghost use Rattle.std.specs.Prelude.{◌≡◌, ◌<◌, ◌++◌, string_bytes, IfOk, OnOk};
-ghost use Rattle.campaign_page.specs.Account.{each_lieutenant, each_program, elsewhere_words, explained_told, general_name, lieutenant_part, lieutenant_words, lieutenants_heading, lieutenants_instead, lieutenants_roomed, lieutenants_section, lieutenants_told, no_programs, program_part, program_told, programs_heading, programs_section, programs_shared, programs_told, traitor_words, view_of, why_part};
+ghost use Rattle.campaign_page.specs.Account.{each_lieutenant, each_program, elsewhere_words, explained_told, general_name, lieutenant_part, lieutenant_words, lieutenants_heading, lieutenants_roomed, lieutenants_section, no_programs, program_part, program_told, programs_heading, programs_section, programs_shared, programs_told, traitor_words, view_of, why_part};
 ghost use Rattle.campaign_page.specs.Room.{room_for_sections};
 ghost use Rattle.label.specs.Labels.{on};
 ghost use Rattle.retold.specs.Retold.{traitors_of};
@@ -173,14 +173,8 @@ pub(crate) fn lieutenants_section<H: Heard>(
 ) -> Result<Section, AllocError>
     ensures { IfOk result (λ section. section ≡ lieutenants_section (H.seen table.now) chronicle.now.scenario) }
 {
-    let told = lieutenants_told(alloc, table, chronicle.scenario())?;
-    let instead = lieutenants_instead(alloc, table, chronicle.scenario(), told.len())?;
-    Ok(Section {
-        title: lieutenants_heading(),
-        told,
-        room: ROOM_FOR_LIEUTENANTS,
-        instead,
-    })
+    let told = lieutenants(alloc, table, chronicle)?;
+    lieutenants_roomed(alloc, lieutenants_heading(), told)
 }
 
 /// Lieutenants of whom this is told, under a title.
@@ -200,55 +194,19 @@ pub fn lieutenants_roomed(
     )
 }
 
-/// The parts of each lieutenant; of five rounds, of which he may have more than a thousand, without his lists.
-fn lieutenants_told<H: Heard>(
-    alloc: Global,
-    table: &H,
-    scenario: &Scenario,
-) -> Result<String, AllocError>
-    ensures { IfOk result (λ told. string_bytes told ≡ lieutenants_told (H.seen table.now) scenario.now) }
-{
-    lieutenants(alloc, table, scenario, table.bound() < 4)
-}
-
-/// What stands in place of so many bytes, if they have no room: the parts without lists.
-fn lieutenants_instead<H: Heard>(
-    alloc: Global,
-    table: &H,
-    scenario: &Scenario,
-    bytes: usize,
-) -> Result<String, AllocError>
-    ensures { IfOk result (λ told. string_bytes told ≡ lieutenants_instead (H.seen table.now) scenario.now bytes) }
-{
-    let mut told = String::new(alloc);
-    if bytes <= ROOM_FOR_LIEUTENANTS {
-        return Ok(told);
-    }
-    let trees = lieutenants(alloc, table, scenario, false)?;
-    put_fitted(
-        alloc,
-        &mut told,
-        ROOM_FOR_LIEUTENANTS,
-        lieutenants_printer(),
-        trees.as_str(),
-    )?;
-    Ok(told)
-}
-
-/// The parts of each lieutenant, with the lists or without.
+/// The parts of each lieutenant.
 fn lieutenants<H: Heard>(
     alloc: Global,
     table: &H,
-    scenario: &Scenario,
-    lists: bool,
+    chronicle: &Chronicle,
 ) -> Result<String, AllocError>
     ensures { IfOk result (λ told. string_bytes told
-        ≡ each_lieutenant lists (H.seen table.now) (traitors_of scenario.now) (view_of scenario.now)) }
+        ≡ each_lieutenant (H.seen table.now) (traitors_of chronicle.now.scenario) (view_of chronicle.now.scenario)) }
 {
-    let traitors = traitors(alloc, scenario)?;
-    let view = view_of(scenario);
+    let traitors = traitors(alloc, chronicle.scenario())?;
+    let view = view_of(chronicle.scenario());
     let mut told = String::new(alloc);
-    put_each_lieutenant(alloc, &mut told, table, traitors.as_slice(), view, lists)?;
+    put_each_lieutenant(alloc, &mut told, table, traitors.as_slice(), view)?;
     Ok(told)
 }
 
@@ -259,13 +217,12 @@ fn put_each_lieutenant<H: Heard>(
     table: &H,
     traitors: &[u8],
     view: View,
-    lists: bool,
 ) -> Result<(), AllocError>
     ensures { OnOk result (string_bytes out.new ≡ string_bytes out.old
-        ++ each_lieutenant lists (H.seen table.now) traitors.now view) }
+        ++ each_lieutenant (H.seen table.now) traitors.now view) }
 {
     for general in 0..table.generals() {
-        put_lieutenant_of(alloc, out, table, traitors, view, lists, general)?;
+        put_lieutenant_of(alloc, out, table, traitors, view, general)?;
     }
     Ok(())
 }
@@ -277,12 +234,11 @@ fn put_lieutenant_of<H: Heard>(
     table: &H,
     traitors: &[u8],
     view: View,
-    lists: bool,
     general: u8,
 ) -> Result<(), AllocError>
     requires { general < (H.seen table.now).generals }
     ensures { OnOk result (string_bytes out.new ≡ string_bytes out.old
-        ++ lieutenant_part lists (H.seen table.now) traitors.now view general) }
+        ++ lieutenant_part (H.seen table.now) traitors.now view general) }
 {
     if general == table.commander() {
         return Ok(());
@@ -291,7 +247,7 @@ fn put_lieutenant_of<H: Heard>(
     let name = lieutenant_name(alloc, general, is_traitor, decision(table, general))?;
     put_fold_start(out, name.as_str())?;
     put_tree(alloc, out, table, traitors, view, general)?;
-    put_why(alloc, out, table, traitors, lists, general)?;
+    put_why(alloc, out, table, traitors, general)?;
     put_fold_end(out)
 }
 
@@ -313,19 +269,18 @@ fn has(generals: &[u8], general: u8) -> bool
     generals.iter().any(|x| *x == general)
 }
 
-/// Adds how a lieutenant's decision comes about, or, without his lists, who tells it.
+/// Adds how a lieutenant's decision comes about, of five rounds who tells it.
 fn put_why<H: Heard>(
     alloc: Global,
     out: &mut String,
     table: &H,
     traitors: &[u8],
-    lists: bool,
     general: u8,
 ) -> Result<(), AllocError>
     ensures { OnOk result (string_bytes out.new ≡ string_bytes out.old
-        ++ why_part lists (H.seen table.now) traitors.now general) }
+        ++ why_part (H.seen table.now) traitors.now general) }
 {
-    if !lists {
+    if table.bound() >= 4 {
         let words = elsewhere_words(alloc, general)?;
         return put_paragraph(out, words.as_str());
     }
@@ -339,8 +294,8 @@ fn elsewhere_words(alloc: Global, general: u8) -> Result<String, AllocError>
     ensures { IfOk result (λ words. string_bytes words ≡ elsewhere_words general) }
 {
     format!(in alloc;
-        "This page leaves out the lists by which he decides so: byzlab play, with --schedule as here, or byzlab \
-         audit of the chronicle tells them with --explain --of {general}."
+        "Of five rounds a page leaves out the lists by which he decides so: byzlab play, with --schedule as here, \
+         or byzlab audit of the chronicle tells them with --explain --of {general}."
     )
 }
 

@@ -1,7 +1,7 @@
 -- What a form's reading says of the fields.
-use Rattle.std.proofs.Common.{◌≡◌, ◌≤◌, ◌<◌, ◌+◌, ◌*◌, ℕ, drop, take, get_or, List, [], ◌∷◌, Some, Result, Ok, Err, length, refl, sym, ap, subst, ◌∙◌, arith}
+use Rattle.std.proofs.Common.{◌≡◌, Bool, ◌≤◌, ◌<◌, ◌+◌, ◌*◌, ℕ, drop, take, get_or, List, [], ◌∷◌, Some, Result, Ok, Err, length, refl, sym, ap, subst, ◌∙◌, arith}
 use Rattle.std.proofs.lemmas.List.{length-drop}
-use Rattle.std.specs.Prelude.{IfOk, IfErr, MatchResult}
+use Rattle.std.specs.Prelude.{IfOk, IfErr, IsErrAnd, MatchResult}
 use Rattle.insn.specs.declared.insn.Insn.{Insn}
 use Rattle.insn.specs.Insn.{IsInsn, units_of}
 use Rattle.codec.specs.declared.fault.Fault.{Fault}
@@ -63,3 +63,8 @@ pub all_inside : (o : Result ℕ Fault) (place : Insn) (bytes tail : List ℕ) (
 all_inside (Ok n) place bytes tail f long behind meant =
     omega (arith, units_inside (spelling place) f tail meant.2, length-spelling place, ap length behind, length-drop 8 bytes)
 all_inside (Err e) place bytes tail f long behind meant = tt
+
+-- a fault that is handed on is the first of the checks
+pub handed_on : (r : Result Insn Fault) (e : Fault) (checks : List (Bool × Fault)) → IsErrAnd r (λ f. f ≡ e) → first_fault checks ≡ Some e → IfErr r (λ f. first_fault checks ≡ Some f)
+handed_on (Ok i) e checks told found = tt
+handed_on (Err f) e checks told found = found ∙ ap Some (sym told)

@@ -1,14 +1,15 @@
 -- Pictures are elements of XML.
 use Rattle.std.proofs.Common.{ℕ, ◌+◌, ◌-◌, ◌*◌, ◌≡◌, Bool, true, false, List, [], ◌∷◌, ◌++◌, Option, Some, None, refl, sym, ap, ◌∙◌, subst, append_assoc, append-nil}
-use Rattle.std.proofs.lemmas.Bool.{cond_both}
-use Rattle.std.specs.Prelude.{codes, count_by, ◌==◌, min, slice_get}
+use Rattle.std.proofs.lemmas.Bool.{and_parts, cond_both}
+use Rattle.std.specs.Prelude.{codes, count_by, ◌==◌, min, slice_get, slice_index_or}
 use Rattle.std.specs.Fmt.{decimal}
-use Rattle.std.specs.List.{flat_map, range_with_len}
+use Rattle.std.specs.List.{flat_map, list_all, range_with_len}
 use Rattle.markup.specs.Grammar.{IsText, no_text, no_attributes, attributed, IsTag, IsContent, text, nested, alone, joined, is_name}
 use Rattle.markup.specs.Tags.{attribute, element, empty}
-use Rattle.markup.proofs.TextLemmas.{bare_text, decimal_text, text-append, text-flat_map}
+use Rattle.markup.proofs.TextLemmas.{bare_text, decimal_text, is_bare, text-append, text-flat_map}
 use Rattle.semantics.specs.declared.request.Request.{Request}
-use Rattle.semantics.specs.declared.request.Request.TheVariants.{Get, Swap, Add, Cas, Copy}
+use Rattle.asking.specs.Wording.{Row, numbers_asked, row_asked}
+use Rattle.asking.proofs.RowLemmas.{row_has}
 use Rattle.board.specs.Board.{Access}
 use Rattle.roster.specs.Scenario.{Scenario, is_traitor}
 use Rattle.world.specs.Chronicle.{Chronicle}
@@ -26,7 +27,7 @@ use Rattle.diagram.specs.Lists.{with_rows}
 use Rattle.diagram.specs.Order.{most_rows}
 use Rattle.diagram.specs.Shapes.{group_at, group_start, line, mark, said_if, shape_of, sort_of, stroke_at, stroke_open, stroke_way, text_at, text_start, title}
 use Rattle.diagram.specs.Svg.{board_head, box_words, campaign_words, description, general_head, head, head_of, heads, key_end, key_start, look, picture, start, stroke_key, svg_text}
-use Rattle.diagram.specs.Words.{access_words, answer_words, asked_words, copied_words, copy_words, differs_words, from_words, general_words, in_full, is_copy, kind, kind_of, labels_words, order_words, outline, outline_of, role_words, row_words, shown_words, stroke_words, swap_words, tells_words, word_words}
+use Rattle.diagram.specs.Words.{access_words, answer_words, asked_words, copied_words, differs_words, from_words, general_words, in_full, is_copy, kind, kind_of, labels_words, order_words, outline, outline_of, piece_words, role_words, row_words, shown_words, stroke_words, tells_words, word_words}
 
 -- ---- words
 
@@ -82,27 +83,17 @@ outline_text true None = bare_text (codes "M-5-5L5 5M5-5L-5 5") refl
 pub numbered : (words : List ℕ) (n : ℕ) → IsText words → IsText (words ++ decimal n)
 numbered words n t = many words (decimal n) t (decimal_text n)
 
-swap_text : (value slot : ℕ) → IsText (swap_words value slot)
-unfolding swap_words
-swap_text value slot =
-    many (codes "writes ") (decimal value ++ (codes " into word " ++ decimal slot)) (bare_text (codes "writes ") refl)
-    (many (decimal value) (codes " into word " ++ decimal slot) (decimal_text value) (numbered (codes " into word ") slot (bare_text (codes " into word ") refl)))
+abbrev has_bare_pieces : Row → Bool
+has_bare_pieces r = list_all (λ piece. list_all is_bare piece.0) r.sentence
 
-copy_text : (count slot : ℕ) → IsText (copy_words count slot)
-unfolding copy_words
-copy_text count slot =
-    many (codes "copies ") (decimal count ++ (codes " words from word " ++ decimal slot)) (bare_text (codes "copies ") refl)
-    (many (decimal count) (codes " words from word " ++ decimal slot) (decimal_text count) (numbered (codes " words from word ") slot (bare_text (codes " words from word ") refl)))
+pieces_text : (numbers : List ℕ) (pieces : List (List ℕ × ℕ)) → list_all (λ piece. list_all is_bare piece.0) pieces ≡ true → IsText (flat_map (piece_words numbers) pieces)
+pieces_text numbers [] bare = no_text
+pieces_text numbers (piece ∷ pieces) bare =
+    let both = and_parts (list_all is_bare piece.0) (list_all (λ other. list_all is_bare other.0) pieces) bare in
+    many (piece_words numbers piece) (flat_map (piece_words numbers) pieces) (numbered piece.0 (slice_index_or numbers piece.1 0) (bare_text piece.0 both.0)) (pieces_text numbers pieces both.1)
 
 asked_text : (r : Request) → IsText (asked_words r)
-asked_text (Get slot) = numbered (codes "reads word ") slot (bare_text (codes "reads word ") refl)
-asked_text (Swap slot value) = swap_text value slot
-asked_text (Add slot value) =
-    numbered (codes "adds " ++ decimal value ++ codes " to word ") slot
-    (many (codes "adds " ++ decimal value) (codes " to word ") (numbered (codes "adds ") value (bare_text (codes "adds ") refl)) (bare_text (codes " to word ") refl))
-asked_text (Cas slot expected new) =
-    numbered (swap_words new slot ++ codes " if it is ") expected (many (swap_words new slot) (codes " if it is ") (swap_text new slot) (bare_text (codes " if it is ") refl))
-asked_text (Copy span) = copy_text span.1 span.0
+asked_text r = pieces_text (numbers_asked r) (row_asked r).sentence (row_has has_bare_pieces refl r)
 
 answer_text : (words : List ℕ) → IsText (answer_words words)
 answer_text words =

@@ -1,8 +1,8 @@
 -- What a picture says, in words.
-use Rattle.std.specs.Prelude.{ℕ, ◌==◌, Bool, true, false, if◌then◌else◌, List, [], ◌++◌, flat_map, codes, Option, None, Some}
+use Rattle.std.specs.Prelude.{ℕ, ◌==◌, Bool, true, false, if◌then◌else◌, List, [], ◌++◌, flat_map, codes, slice_index_or, Option, None, Some}
 use Rattle.std.specs.Fmt.{decimal}
 use Rattle.semantics.specs.declared.request.Request.{Request}
-use Rattle.semantics.specs.declared.request.Request.TheVariants.{Get, Swap, Add, Cas, Copy}
+use Rattle.asking.specs.Wording.{numbers_asked, row_asked}
 use Rattle.board.specs.Board.{Access}
 use Rattle.diagram.specs.declared.stroke.Stroke.{Stroke}
 
@@ -50,19 +50,13 @@ outline_of true None = codes "M-5-5L5 5M5-5L-5 5"
 abbrev pub outline : Stroke → List ℕ
 outline stroke = outline_of stroke.differs stroke.told
 
-unfoldable pub swap_words : ℕ → ℕ → List ℕ
-swap_words value slot = codes "writes " ++ (decimal value ++ (codes " into word " ++ decimal slot))
-
-unfoldable pub copy_words : ℕ → ℕ → List ℕ
-copy_words count slot = codes "copies " ++ (decimal count ++ (codes " words from word " ++ decimal slot))
+-- a piece of a sentence, and the number of its place
+abbrev pub piece_words : List ℕ → List ℕ × ℕ → List ℕ
+piece_words numbers piece = piece.0 ++ decimal (slice_index_or numbers piece.1 0)
 
 -- what was asked of the board
 abbrev pub asked_words : Request → List ℕ
-asked_words (Get slot) = codes "reads word " ++ decimal slot
-asked_words (Swap slot value) = swap_words value slot
-asked_words (Add slot value) = codes "adds " ++ decimal value ++ codes " to word " ++ decimal slot
-asked_words (Cas slot expected new) = swap_words new slot ++ codes " if it is " ++ decimal expected
-asked_words (Copy span) = copy_words span.1 span.0
+asked_words request = flat_map (piece_words (numbers_asked request)) (row_asked request).sentence
 
 abbrev pub word_words : ℕ → List ℕ
 word_words word = codes " " ++ decimal word
@@ -82,8 +76,7 @@ abbrev pub access_words : Access → List ℕ
 access_words a = general_words a.general ++ codes " " ++ asked_words a.request ++ answer_words a.reply
 
 abbrev pub is_copy : Request → Bool
-is_copy (Copy span) = true
-is_copy _ = false
+is_copy request = (row_asked request).copies
 
 -- what is written of an access beside the board: all but its general, and the words of a copy
 abbrev pub shown_words : Access → List ℕ

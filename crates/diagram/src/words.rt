@@ -1,9 +1,10 @@
 //! What a picture says, in words.
-ghost use Rattle.std.specs.Prelude.{◌≡◌, ◌++◌, flat_map, string_bytes, OnOk};
+ghost use Rattle.std.specs.Prelude.{◌≡◌, ◌++◌, decimal, flat_map, map, slice_index_or, string_bytes, OnOk};
 ghost use Rattle.semantics.specs.Replies.{words_in};
-ghost use Rattle.diagram.specs.Words.{answer_words, answered_words, access_words, asked_words, copied_words, copy_words, differs_words, kind, labels_words, order_words, outline, from_words, general_words, is_copy, kind_of, outline_of, role_words, row_words, shown_words, stroke_words, swap_words, tells_words, word_words};
+ghost use Rattle.diagram.specs.Words.{answer_words, answered_words, access_words, asked_words, copied_words, differs_words, kind, labels_words, order_words, outline, from_words, general_words, is_copy, kind_of, outline_of, piece_words, role_words, row_words, shown_words, stroke_words, tells_words, word_words};
 
 use crate::stroke::Stroke;
+use asking::{numbers, worded};
 use board::Access;
 use semantics::{Reply, Request};
 use std::alloc::AllocError;
@@ -118,42 +119,40 @@ pub(crate) fn outline_of(differs: bool, told: Option<u32>) -> &'static str
 pub fn put_asked(out: &mut String, request: &Request) -> Result<(), AllocError>
     ensures { OnOk result (string_bytes out.new ≡ string_bytes out.old ++ asked_words request.now) }
 {
-    match *request {
-        Request::Get { slot } => {
-            let slot = slot.number();
-            write!(out, "reads word {slot}")
-        }
-        Request::Swap { slot, value } => put_swap(out, value, slot.number()),
-        Request::Add { slot, value } => {
-            let slot = slot.number();
-            write!(out, "adds {value} to word {slot}")
-        }
-        Request::Cas {
-            slot,
-            expected,
-            new,
-        } => {
-            put_swap(out, new, slot.number())?;
-            write!(out, " if it is {expected}")
-        }
-        Request::Copy { span } => put_copy(out, span.count(), span.slot()),
+    let (numbers, count) = numbers(request);
+    put_sentence(out, worded(request).sentence, &numbers[..count])
+}
+
+/// Adds the pieces of a sentence, behind each the number of its place.
+fn put_sentence(
+    out: &mut String,
+    sentence: &[(&'static str, usize)],
+    numbers: &[u64],
+) -> Result<(), AllocError>
+    ensures { OnOk result (string_bytes out.new ≡ string_bytes out.old
+        ++ flat_map (piece_words numbers.now) (map (λ p. (p.0.now, p.1)) sentence.now)) }
+{
+    for (piece, place) in sentence {
+        put_piece(out, piece, number_at(numbers, *place))?;
     }
+    Ok(())
 }
 
-/// Adds that a word is written.
-#[tactic(auto, unfolding(crate::specs::Words::swap_words))]
-fn put_swap(out: &mut String, value: u64, slot: usize) -> Result<(), AllocError>
-    ensures { OnOk result (string_bytes out.new ≡ string_bytes out.old ++ swap_words value slot) }
+/// Adds a piece of a sentence and the number behind it.
+fn put_piece(out: &mut String, piece: &str, number: u64) -> Result<(), AllocError>
+    ensures { OnOk result (string_bytes out.new ≡ string_bytes out.old ++ (piece.now ++ decimal number)) }
 {
-    write!(out, "writes {value} into word {slot}")
+    write!(out, "{piece}{number}")
 }
 
-/// Adds that words are copied.
-#[tactic(auto, unfolding(crate::specs::Words::copy_words))]
-fn put_copy(out: &mut String, count: usize, slot: usize) -> Result<(), AllocError>
-    ensures { OnOk result (string_bytes out.new ≡ string_bytes out.old ++ copy_words count slot) }
+/// The number of this place, or 0 where there is none.
+fn number_at(numbers: &[u64], place: usize) -> u64
+    ensures { result ≡ slice_index_or numbers.now place 0 }
 {
-    write!(out, "copies {count} words from word {slot}")
+    match numbers.get(place) {
+        Some(number) => *number,
+        None => 0,
+    }
 }
 
 /// Adds what the board answered.
@@ -231,7 +230,7 @@ pub(crate) fn put_shown(out: &mut String, access: &Access) -> Result<(), AllocEr
 fn is_copy(request: &Request) -> bool
     ensures { result ≡ is_copy request.now }
 {
-    matches!(request, Request::Copy { .. })
+    worded(request).copies
 }
 
 /// Adds what a picture has no room for: of each access that copies words, in a sentence, these words.

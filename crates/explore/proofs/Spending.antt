@@ -1,5 +1,5 @@
 -- How long the text of a schedule can be: each access takes two steps, but for a general's first in a round.
-use Rattle.std.proofs.Common.{◌≡◌, ◌≢◌, ℕ, zero, suc, ◌+◌, ◌-◌, ◌*◌, ◌<◌, ◌≤◌, List, [], ◌∷◌, ◌++◌, length, set, get_or, Bool, true, false, cond, refl, sym, ap, subst, ◌∙◌, ◌⊎◌, inl, inr, ⊎_elim, Option, Some, None, Result, Ok, Err, arith, All, length-append}
+use Rattle.std.proofs.Common.{◌≡◌, ◌≢◌, ℕ, zero, suc, ◌+◌, ◌-◌, ◌*◌, ◌<◌, ◌≤◌, List, [], ◌∷◌, ◌++◌, length, set, get_or, Bool, true, false, cond, refl, sym, ap, subst, ◌∙◌, ◌⊎◌, inl, inr, ⊎_elim, Option, Some, None, arith, All, length-append}
 use Rattle.std.specs.Prelude.{slice_get, replicate, decimal, sum_by, ◌==◌}
 use Rattle.std.specs.List.{flat_map}
 use Rattle.std.proofs.lemmas.Bool.{cases_lt}
@@ -11,19 +11,13 @@ use Rattle.insn.specs.declared.insn.Insn.{Insn}
 use Rattle.board.specs.Board.{IsBoard, reply}
 use Rattle.board.proofs.Serving.{reply_fits}
 use Rattle.semantics.specs.Relay.{Relay}
-use Rattle.semantics.specs.declared.entry.Entry.{Entry}
-use Rattle.semantics.specs.declared.request.Helper.{Helper}
-use Rattle.semantics.specs.declared.request.Helper.TheVariants.{BoardGet, BoardSwap, BoardAdd, BoardCas, BoardCopy, Send, SendRow, Sway, Honest, SignOrder, PassOn}
 use Rattle.semantics.specs.declared.request.Request.{Request}
-use Rattle.semantics.specs.declared.request.Request.TheVariants.{Get, Swap, Add, Cas, Copy}
-use Rattle.semantics.specs.declared.value.Value.{Value}
+use Rattle.semantics.specs.declared.request.Request.TheVariants.{Copy}
 use Rattle.semantics.specs.declared.value.Value.TheVariants.{Unset}
-use Rattle.semantics.specs.Call.{asked, attempted, below, called, resumed, sent, slot_in}
+use Rattle.semantics.specs.Call.{resumed}
 use Rattle.semantics.specs.Execution.{step}
-use Rattle.semantics.specs.Limits.{board_words}
-use Rattle.semantics.specs.Outbox.{Choice}
-use Rattle.semantics.specs.State.{Cause, State, Outcome, Next, Ask, Exit, Trap, given, value_at}
-use Rattle.semantics.proofs.Walk.{changed_walk, step_walk}
+use Rattle.semantics.specs.State.{State, Outcome, Next, Ask, Exit, Trap, value_at}
+use Rattle.semantics.proofs.Walk.{changed_walk, step_walk, unset_walk}
 use Rattle.letter.specs.Activation.{Activation, Turn, Goes, Asks, Ended, has_ended, turn, turned}
 use Rattle.roster.specs.Scenario.{Scenario, program_of}
 use Rattle.letter.proofs.Going.{over_ended, turn_within}
@@ -55,31 +49,6 @@ abbrev AsksNot : Outcome → Type 0
 AsksNot (Ask request s) = ⊥
 AsksNot _ = Unit {0}
 
-asked_not : (s : State) (next : ℕ → Result Request Cause) → value_at s.registers 1 ≡ Unset → AsksNot (asked s (given (slot_in s) next))
-asked_not s next e = subst (λ (v : Value). AsksNot (asked s (given (below board_words v) next))) (sym e) tt
-
-sent_not : (relay : Relay) (s : State) (r0 : ℕ → ℕ) (r : Result Choice Cause) → AsksNot (sent relay s r0 r)
-sent_not relay s r0 (Err cause) = tt
-sent_not relay s r0 (Ok choice) = tt
-
-attempted_not : (relay : Relay) (s : State) (r : Result Entry Cause) → AsksNot (attempted relay s r)
-attempted_not relay s (Err cause) = tt
-attempted_not relay s (Ok entry) = tt
-
-called_not : (context : List ℕ) (relay : Relay) (s : State) → value_at s.registers 1 ≡ Unset → (h : Option Helper) → AsksNot (called context relay s h)
-called_not context relay s e None = tt
-called_not context relay s e (Some BoardGet) = asked_not s _ e
-called_not context relay s e (Some BoardSwap) = asked_not s _ e
-called_not context relay s e (Some BoardAdd) = asked_not s _ e
-called_not context relay s e (Some BoardCas) = asked_not s _ e
-called_not context relay s e (Some BoardCopy) = asked_not s _ e
-called_not context relay s e (Some Send) = sent_not relay s (λ set. 1 - set) _
-called_not context relay s e (Some SendRow) = sent_not relay s (λ set. set) _
-called_not context relay s e (Some Sway) = sent_not relay s (λ set. set) _
-called_not context relay s e (Some Honest) = sent_not relay s (λ set. set) _
-called_not context relay s e (Some SignOrder) = attempted_not relay s _
-called_not context relay s e (Some PassOn) = attempted_not relay s _
-
 step_not : (program : List Insn) (context : List ℕ) (relay : Relay) (s : State) → value_at s.registers 1 ≡ Unset → AsksNot (step program context relay s)
 step_not program context relay s e =
     step_walk program context relay s AsksNot
@@ -90,14 +59,11 @@ step_not program context relay s e =
       exits = λ n. tt;
       stores = λ size base offset value. changed_walk s AsksNot (λ cause. tt) (λ cells. tt) _;
     })
-    (λ h. called_not context relay s e h)
+    (unset_walk context relay s AsksNot e (λ cause. tt))
 
 resumed_unset : (request : Request) (words : List ℕ) (s : State) → value_at (resumed request words s).registers 1 ≡ Unset
-resumed_unset (Get slot) words s = refl
-resumed_unset (Swap slot value) words s = refl
-resumed_unset (Add slot value) words s = refl
-resumed_unset (Cas slot expected new) words s = refl
 resumed_unset (Copy span) words s = refl
+resumed_unset request words s = refl
 
 turned_not : (a : Activation) (o : Outcome) → AsksNot o → AsksNothing (turned a o)
 turned_not a (Next s) h = tt

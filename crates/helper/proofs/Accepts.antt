@@ -3,7 +3,7 @@ use Rattle.std.proofs.Common.{ℕ, ◌≡◌, List, ap, sym, ◌∙◌}
 use Rattle.std.specs.Prelude.{Result, Ok, Err, Option, Some, None}
 use Rattle.semantics.specs.Relay.{Relay}
 use Rattle.semantics.specs.declared.request.Helper.{Helper}
-use Rattle.semantics.specs.declared.request.Helper.TheVariants.{BoardGet, BoardSwap, BoardAdd, BoardCas, BoardCopy, Send, SendRow, Sway, Honest, SignOrder, PassOn}
+use Rattle.semantics.specs.declared.request.Helper.TheVariants.{BoardCopy, SendRow}
 use Rattle.semantics.specs.declared.request.Request.{Request}
 use Rattle.semantics.specs.State.{Cause, State, Outcome, Next, Ask, Exit, Trap}
 use Rattle.semantics.specs.Outbox.{Choice}
@@ -35,17 +35,9 @@ none_is_some cause e = cc
 
 -- three arguments are refused together only where one is a pointer
 together : (h : Helper) (context : List ℕ) (s : State) (cause : Cause) → refused_together (arguments_of h) context s ≡ Some cause → HasWindow h
-together BoardGet context s cause e = none_is_some cause e
-together BoardSwap context s cause e = none_is_some cause e
-together BoardAdd context s cause e = none_is_some cause e
-together BoardCas context s cause e = none_is_some cause e
 together BoardCopy context s cause e = tt
-together Send context s cause e = none_is_some cause e
 together SendRow context s cause e = tt
-together Sway context s cause e = none_is_some cause e
-together Honest context s cause e = none_is_some cause e
-together SignOrder context s cause e = none_is_some cause e
-together PassOn context s cause e = none_is_some cause e
+together h context s cause e = none_is_some cause e
 
 pub calls_accept : (h : Helper) → AcceptsThese h (arguments_of h)
 calls_accept h context relay s cause e q =

@@ -10,30 +10,20 @@ use Rattle.semantics.specs.declared.value.Value.TheVariants.{Unset, Number, Poin
 use Rattle.semantics.specs.declared.value.Cell.{Cell}
 use Rattle.semantics.specs.declared.value.Cell.TheVariants.{Empty, Byte, Piece}
 use Rattle.semantics.specs.declared.request.Helper.{Helper}
-use Rattle.semantics.specs.declared.request.Helper.TheVariants.{BoardGet, BoardSwap, BoardAdd, BoardCas, BoardCopy, Send, SendRow, Sway, Honest, SignOrder, PassOn}
+use Rattle.semantics.specs.declared.request.Helper.TheVariants.{BoardCopy, SendRow}
 use Rattle.semantics.specs.declared.request.Request.{Request}
-use Rattle.semantics.specs.declared.request.Request.TheVariants.{Get, Swap, Add, Cas, Copy}
-use Rattle.semantics.specs.declared.entry.Entry.{Entry}
+use Rattle.semantics.specs.declared.request.Request.TheVariants.{Copy}
 use Rattle.semantics.specs.State.{Cause, Argument, State, Next, Ask, given, value_at}
 use Rattle.semantics.specs.Memory.{cells_at, bytes_in, window, region_cells, stack_place}
-use Rattle.semantics.specs.Outbox.{Choice, places_set, along_row, at_receiver, as_taken}
+use Rattle.semantics.specs.Outbox.{Choice, places_set, along_row}
 use Rattle.semantics.specs.Entries.{is_entered}
-use Rattle.semantics.specs.Call.{argument, slot_in, word_in, order_in, pointer_in, copy_of, orders_at, orders_of, asked, sent, sign_in, pass_in, attempted, fits, resumed}
-use Rattle.semantics.proofs.PlacesLaws.{ranges_kept}
+use Rattle.semantics.specs.Call.{told, Effect, Asks, Puts, Enters, IfAsks, effect, done, argument, slot_in, pointer_in, copy_of, orders_at, orders_of, fits, resumed}
+use Rattle.semantics.proofs.PlacesLaws.{ranges_kept, most_set}
 use Rattle.helper.specs.Results.{HoldsResult, Returns, returned_range}
 use Rattle.helper.proofs.Chains.{given_ok, below_ok, ok_same}
-use Rattle.helper.proofs.Tests.{copy_in, place_in, row_in, sway_in}
+use Rattle.helper.proofs.Tests.{copy_in, row_in}
 
--- the board's helpers ask
-asked_not : (s after : State) (r : Result Request Cause) → asked s r ≡ Next after → ⊥
-asked_not s after (Ok request) e = cc
-asked_not s after (Err cause) e = cc
-
-asked_is : (s waiting : State) (request : Request) (r : Result Request Cause) → asked s r ≡ Ask request waiting → r ≡ Ok request
-asked_is s waiting request (Ok q) e = let same : q ≡ request = cc in ap Ok same
-asked_is s waiting request (Err cause) e = cc
-
--- and are answered with words
+-- ---- the board answers with words
 first_word : (words : List ℕ) → ((length words == 1) && list_all (λ word. nat_lt word (2 ^ 64)) words) ≡ true → slice_index words 0 ≤ 2 ^ 64 - 1
 first_word [] h = absurd (false≢true h)
 first_word (w ∷ words) h =
@@ -41,39 +31,15 @@ first_word (w ∷ words) h =
     let small : w < 2 ^ 64 = ltb-true w (2 ^ 64) (and_parts (nat_lt w (2 ^ 64)) (list_all (λ word. nat_lt word (2 ^ 64)) words) parts.1).0 in
     omega arith
 
-word_held : (s : State) (words : List ℕ) → ((length words == 1) && list_all (λ word. nat_lt word (2 ^ 64)) words) ≡ true → (n : ℕ) × (Number (slice_index words 0) ≡ Number n) × IsIn 0 (2 ^ 64 - 1) n
-word_held s words h = (slice_index words 0, refl, (omega arith, first_word words h))
+word_held : (words : List ℕ) → ((length words == 1) && list_all (λ word. nat_lt word (2 ^ 64)) words) ≡ true → (n : ℕ) × (Number (slice_index words 0) ≡ Number n) × IsIn 0 (2 ^ 64 - 1) n
+word_held words h = (slice_index words 0, refl, (omega arith, first_word words h))
 
-get_held : (s waiting : State) (request : Request) (words : List ℕ) → given (slot_in s) (λ slot. Ok (Get slot)) ≡ Ok request → fits request words ≡ true → HoldsResult 0 (2 ^ 64 - 1) (resumed request words waiting)
-get_held s waiting request words e h =
-    let a = given_ok (slot_in s) (λ slot. Ok (Get slot)) request e in
-    let is : Get a.0 ≡ request = cc in
-    subst (λ (q : Request). fits q words ≡ true → HoldsResult 0 (2 ^ 64 - 1) (resumed q words waiting)) is (λ k. word_held s words k) h
+-- whatever fits the request is answered by a number of the interval
+abbrev Answers : State → ℕ → ℕ → Request → Type 0
+Answers waiting lo hi request = (words : List ℕ) → fits request words ≡ true → HoldsResult lo hi (resumed request words waiting)
 
-swap_held : (s waiting : State) (request : Request) (words : List ℕ) → given (slot_in s) (λ slot. given (word_in s 2) (λ value. Ok (Swap slot value))) ≡ Ok request → fits request words ≡ true → HoldsResult 0 (2 ^ 64 - 1) (resumed request words waiting)
-swap_held s waiting request words e h =
-    let a = given_ok (slot_in s) (λ slot. given (word_in s 2) (λ value. Ok (Swap slot value))) request e in
-    let b = given_ok (word_in s 2) (λ value. Ok (Swap a.0 value)) request a.2 in
-    let is : Swap a.0 b.0 ≡ request = cc in
-    subst (λ (q : Request). fits q words ≡ true → HoldsResult 0 (2 ^ 64 - 1) (resumed q words waiting)) is (λ k. word_held s words k) h
-
-add_held : (s waiting : State) (request : Request) (words : List ℕ) → given (slot_in s) (λ slot. given (word_in s 2) (λ value. Ok (Add slot value))) ≡ Ok request → fits request words ≡ true → HoldsResult 0 (2 ^ 64 - 1) (resumed request words waiting)
-add_held s waiting request words e h =
-    let a = given_ok (slot_in s) (λ slot. given (word_in s 2) (λ value. Ok (Add slot value))) request e in
-    let b = given_ok (word_in s 2) (λ value. Ok (Add a.0 value)) request a.2 in
-    let is : Add a.0 b.0 ≡ request = cc in
-    subst (λ (q : Request). fits q words ≡ true → HoldsResult 0 (2 ^ 64 - 1) (resumed q words waiting)) is (λ k. word_held s words k) h
-
-cas_held : (s waiting : State) (request : Request) (words : List ℕ) → given (slot_in s) (λ slot. given (word_in s 2) (λ expected. given (word_in s 3) (λ new. Ok (Cas slot expected new)))) ≡ Ok request → fits request words ≡ true → HoldsResult 0 (2 ^ 64 - 1) (resumed request words waiting)
-cas_held s waiting request words e h =
-    let a = given_ok (slot_in s) (λ slot. given (word_in s 2) (λ expected. given (word_in s 3) (λ new. Ok (Cas slot expected new)))) request e in
-    let b = given_ok (word_in s 2) (λ expected. given (word_in s 3) (λ new. Ok (Cas a.0 expected new))) request a.2 in
-    let d = given_ok (word_in s 3) (λ new. Ok (Cas a.0 b.0 new)) request b.2 in
-    let is : Cas a.0 b.0 d.0 ≡ request = cc in
-    subst (λ (q : Request). fits q words ≡ true → HoldsResult 0 (2 ^ 64 - 1) (resumed q words waiting)) is (λ k. word_held s words k) h
-
-copy_held : (s waiting : State) (request : Request) (words : List ℕ) → copy_in s ≡ Ok request → HoldsResult 0 64 (resumed request words waiting)
-copy_held s waiting request words e =
+copy_held : (s waiting : State) (request : Request) → copy_in s ≡ Ok request → Answers waiting 0 64 request
+copy_held s waiting request e words fit =
     let a = given_ok (slot_in s) (λ slot. given (pointer_in s 2) (λ to. given (argument s 3 65) (λ count. copy_of slot to count))) request e in
     let b = given_ok (pointer_in s 2) (λ to. given (argument s 3 65) (λ count. copy_of a.0 to count)) request a.2 in
     let d = given_ok (argument s 3 65) (λ count. copy_of a.0 b.0 count) request b.2 in
@@ -92,21 +58,7 @@ copy_held s waiting request words e =
     copied : (slot count : ℕ) (to : Value) (request : Request) → copy_of slot to count ≡ Ok request → Copy (slot, count) ≡ request
     copied slot count to request e = copied_if (nat_le (slot + count) 64) slot count (stack_place to (pos 0) (8 * count)) request e
 
--- the others put orders, and return how many
-sent_not : (relay : Relay) (s waiting : State) (r0 : ℕ → ℕ) (request : Request) (r : Result Choice Cause) → sent relay s r0 r ≡ Ask request waiting → ⊥
-sent_not relay s waiting r0 request (Ok choice) e = cc
-sent_not relay s waiting r0 request (Err cause) e = cc
-
-sent_held : (relay : Relay) (s after : State) (r0 : ℕ → ℕ) (r : Result Choice Cause) (lo hi : ℕ) → ((choice : Choice) → r ≡ Ok choice → IsIn lo hi (r0 (places_set relay choice))) → sent relay s r0 r ≡ Next after → HoldsResult lo hi after
-sent_held relay s after r0 (Err cause) lo hi within e = cc
-sent_held relay s after r0 (Ok choice) lo hi within e =
-    (r0 (places_set relay choice), next_of relay s after r0 choice e, within choice refl)
-  where
-    next_is : (a b : State) → Next a ≡ Next b → b ≡ a
-    next_is a b e = cc
-
-    next_of : (relay : Relay) (s after : State) (r0 : ℕ → ℕ) (choice : Choice) → sent relay s r0 (Ok choice) ≡ Next after → value_at after.registers 0 ≡ Number (r0 (places_set relay choice))
-    next_of relay s after r0 choice e = ap (λ (t : State). value_at t.registers 0) (next_is _ after e)
+-- ---- orders are put, and counted
 
 -- as many orders as were asked for at most
 orders_length : (bytes : List ℕ) → 4 * length (orders_of bytes) ≤ length bytes
@@ -161,78 +113,77 @@ row_held relay context s choice e =
     let is : along_row a.0 o.0 ≡ choice = ok_same (along_row a.0 o.0) choice o.2 in
     subst (λ (q : Choice). IsIn 0 13 (places_set relay q)) is (omega arith, ranges_kept.along relay a.0 o.0 (omega arith))
 
-sway_held : (relay : Relay) (s : State) (choice : Choice) → IsRelay relay → sway_in s ≡ Ok choice → IsIn 0 1016 (places_set relay choice)
-sway_held relay s choice within e =
-    let a = given_ok (argument s 1 13) (λ receiver. given (order_in s 2) (λ order. Ok (at_receiver receiver order))) choice e in
-    let b = given_ok (order_in s 2) (λ order. Ok (at_receiver a.0 order)) choice a.2 in
-    let is : at_receiver a.0 b.0 ≡ choice = ok_same (at_receiver a.0 b.0) choice b.2 in
-    subst (λ (q : Choice). IsIn 0 1016 (places_set relay q)) is (omega arith, ranges_kept.swayed relay a.0 b.0 within)
+-- ---- what each helper promises
 
-honest_held : (relay : Relay) (context : List ℕ) (s : State) (choice : Choice) → IsRelay relay → given (argument s 1 13) (λ receiver. Ok (as_taken context receiver)) ≡ Ok choice → IsIn 0 1016 (places_set relay choice)
-honest_held relay context s choice within e =
-    let a = given_ok (argument s 1 13) (λ receiver. Ok (as_taken context receiver)) choice e in
-    let is : as_taken context a.0 ≡ choice = ok_same (as_taken context a.0) choice a.2 in
-    subst (λ (q : Choice). IsIn 0 1016 (places_set relay q)) is (omega arith, ranges_kept.taken relay context a.0 within)
+-- P of what it gives, where it gives something
+abbrev Gives : {A : Type 0} → (A → Type 0) → Result A Cause → Type 0
+Gives P (Ok a) = P a
+Gives P (Err cause) = Unit {0}
 
--- what is attempted is answered by 0 or 1
-attempted_not : (relay : Relay) (s waiting : State) (request : Request) (r : Result Entry Cause) → attempted relay s r ≡ Ask request waiting → ⊥
-attempted_not relay s waiting request (Ok entry) e = cc
-attempted_not relay s waiting request (Err cause) e = cc
+gives_any : {A B : Type 0} (P : B → Type 0) (r : Result A Cause) (f : A → Result B Cause) → ((a : A) → Gives P (f a)) → Gives P (given r f)
+gives_any P (Ok a) f h = h a
+gives_any P (Err cause) f h = tt
 
-attempted_held : (relay : Relay) (s after : State) (r : Result Entry Cause) → attempted relay s r ≡ Next after → HoldsResult 0 1 after
-attempted_held relay s after (Err cause) e = cc
-attempted_held relay s after (Ok entry) e =
-    (if is_entered relay s.entries entry then 0 else 1, ap (λ (t : State). value_at t.registers 0) (next_is _ after e), bit (is_entered relay s.entries entry))
+gives_all : {A : Type 0} (P : A → Type 0) (r : Result A Cause) → ((a : A) → r ≡ Ok a → P a) → Gives P r
+gives_all P (Ok a) h = h a refl
+gives_all P (Err cause) h = tt
+
+up_to : (n hi : ℕ) → n ≤ hi → IsIn 0 hi n
+up_to n hi le = (omega arith, le)
+
+one_or_none : (n : ℕ) → IsIn 0 1 (1 - n)
+one_or_none n = (omega arith, omega arith)
+
+-- what the board answers lies in the range
+answers : (h : Helper) (context : List ℕ) (s : State) → IfAsks (Gives (λ q. (waiting : State) → Answers waiting (returned_range h).0 (returned_range h).1 q)) (effect context s h)
+answers BoardCopy context s = gives_all (λ q. (waiting : State) → Answers waiting 0 64 q) (copy_in s) (λ q e waiting. copy_held s waiting q e)
+answers h context s = search (gives_any, word_held)
+
+-- and so does what is told at once: of the places that are set, or of an entry
+abbrev Tells : Relay → ℕ → ℕ → Effect → Type 0
+Tells relay lo hi (Asks request) = Unit {0}
+Tells relay lo hi (Puts tells choice) = Gives (λ c. IsIn lo hi (told tells (places_set relay c))) choice
+Tells relay lo hi (Enters entry) = IsIn lo hi 0 × IsIn lo hi 1
+
+tells : (h : Helper) (context : List ℕ) (relay : Relay) (s : State) → IsRelay relay → Tells relay (returned_range h).0 (returned_range h).1 (effect context s h)
+tells SendRow context relay s is = gives_all (λ c. IsIn 0 13 (places_set relay c)) (row_in context s) (λ choice e. row_held relay context s choice e)
+tells h context relay s is = search (gives_any, up_to, one_or_none, most_set, arith)
+
+-- so r0 holds a number of it
+next_is : (a b : State) → Next a ≡ Next b → b ≡ a
+next_is a b e = cc
+
+asked_is : (p q : Request) (a b : State) → Ask p a ≡ Ask q b → p ≡ q
+asked_is p q a b e = cc
+
+r0_of : (s after : State) (n : ℕ) → Next s ≡ Next after → value_at s.registers 0 ≡ Number n → value_at after.registers 0 ≡ Number n
+r0_of s after n e is = ap (λ (t : State). value_at t.registers 0) (next_is s after e) ∙ is
+
+held_at_once : (relay : Relay) (s after : State) (lo hi : ℕ) (e : Effect) → Tells relay lo hi e → done relay s e ≡ Next after → HoldsResult lo hi after
+held_at_once relay s after lo hi (Asks (Ok request)) p e = cc
+held_at_once relay s after lo hi (Asks (Err cause)) p e = cc
+held_at_once relay s after lo hi (Puts says (Ok choice)) p e = (told says (places_set relay choice), r0_of _ after (told says (places_set relay choice)) e refl, p)
+held_at_once relay s after lo hi (Puts says (Err cause)) p e = cc
+held_at_once relay s after lo hi (Enters (Ok entry)) p e =
+    (if is_entered relay s.entries entry then 0 else 1, r0_of _ after (if is_entered relay s.entries entry then 0 else 1) e refl, bit (is_entered relay s.entries entry))
   where
-    next_is : (a b : State) → Next a ≡ Next b → b ≡ a
-    next_is a b e = cc
+    bit : (b : Bool) → IsIn lo hi (if b then 0 else 1)
+    bit true = p.0
+    bit false = p.1
+held_at_once relay s after lo hi (Enters (Err cause)) p e = cc
 
-    bit : (b : Bool) → IsIn 0 1 (if b then 0 else 1)
-    bit true = (omega arith, omega arith)
-    bit false = (omega arith, omega arith)
+held_answered : (relay : Relay) (s waiting : State) (lo hi : ℕ) (request : Request) (words : List ℕ) (e : Effect) → IfAsks (Gives (λ q. (waiting : State) → Answers waiting lo hi q)) e →
+    done relay s e ≡ Ask request waiting → fits request words ≡ true → HoldsResult lo hi (resumed request words waiting)
+held_answered relay s waiting lo hi request words (Asks (Ok q)) p e fit =
+    subst (λ (r : Request). Answers waiting lo hi r) (asked_is q request _ waiting e) (p waiting) words fit
+held_answered relay s waiting lo hi request words (Asks (Err cause)) p e fit = cc
+held_answered relay s waiting lo hi request words (Puts says (Ok choice)) p e fit = cc
+held_answered relay s waiting lo hi request words (Puts says (Err cause)) p e fit = cc
+held_answered relay s waiting lo hi request words (Enters (Ok entry)) p e fit = cc
+held_answered relay s waiting lo hi request words (Enters (Err cause)) p e fit = cc
 
 pub calls_return : (h : Helper) → Returns h (returned_range h).0 (returned_range h).1
-calls_return BoardGet = record {
-  at_once = λ context relay s after within e. absurd (asked_not s after (given (slot_in s) (λ slot. Ok (Get slot))) e);
-  answered = λ context relay s waiting request words e fit. get_held s waiting request words (asked_is s waiting request (given (slot_in s) (λ slot. Ok (Get slot))) e) fit;
-}
-calls_return BoardSwap = record {
-  at_once = λ context relay s after within e. absurd (asked_not s after (given (slot_in s) (λ slot. given (word_in s 2) (λ value. Ok (Swap slot value)))) e);
-  answered = λ context relay s waiting request words e fit. swap_held s waiting request words (asked_is s waiting request (given (slot_in s) (λ slot. given (word_in s 2) (λ value. Ok (Swap slot value)))) e) fit;
-}
-calls_return BoardAdd = record {
-  at_once = λ context relay s after within e. absurd (asked_not s after (given (slot_in s) (λ slot. given (word_in s 2) (λ value. Ok (Add slot value)))) e);
-  answered = λ context relay s waiting request words e fit. add_held s waiting request words (asked_is s waiting request (given (slot_in s) (λ slot. given (word_in s 2) (λ value. Ok (Add slot value)))) e) fit;
-}
-calls_return BoardCas = record {
-  at_once = λ context relay s after within e. absurd (asked_not s after (given (slot_in s) (λ slot. given (word_in s 2) (λ expected. given (word_in s 3) (λ new. Ok (Cas slot expected new))))) e);
-  answered = λ context relay s waiting request words e fit. cas_held s waiting request words (asked_is s waiting request (given (slot_in s) (λ slot. given (word_in s 2) (λ expected. given (word_in s 3) (λ new. Ok (Cas slot expected new))))) e) fit;
-}
-calls_return BoardCopy = record {
-  at_once = λ context relay s after within e. absurd (asked_not s after (copy_in s) e);
-  answered = λ context relay s waiting request words e fit. copy_held s waiting request words (asked_is s waiting request (copy_in s) e);
-}
-calls_return Send = record {
-  at_once = λ context relay s after within e. sent_held relay s after (λ set. 1 - set) (place_in s) 0 1 (λ choice q. (omega arith, omega arith)) e;
-  answered = λ context relay s waiting request words e fit. absurd (sent_not relay s waiting (λ set. 1 - set) request (place_in s) e);
-}
-calls_return SendRow = record {
-  at_once = λ context relay s after within e. sent_held relay s after (λ set. set) (row_in context s) 0 13 (λ choice q. row_held relay context s choice q) e;
-  answered = λ context relay s waiting request words e fit. absurd (sent_not relay s waiting (λ set. set) request (row_in context s) e);
-}
-calls_return Sway = record {
-  at_once = λ context relay s after within e. sent_held relay s after (λ set. set) (sway_in s) 0 1016 (λ choice q. sway_held relay s choice within q) e;
-  answered = λ context relay s waiting request words e fit. absurd (sent_not relay s waiting (λ set. set) request (sway_in s) e);
-}
-calls_return Honest = record {
-  at_once = λ context relay s after within e. sent_held relay s after (λ set. set) (given (argument s 1 13) (λ receiver. Ok (as_taken context receiver))) 0 1016 (λ choice q. honest_held relay context s choice within q) e;
-  answered = λ context relay s waiting request words e fit. absurd (sent_not relay s waiting (λ set. set) request (given (argument s 1 13) (λ receiver. Ok (as_taken context receiver))) e);
-}
-calls_return SignOrder = record {
-  at_once = λ context relay s after within e. attempted_held relay s after (sign_in s) e;
-  answered = λ context relay s waiting request words e fit. absurd (attempted_not relay s waiting request (sign_in s) e);
-}
-calls_return PassOn = record {
-  at_once = λ context relay s after within e. attempted_held relay s after (pass_in s) e;
-  answered = λ context relay s waiting request words e fit. absurd (attempted_not relay s waiting request (pass_in s) e);
+calls_return h = record {
+  at_once = λ context relay s after within e. held_at_once relay s after (returned_range h).0 (returned_range h).1 (effect context s h) (tells h context relay s within) e;
+  answered = λ context relay s waiting request words e fit. held_answered relay s waiting (returned_range h).0 (returned_range h).1 request words (effect context s h) (answers h context s) e fit;
 }

@@ -4,18 +4,12 @@ use Rattle.std.specs.Prelude.{Result, Ok}
 use Rattle.semantics.specs.Limits.{board_words, most_generals, most_labels}
 use Rattle.semantics.specs.declared.request.Request.{Request}
 use Rattle.semantics.specs.State.{Cause, State, given}
-use Rattle.semantics.specs.Outbox.{Choice, at_place, along_row, at_receiver}
-use Rattle.semantics.specs.Call.{argument, slot_in, order_in, pointer_in, copy_of, orders_at}
+use Rattle.semantics.specs.Outbox.{Choice, along_row}
+use Rattle.semantics.specs.Call.{argument, slot_in, pointer_in, copy_of, orders_at}
 
--- what a helper asks for, or puts
+-- what the helpers with a window ask for, or put
 abbrev pub copy_in : State → Result Request Cause
 copy_in s = given (slot_in s) (λ slot. given (pointer_in s 2) (λ to. given (argument s 3 (board_words + 1)) (λ count. copy_of slot to count)))
 
-abbrev pub place_in : State → Result Choice Cause
-place_in s = given (argument s 1 most_labels) (λ label. given (argument s 2 most_generals) (λ receiver. given (order_in s 3) (λ order. Ok (at_place label receiver order))))
-
 abbrev pub row_in : List ℕ → State → Result Choice Cause
 row_in context s = given (argument s 1 most_labels) (λ label. given (pointer_in s 2) (λ from. given (argument s 3 (most_generals + 1)) (λ count. given (orders_at context s from count) (λ orders. Ok (along_row label orders)))))
-
-abbrev pub sway_in : State → Result Choice Cause
-sway_in s = given (argument s 1 most_generals) (λ receiver. given (order_in s 2) (λ order. Ok (at_receiver receiver order)))

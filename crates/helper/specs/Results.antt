@@ -1,28 +1,13 @@
--- What the helpers return.
-use Rattle.std.specs.Prelude.{ℕ, ◌-◌, ◌^◌, ◌≡◌, true, List, Some}
+-- That a call returns a number of its range.
+use Rattle.std.specs.Prelude.{ℕ, ◌≡◌, true, List, Some}
 use Rattle.range.specs.Interval.{IsIn}
-use Rattle.semantics.specs.Limits.{board_words, most_generals, most_labels}
 use Rattle.semantics.specs.Relay.{IsRelay, Relay}
 use Rattle.semantics.specs.declared.value.Value.TheVariants.{Number}
 use Rattle.semantics.specs.declared.request.Helper.{Helper}
-use Rattle.semantics.specs.declared.request.Helper.TheVariants.{BoardGet, BoardSwap, BoardAdd, BoardCas, BoardCopy, Send, SendRow, Sway, Honest, SignOrder, PassOn}
 use Rattle.semantics.specs.declared.request.Request.{Request}
 use Rattle.semantics.specs.State.{State, Next, Ask, value_at}
 use Rattle.semantics.specs.Call.{called, fits, resumed}
-
--- the least and the greatest result
-abbrev pub returned_range : Helper → ℕ × ℕ
-returned_range BoardGet = (0, 2 ^ 64 - 1)
-returned_range BoardSwap = (0, 2 ^ 64 - 1)
-returned_range BoardAdd = (0, 2 ^ 64 - 1)
-returned_range BoardCas = (0, 2 ^ 64 - 1)
-returned_range BoardCopy = (0, board_words)
-returned_range Send = (0, 1)
-returned_range SendRow = (0, most_generals)
-returned_range Sway = (0, most_labels)
-returned_range Honest = (0, most_labels)
-returned_range SignOrder = (0, 1)
-returned_range PassOn = (0, 1)
+pub use Rattle.helper.specs.Table.{returned_range}
 
 -- r0 holds a number of the interval
 abbrev pub HoldsResult : ℕ → ℕ → State → Type 0

@@ -1,5 +1,5 @@
--- What the helpers take.
-use Rattle.std.specs.Prelude.{ℕ, ◌+◌, ◌^◌, ◌≡◌, List, [], ◌∷◌, Option, Some, None, Result, Ok, Err}
+-- What the helpers take, and what they return.
+use Rattle.std.specs.Prelude.{ℕ, ◌+◌, ◌-◌, ◌^◌, ◌≡◌, List, [], ◌∷◌, Option, Some, None, Result, Ok, Err}
 use Rattle.semantics.specs.Limits.{board_words, most_generals, most_held, most_labels, receiver_sets}
 use Rattle.semantics.specs.Relay.{Relay}
 use Rattle.semantics.specs.declared.value.Value.{Value}
@@ -36,6 +36,20 @@ arguments_of Honest = Some Receiver ∷ None ∷ None ∷ []
 arguments_of SignOrder = Some Word ∷ Some Receivers ∷ None ∷ []
 arguments_of PassOn = Some Held ∷ Some Receivers ∷ None ∷ []
 
+-- the least and the greatest number that they return in r0
+abbrev pub returned_range : Helper → ℕ × ℕ
+returned_range BoardGet = (0, 2 ^ 64 - 1)
+returned_range BoardSwap = (0, 2 ^ 64 - 1)
+returned_range BoardAdd = (0, 2 ^ 64 - 1)
+returned_range BoardCas = (0, 2 ^ 64 - 1)
+returned_range BoardCopy = (0, board_words)
+returned_range Send = (0, 1)
+returned_range SendRow = (0, most_generals)
+returned_range Sway = (0, most_labels)
+returned_range Honest = (0, most_labels)
+returned_range SignOrder = (0, 1)
+returned_range PassOn = (0, 1)
+
 -- why a call refuses a result
 abbrev pub refusal : {A : Type 0} → Result A Cause → Option Cause
 refusal (Ok a) = None
@@ -67,15 +81,7 @@ TestsThese helper arguments =
 abbrev pub HasWindow : Helper → Type 0
 HasWindow BoardCopy = Unit {0}
 HasWindow SendRow = Unit {0}
-HasWindow BoardGet = ⊥
-HasWindow BoardSwap = ⊥
-HasWindow BoardAdd = ⊥
-HasWindow BoardCas = ⊥
-HasWindow Send = ⊥
-HasWindow Sway = ⊥
-HasWindow Honest = ⊥
-HasWindow SignOrder = ⊥
-HasWindow PassOn = ⊥
+HasWindow _ = ⊥
 
 -- where none of these is refused, a call traps only for what is at a pointer
 abbrev pub AcceptsThese : Helper → List (Option Argument) → Type 0

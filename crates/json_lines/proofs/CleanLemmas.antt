@@ -16,7 +16,7 @@ use Rattle.json_lines.specs.Labels.{label_of, number_at, numbers, placed, with_l
 use Rattle.json_lines.specs.Lines.{with_file}
 use Rattle.json_lines.specs.Objects.{called, first_by, first_shaped, line_object, or, shaped, told_by, unshaped, with_mark, with_name}
 use Rattle.json_lines.specs.Refusals.{behind_stop, class_of, fault_object, namer, namer_of, refusal_object, refused_object, reported, sentence_of, with_namer, with_sentence, with_text}
-use Rattle.json_lines.specs.Shapes.{Row, shapes}
+use Rattle.json_lines.specs.Shapes.{Row, accesses, shapes}
 use Rattle.json_lines.specs.Values.{Word, all, joined, number_of, place_of, places, rule_of, small, told, yes_no_of}
 
 abbrev IsClean : Option Data → Type 0
@@ -162,6 +162,10 @@ first_shaped_clean : (h : Held) (rs : List Row) (ws : List Word) → HaveClean (
 first_shaped_clean h [] ws = tt
 first_shaped_clean h (r ∷ rs) ws = first_step r.within h (shaped r ws) (first_shaped h rs ws) (shaped_clean r ws) (first_shaped_clean h rs ws)
 
+by_clean : (o rest : Option Members) → HaveClean o → HaveClean rest → HaveClean (first_by o rest)
+by_clean None rest a b = b
+by_clean (Some ms) rest a b = a
+
 or_clean : (o : Option Members) (ms : Members) → HaveClean o → NoFloat ms → NoFloat (or o ms)
 or_clean None ms a b = b
 or_clean (Some found) ms a b = a
@@ -169,7 +173,10 @@ or_clean (Some found) ms a b = a
 -- no object of a line has a float
 pub line_clean : (h : Held) (line : List ℕ) → members_have_float (line_object h line) ≡ false
 unfolding line_object
-line_clean h line = or_clean (first_shaped h shapes (pieces space line)) (unshaped line) (first_shaped_clean h shapes (pieces space line)) (put_clean (codes "text") (string (utf8_lossy line)) (called (codes "text")) refl refl)
+line_clean h line =
+    let words = pieces space line in
+    or_clean (first_by (first_shaped h accesses words) (first_shaped h shapes words)) (unshaped line)
+    (by_clean (first_shaped h accesses words) (first_shaped h shapes words) (first_shaped_clean h accesses words) (first_shaped_clean h shapes words)) (put_clean (codes "text") (string (utf8_lossy line)) (called (codes "text")) refl refl)
 
 -- nor does a refusal
 text_clean : (name t : List ℕ) (ms : Members) → NoFloat ms → NoFloat (with_text name t ms)

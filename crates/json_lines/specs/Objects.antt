@@ -6,7 +6,7 @@ use Rattle.text.specs.Parts.{pieces}
 use Rattle.text.specs.Stop.{space}
 use Rattle.json_lines.specs.declared.held.Held.{Held}
 use Rattle.json_lines.specs.Labels.{placed}
-use Rattle.json_lines.specs.Shapes.{Row, shapes}
+use Rattle.json_lines.specs.Shapes.{Row, accesses, shapes}
 use Rattle.json_lines.specs.Values.{Word, places, told}
 
 -- a member by its name, but for a dash
@@ -58,4 +58,6 @@ or (Some found) ms = found
 
 -- the object of a line
 unfoldable pub line_object : Held → List ℕ → Members
-line_object h line = or (first_shaped h shapes (pieces space line)) (unshaped line)
+line_object h line =
+    let words = pieces space line in
+    or (first_by (first_shaped h accesses words) (first_shaped h shapes words)) (unshaped line)

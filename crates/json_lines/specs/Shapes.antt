@@ -2,6 +2,8 @@
 use Rattle.std.specs.Prelude.{ℕ, Bool, true, false, List, [], ◌∷◌, codes, map}
 use Rattle.text.specs.Parts.{pieces}
 use Rattle.text.specs.Stop.{space}
+use Rattle.asking.specs.Wording as asking
+use Rattle.asking.specs.Wording.{rows}
 use Rattle.json_lines.specs.declared.shape.Shape.{Shape}
 use Rattle.json_lines.specs.declared.shape.Within.{Within}
 use Rattle.json_lines.specs.declared.shape.Within.TheVariants.{Nothing, Round, Letter, Outbox}
@@ -41,7 +43,14 @@ marked line words names mark holds within = record {
 abbrev pub plain : List ℕ → List ℕ → List ℕ → Within → Row
 plain line words names within = marked line words names [] false within
 
--- all of them; a line has the first shape that fits it
+-- those of the accesses, as `asking` words them
+abbrev pub access_row : asking.Row → Row
+access_row r = record { line = codes "access"; parts = r.parts; mark = []; holds = false; within = Round }
+
+abbrev pub accesses : List Row
+accesses = map access_row rows
+
+-- all others; a line has the first shape that fits it
 unfoldable pub shapes : List Row
 shapes =
     plain (codes "version") (codes "chronicle N") (codes "- version") Nothing
@@ -52,12 +61,6 @@ shapes =
     ∷ plain (codes "campaign") (codes "signed generals N bound N commander N order N patience P")
     (codes "messages - generals - bound - commander - order - patience") Nothing
     ∷ plain (codes "round") (codes "round N") (codes "- round") Nothing
-    ∷ plain (codes "access") (codes "access N get N = *") (codes "- general request slot - answer") Round
-    ∷ plain (codes "access") (codes "access N swap N N = *") (codes "- general request slot value - answer") Round
-    ∷ plain (codes "access") (codes "access N add N N = *") (codes "- general request slot value - answer") Round
-    ∷ plain (codes "access") (codes "access N cas N N N = *")
-    (codes "- general request slot expected new - answer") Round
-    ∷ plain (codes "access") (codes "access N copy N N = *") (codes "- general request slot count - answer") Round
     ∷ marked (codes "letter") (codes "letter N loyal") (codes "- general -") (codes "loyal") true Round
     ∷ marked (codes "letter") (codes "letter N steps N") (codes "- general - steps") (codes "loyal") false Round
     ∷ plain (codes "row") (codes "row N *") (codes "- rank orders") Letter

@@ -4,12 +4,14 @@ ghost use Rattle.serde_json.specs.View.{members_view, view};
 ghost use Rattle.text.specs.Parts.{pieces};
 ghost use Rattle.text.specs.Stop.{space};
 ghost use Rattle.json_lines.specs.Objects.{called, first_shaped, found, line_object, shaped, told_by, unshaped, with_mark, with_name};
-ghost use Rattle.json_lines.specs.Shapes.{row_of};
+ghost use Rattle.asking.specs.Wording as asking;
+ghost use Rattle.json_lines.specs.Shapes.{access_row, row_of};
 
 use crate::held::Held;
 use crate::labels::put_place;
-use crate::shape::{Shape, shapes};
+use crate::shape::{Shape, access_shape, shapes};
 use crate::values::{places, spelled, told};
+use asking::{Wording, wordings};
 use serde_json::{Map, Value, put};
 use std::alloc::{AllocError, Global};
 use text::{SPACE, piece};
@@ -126,6 +128,27 @@ fn first_shaped(
     Ok(None)
 }
 
+/// The object of a line by the first of these accesses that fits, with where the line stands.
+fn access_object(
+    alloc: Global,
+    held: Held,
+    wordings: &[Wording],
+    line: &[u8],
+) -> Result<Option<Map<String, Value>>, AllocError>
+    ensures { IfOk result (λ o. option_map (λ object. members_view object.entries) o
+        ≡ first_shaped held (map access_row (map asking.row_of wordings.now)) (pieces space line.now)) }
+{
+    for wording in wordings {
+        let shape = access_shape(wording);
+        if let Some(object) = shaped(alloc, &shape, line)? {
+            let mut placed = object;
+            put_place(alloc, &mut placed, held, shape.within)?;
+            return Ok(Some(placed));
+        }
+    }
+    Ok(None)
+}
+
 /// A line of no shape, as it is.
 pub(crate) fn unshaped(alloc: Global, line: &[u8]) -> Result<Map<String, Value>, AllocError>
     ensures { IfOk result (λ object. members_view object.entries ≡ unshaped line.now) }
@@ -144,6 +167,9 @@ pub(crate) fn line_object(
 ) -> Result<Map<String, Value>, AllocError>
     ensures { IfOk result (λ object. members_view object.entries ≡ line_object held line.now) }
 {
+    if let Some(access) = access_object(alloc, held, wordings(), line)? {
+        return Ok(access);
+    }
     match first_shaped(alloc, held, shapes(), line)? {
         Some(object) => Ok(object),
         None => unshaped(alloc, line),

@@ -1,6 +1,9 @@
 //! The shapes of lines, and what their words are called.
 ghost use Rattle.std.specs.Prelude.{◌≡◌, map};
-ghost use Rattle.json_lines.specs.Shapes.{row_of, shapes};
+ghost use Rattle.asking.specs.Wording as asking;
+ghost use Rattle.json_lines.specs.Shapes.{access_row, row_of, shapes};
+
+use asking::Wording;
 
 /// Where a line stands in a chronicle, which is told with it.
 #[derive(Clone, Copy, Debug, PartialEq, Eq)]
@@ -31,7 +34,7 @@ pub(crate) struct Shape {
     pub within: Within,
 }
 
-/// The rows of the table; a line has the first shape that fits it.
+/// The rows of the table but those of accesses; a line has the first shape that fits it.
 const SHAPES: &[Shape] = &[
     Shape {
         line: "version",
@@ -101,81 +104,6 @@ const SHAPES: &[Shape] = &[
         mark: "",
         holds: false,
         within: Within::Nothing,
-    },
-    Shape {
-        line: "access",
-        parts: &[
-            ("access", "-"),
-            ("N", "general"),
-            ("get", "request"),
-            ("N", "slot"),
-            ("=", "-"),
-            ("*", "answer"),
-        ],
-        mark: "",
-        holds: false,
-        within: Within::Round,
-    },
-    Shape {
-        line: "access",
-        parts: &[
-            ("access", "-"),
-            ("N", "general"),
-            ("swap", "request"),
-            ("N", "slot"),
-            ("N", "value"),
-            ("=", "-"),
-            ("*", "answer"),
-        ],
-        mark: "",
-        holds: false,
-        within: Within::Round,
-    },
-    Shape {
-        line: "access",
-        parts: &[
-            ("access", "-"),
-            ("N", "general"),
-            ("add", "request"),
-            ("N", "slot"),
-            ("N", "value"),
-            ("=", "-"),
-            ("*", "answer"),
-        ],
-        mark: "",
-        holds: false,
-        within: Within::Round,
-    },
-    Shape {
-        line: "access",
-        parts: &[
-            ("access", "-"),
-            ("N", "general"),
-            ("cas", "request"),
-            ("N", "slot"),
-            ("N", "expected"),
-            ("N", "new"),
-            ("=", "-"),
-            ("*", "answer"),
-        ],
-        mark: "",
-        holds: false,
-        within: Within::Round,
-    },
-    Shape {
-        line: "access",
-        parts: &[
-            ("access", "-"),
-            ("N", "general"),
-            ("copy", "request"),
-            ("N", "slot"),
-            ("N", "count"),
-            ("=", "-"),
-            ("*", "answer"),
-        ],
-        mark: "",
-        holds: false,
-        within: Within::Round,
     },
     Shape {
         line: "letter",
@@ -340,7 +268,20 @@ const SHAPES: &[Shape] = &[
     },
 ];
 
-/// The shapes of all lines that are told by their words.
+/// The shape of the accesses that are worded so.
+pub(crate) fn access_shape(wording: &Wording) -> Shape
+    ensures { row_of result ≡ access_row (asking.row_of wording.now) }
+{
+    Shape {
+        line: "access",
+        parts: wording.parts,
+        mark: "",
+        holds: false,
+        within: Within::Round,
+    }
+}
+
+/// The shapes of all other lines that are told by their words.
 #[tactic(auto, unfolding(crate::specs::Shapes::shapes))]
 pub(crate) fn shapes() -> &'static [Shape]
     ensures { map row_of result.now ≡ shapes }

@@ -1,5 +1,5 @@
 -- What the numbers of a row keep.
-use Rattle.std.proofs.Common.{ℕ, ◌≡◌, ◌≢◌, List, get_or, set, Bool, true, false, sym, ap, ◌∙◌, ⊎_elim, ◌⊎◌, inl, inr, refl, None, Option, get_or-set_other, length-set}
+use Rattle.std.proofs.Common.{ℕ, ◌≡◌, ◌≢◌, List, get_or, set, true, false, sym, ap, ◌∙◌, ⊎_elim, None, Option, get_or-set_other, length-set}
 use Rattle.std.proofs.lemmas.Bool.{false≢true, cases_Bool}
 use Rattle.label.specs.Labels.{on}
 use Rattle.outbox.specs.Rows.{row_of, order_in, IsRow}

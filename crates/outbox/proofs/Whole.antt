@@ -7,7 +7,7 @@ use Rattle.label.specs.Relay.{receivers}
 use Rattle.semantics.specs.State.{Outbox}
 use Rattle.semantics.specs.Outbox.{Choice}
 use Rattle.semantics.proofs.PlacesLaws.{row_from, sets, rows_from, sets_in, sets_in-cons}
-use Rattle.outbox.specs.Rows.{RowOrders, receivers_in, orders_in, put_in_row}
+use Rattle.outbox.specs.Rows.{RowOrders, receivers_in, orders_in, put_in_row, put_first, found_first}
 use Rattle.outbox.proofs.Writing.{row_written, row_one_written, sets_one}
 use Rattle.label.proofs.Counting.{others-distinct}
 
@@ -18,18 +18,6 @@ Stand s rows ws = map receivers_in rows ≡ map (receivers s) ws
 -- the rows from a rank on after a choice
 abbrev pub rows_written : Choice → Shape → ℕ → List (List ℕ) → Outbox → Outbox
 rows_written choice s a ws outbox = map (λ row. row_written choice row.0 row.1) (zip (rows_from s a ws) outbox)
-
--- an order for a receiver in each of the first rows, by the row's rank
-abbrev pub put_first : ℕ → (ℕ → ℕ) → ℕ → ℕ → List RowOrders → List RowOrders
-put_first r f a zero rows = rows
-put_first r f a (suc m) [] = []
-put_first r f a (suc m) (row ∷ rows) = put_in_row r (f a) row ∷ put_first r f (a + 1) m rows
-
--- how many of them have him
-abbrev pub found_first : ℕ → ℕ → List RowOrders → ℕ
-found_first r zero rows = 0
-found_first r (suc m) [] = 0
-found_first r (suc m) (row ∷ rows) = cond {A = ℕ} (on (receivers_in row) r) 1 0 + found_first r m rows
 
 pub put_names : (r v : ℕ) (row : RowOrders) → receivers_in (put_in_row r v row) ≡ receivers_in row
 put_names r v [] = refl

@@ -1,5 +1,5 @@
 -- One label's row of an outbox.
-use Rattle.std.specs.Prelude.{ℕ, ◌≡◌, ◌==◌, true, false, if◌then◌else◌, List, [], ◌∷◌, map, length, Option, Some, None, slice_index_or}
+use Rattle.std.specs.Prelude.{ℕ, zero, suc, ◌≡◌, ◌+◌, ◌==◌, true, false, if◌then◌else◌, List, [], ◌∷◌, map, length, Option, Some, None, slice_index_or}
 use Rattle.std.specs.Borrow.{Bor}
 use Rattle.label.specs.declared.shape.Shape.{Shape}
 use Rattle.label.specs.Labels.{on, is_distinct}
@@ -41,6 +41,22 @@ put_one receiver order p = (p.0, (if p.0 == receiver then Some order else p.1))
 
 abbrev pub put_in_row : ℕ → ℕ → RowOrders → RowOrders
 put_in_row receiver order row = map (put_one receiver order) row
+
+-- an order for a receiver in each of the first rows, by the row's rank
+abbrev pub put_first : ℕ → (ℕ → ℕ) → ℕ → ℕ → List RowOrders → List RowOrders
+put_first r f a zero rows = rows
+put_first r f a (suc m) [] = []
+put_first r f a (suc m) (row ∷ rows) = put_in_row r (f a) row ∷ put_first r f (a + 1) m rows
+
+-- how many of them have him
+abbrev pub found_first : ℕ → ℕ → List RowOrders → ℕ
+found_first r zero rows = 0
+found_first r (suc m) [] = 0
+found_first r (suc m) (row ∷ rows) = (if on (receivers_in row) r then 1 else 0) + found_first r m rows
+
+-- each result is what f tells of its argument
+abbrev pub Tells : (ℕ → ℕ → Type 0) → (ℕ → ℕ) → Type 0
+Tells results f = (n result : ℕ) → results n result → result ≡ f n
 
 -- one order for all
 abbrev pub all_put : ℕ → RowOrders → RowOrders

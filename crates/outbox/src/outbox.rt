@@ -8,7 +8,7 @@ ghost use Rattle.outbox.specs.Rows.{order_of_row};
 
 use crate::relays::rows_of;
 use crate::row::Row;
-use crate::rows::{copied, same_orders};
+use crate::rows::{copied, put_in_each, same_orders};
 use crate::signing::{Signing, copied_signing, same_signing};
 use contexts::taken_value;
 use label::Shape;
@@ -156,13 +156,7 @@ impl Outbox {
         ensures rows { self.new.rows ≡ written self.old.relay (at_receiver receiver order) self.old.rows }
         ensures count { result ≡ places_set self.old.relay (at_receiver receiver order) }
     {
-        let mut set = 0;
-        for rank in 0..self.rows.len() {
-            if self.rows[rank].put(receiver, order) {
-                set += 1;
-            }
-        }
-        set
+        put_in_each(self.rows.as_mut_slice(), receiver, |_| order)
     }
 
     /// Puts for a receiver, at every label, the value that the general took for it: how many were put.
@@ -173,14 +167,9 @@ impl Outbox {
         ensures rows { self.new.rows ≡ written self.old.relay (as_taken context.now receiver) self.old.rows }
         ensures count { result ≡ places_set self.old.relay (as_taken context.now receiver) }
     {
-        let mut set = 0;
-        let labels = self.rows.len();
-        for rank in 0..labels {
-            if self.rows[rank].put(receiver, taken_value(context, rank)) {
-                set += 1;
-            }
-        }
-        set
+        put_in_each(self.rows.as_mut_slice(), receiver, |rank| {
+            taken_value(context, rank)
+        })
     }
 
     /// Puts for every receiver, at every label, the value that the general took for it.

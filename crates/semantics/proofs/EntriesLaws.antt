@@ -8,7 +8,7 @@ use Rattle.insn.specs.declared.insn.Insn.{Insn}
 use Rattle.label.specs.declared.shape.Shape.{Shape}
 use Rattle.semantics.specs.Relay.{Kind, Oral, Signed, Relay, oral, signed}
 use Rattle.semantics.specs.declared.request.Request.{Request}
-use Rattle.semantics.specs.declared.request.Request.TheVariants.{Get, Swap, Add, Cas, Copy}
+use Rattle.semantics.specs.declared.request.Request.TheVariants.{Copy}
 use Rattle.semantics.specs.declared.entry.Entry.{Entry}
 use Rattle.semantics.specs.State.{State, Outbox}
 use Rattle.semantics.specs.Outbox.{Choice, written, empty_outbox}
@@ -80,11 +80,8 @@ step_keeps program context relay s k =
     }))
 
 resumed_keeps : (relay : Relay) (request : Request) (words : List ℕ) (s : State) → Keeps relay s → Keeps relay (resumed request words s)
-resumed_keeps relay (Get slot) words s k = same_kept relay s _ k refl refl
-resumed_keeps relay (Swap slot value) words s k = same_kept relay s _ k refl refl
-resumed_keeps relay (Add slot value) words s k = same_kept relay s _ k refl refl
-resumed_keeps relay (Cas slot expected new) words s k = same_kept relay s _ k refl refl
 resumed_keeps relay (Copy span) words s k = same_kept relay s _ k refl refl
+resumed_keeps relay request words s k = same_kept relay s _ k refl refl
 
 -- at entry nothing is entered or put
 unput_empty : (kind : Kind) (shape : Shape) → IsUnput kind (empty_outbox (record { shape = shape; kind = kind }))

@@ -1,18 +1,18 @@
 -- How many places a helper sets: at most one of each receiver in a row, and rows of few labels.
-use Rattle.std.proofs.Common.{ℕ, zero, suc, ◌+◌, ◌-◌, ◌<◌, ◌≤◌, ◌≡◌, ◌≢◌, Bool, true, false, not, cond, ◌||◌, ◌&&◌, List, [], ◌∷◌, ◌++◌, map, length, refl, sym, ap, ◌∙◌, arith, inl, inr, Some, None}
+use Rattle.std.proofs.Common.{ℕ, zero, suc, ◌+◌, ◌-◌, ◌*◌, ◌<◌, ◌≤◌, ◌≡◌, ◌≢◌, Bool, true, false, not, cond, ◌||◌, ◌&&◌, List, [], ◌∷◌, ◌++◌, map, length, refl, sym, ap, subst, ◌∙◌, arith, inl, inr, Some, None}
 use Rattle.std.specs.Prelude.{◌==◌, if◌then◌else◌, count_by, sum_by, is_some, slice_get}
 use Rattle.std.specs.List.{enumerate_from}
 use Rattle.std.proofs.lemmas.Bool.{cases_eq, false≢true, and_parts, not-true, eqb-true, ne_eqb}
 use Rattle.std.proofs.lemmas.Bool.Decides.{eqb_tells}
 use Rattle.std.proofs.lemmas.List.Sums.{sum_by-cons}
 use Rattle.label.specs.declared.shape.Shape.{Shape}
-use Rattle.semantics.specs.Relay.{Kind, Oral, Signed, Relay, labels_told, relayed}
-use Rattle.label.specs.Labels.{on, is_distinct, labels}
+use Rattle.semantics.specs.Relay.{IsRelay, Kind, Oral, Signed, Relay, labels_told, relayed}
+use Rattle.label.specs.Labels.{on, is_distinct, labels, others}
 use Rattle.label.specs.Relay.{IsShape, relay, receivers}
 use Rattle.label.proofs.Counting.{others-distinct}
-use Rattle.label.proofs.Bounds.{labels-few, most}
-use Rattle.semantics.specs.Outbox.{Place, Choice, places_set, at_place, along_row, at_receiver, as_taken, taken_value}
-use Rattle.semantics.specs.Places.{RelaysAreFew, FewPlacesAreSet, RangesAreKept}
+use Rattle.label.proofs.Bounds.{labels-few, most, others_length_more}
+use Rattle.semantics.specs.Limits.{most_labels}
+use Rattle.semantics.specs.Outbox.{RelaysAreFew, FewPlacesAreSet, RangesAreKept, Place, Choice, places_set, at_place, along_row, at_receiver, as_taken, taken_value}
 
 -- the places of a row, from a number on
 abbrev pub row_from : ℕ → ℕ → List ℕ → List Place
@@ -79,6 +79,37 @@ one_each choice s few a (w ∷ ws) =
     let rest : sets_in choice (rows_from s (a + 1) ws) ≤ length ws = one_each choice s few (a + 1) ws in
     rw (sets_in-cons choice (row_from a 0 (receivers s w)) (rows_from s (a + 1) ws)) (omega arith)
 
+-- whatever is chosen, a row sets no more places than it has, and it has one for each general at most
+row_few : (choice : Choice) (k b : ℕ) (ns : List ℕ) → sets choice (row_from k b ns) ≤ length ns
+row_few choice k b [] = omega arith
+row_few choice k b (n ∷ ns) =
+    let rest : sets choice (row_from k (b + 1) ns) ≤ length ns = row_few choice k (b + 1) ns in
+    let here : cond {A = ℕ} (is_some (choice (record { rank = k; number = b; receiver = n }))) 1 0 ≤ 1 = bit (is_some (choice (record { rank = k; number = b; receiver = n }))) in
+    rw (sets-cons choice (record { rank = k; number = b; receiver = n }) (row_from k (b + 1) ns)) (omega arith)
+  where
+    bit : (t : Bool) → cond {A = ℕ} t 1 0 ≤ 1
+    bit true = omega arith
+    bit false = omega arith
+
+others_few : (n : ℕ) (v : List ℕ) → length (others n v) ≤ n
+others_few zero v = omega arith
+others_few (suc n) v =
+    let next : n + 1 ≡ suc n = omega arith in
+    subst (λ (k : ℕ). length (others k v) ≤ k) next (by (on v n) (others_length_more v n) (others_few n v))
+  where
+    by : (t : Bool) → length (others (n + 1) v) ≡ length (others n v) + cond t 0 1 → length (others n v) ≤ n → length (others (n + 1) v) ≤ n + 1
+    by true more few = omega arith
+    by false more few = omega arith
+
+rows_few : (choice : Choice) (s : Shape) → IsShape s → (a : ℕ) (ws : List (List ℕ)) → sets_in choice (rows_from s a ws) ≤ 13 * length ws
+rows_few choice s is a [] = omega arith
+rows_few choice s is a (w ∷ ws) =
+    let here : sets choice (row_from a 0 (receivers s w)) ≤ length (receivers s w) = row_few choice a 0 (receivers s w) in
+    let long : length (receivers s w) ≤ s.generals = others_few s.generals (w ++ s.general ∷ []) in
+    let few : s.generals ≤ 13 = is.few in
+    let rest : sets_in choice (rows_from s (a + 1) ws) ≤ 13 * length ws = rows_few choice s is (a + 1) ws in
+    rw (sets_in-cons choice (row_from a 0 (receivers s w)) (rows_from s (a + 1) ws)) (omega arith)
+
 -- a choice of one label sets no other row
 no_row : (choice : Choice) (s : Shape) (label : ℕ) → ((k : ℕ) (w : List ℕ) → k ≢ label → sets choice (row_from k 0 (receivers s w)) ≡ 0) → (a : ℕ) (ws : List (List ℕ)) → label < a → sets_in choice (rows_from s a ws) ≡ 0
 no_row choice s label misses a [] l = refl
@@ -109,7 +140,7 @@ bit_both true e x = bit_of e x
 bit_both false true x = omega arith
 bit_both false false x = omega arith
 
-sent_few : (r : Relay) (label receiver order : ℕ) → places_set r (at_place label receiver order) ≤ 1
+pub sent_few : (r : Relay) (label receiver order : ℕ) → places_set r (at_place label receiver order) ≤ 1
 sent_few r label receiver order =
     one_row (at_place label receiver order) r.shape label 1
     (λ k w ne. row_none (at_place label receiver order) k (λ b n. ap (λ t. is_some (if t && (n == receiver) then Some order else None)) (ne_eqb k label ne)) 0 (receivers r.shape w))
@@ -182,9 +213,22 @@ told_few (Signed held) s a = omega arith
 pub relays_few : RelaysAreFew
 relays_few r a = told_few r.kind r.shape a
 
+-- so every helper's count is a word
+pub places_few : (r : Relay) (choice : Choice) → IsRelay r → places_set r choice ≤ 13 * 990
+places_few r choice is = omega (arith, rows_few choice r.shape is 0 (relayed r), relays_few r is)
+
+pub swayed_most : (r : Relay) (receiver order : ℕ) → IsRelay r → places_set r (at_receiver receiver order) ≤ most_labels
+swayed_most r receiver order is = omega (arith, swayed_few r receiver order, relays_few r is)
+
+pub taken_most : (r : Relay) (context : List ℕ) (receiver : ℕ) → IsRelay r → places_set r (as_taken context receiver) ≤ most_labels
+taken_most r context receiver is = omega (arith, taken_few r context receiver, relays_few r is)
+
+-- what each choice sets at most
+pub ruleset most_set = (sent_few, swayed_most, taken_most)
+
 pub ranges_kept : RangesAreKept
 ranges_kept = record {
   along = λ s label orders l. omega (arith, along_few s label orders);
-  swayed = λ s receiver order a. omega (arith, swayed_few s receiver order, relays_few s a);
-  taken = λ s context receiver a. omega (arith, taken_few s context receiver, relays_few s a);
+  swayed = swayed_most;
+  taken = taken_most;
 }

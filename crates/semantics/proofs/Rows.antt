@@ -230,10 +230,10 @@ slot_64 : after (i.Arithmetic W64 op.Move 1 (Immediate (pos 64)) ∷ i.Call (pos
 unfolding labels step onwards
 slot_64 = refl
 
--- helper_12; the verifier: refused V11 unit 1
-helper_12 : after (i.Arithmetic W64 op.Move 1 (Immediate (pos 0)) ∷ i.Call (pos 12) ∷ i.Exit ∷ []) ((4 ∷ 0 ∷ 0 ∷ 0 ∷ 1 ∷ 0 ∷ 0 ∷ 0 ∷ 3 ∷ 0 ∷ 0 ∷ 0 ∷ 0 ∷ 0 ∷ 0 ∷ 0 ∷ 1 ∷ 0 ∷ 0 ∷ 0 ∷ 0 ∷ 0 ∷ 0 ∷ 0 ∷ 3 ∷ []) ++ replicate 4071 0) (oral (record { generals = 4; commander = 0; general = 3; round = 1 })) ([]) 3 ≡ Trapped NoHelper
+-- helper_1000; the verifier: refused V11 unit 1
+helper_1000 : after (i.Arithmetic W64 op.Move 1 (Immediate (pos 0)) ∷ i.Call (pos 1000) ∷ i.Exit ∷ []) ((4 ∷ 0 ∷ 0 ∷ 0 ∷ 1 ∷ 0 ∷ 0 ∷ 0 ∷ 3 ∷ 0 ∷ 0 ∷ 0 ∷ 0 ∷ 0 ∷ 0 ∷ 0 ∷ 1 ∷ 0 ∷ 0 ∷ 0 ∷ 0 ∷ 0 ∷ 0 ∷ 0 ∷ 3 ∷ []) ++ replicate 4071 0) (oral (record { generals = 4; commander = 0; general = 3; round = 1 })) ([]) 3 ≡ Trapped NoHelper
 unfolding labels step onwards
-helper_12 = refl
+helper_1000 = refl
 
 -- copy_to_the_stack; the verifier: accepted
 copy_to_the_stack : after (i.Arithmetic W64 op.Move 1 (Immediate (pos 60)) ∷ i.Arithmetic W64 op.Move 2 (Register 10) ∷ i.Arithmetic W64 op.Add 2 (Immediate (negsuc 31)) ∷ i.Arithmetic W64 op.Move 3 (Immediate (pos 4)) ∷ i.Call (pos 5) ∷ i.Load size.Double 0 10 (negsuc 31) ∷ i.Exit ∷ []) ((4 ∷ 0 ∷ 0 ∷ 0 ∷ 1 ∷ 0 ∷ 0 ∷ 0 ∷ 3 ∷ 0 ∷ 0 ∷ 0 ∷ 0 ∷ 0 ∷ 0 ∷ 0 ∷ 1 ∷ 0 ∷ 0 ∷ 0 ∷ 0 ∷ 0 ∷ 0 ∷ 0 ∷ 3 ∷ []) ++ replicate 4071 0) (oral (record { generals = 4; commander = 0; general = 3; round = 1 })) ((7 ∷ 9223372036854775809 ∷ 3 ∷ 18446744073709551615 ∷ []) ∷ []) 7 ≡ Exited 7 (record { unit = 6; registers = ((Number 7) ∷ (Unset) ∷ (Unset) ∷ (Unset) ∷ (Unset) ∷ (Unset) ∷ (Unset) ∷ (Unset) ∷ (Unset) ∷ (Unset) ∷ (Pointer Stack (pos 0)) ∷ []); cells = (replicate 480 (Empty) ++ replicate 1 (Byte 7) ++ replicate 7 (Byte 0) ++ replicate 1 (Byte 1) ++ replicate 6 (Byte 0) ++ replicate 1 (Byte 128) ++ replicate 1 (Byte 3) ++ replicate 7 (Byte 0) ++ replicate 8 (Byte 255)); outbox = ([]); entries = []; steps = 7 })

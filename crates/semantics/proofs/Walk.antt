@@ -1,5 +1,5 @@
 -- A walk over all kinds of instructions: what a predicate of outcomes owes of each.
-use Rattle.std.proofs.Common.{◌≡◌, ℕ, ℤ, pos, negsuc, ◌+◌, ◌-◌, List, Bool, true, false, refl}
+use Rattle.std.proofs.Common.{◌≡◌, ℕ, ℤ, pos, negsuc, ◌+◌, List, Bool, true, false, refl}
 use Rattle.std.specs.Prelude.{Option, Some, None, Result, Ok, Err, slice_set, if◌then◌else◌, ◌==◌}
 use Rattle.insn.specs.declared.insn.Insn.{Insn}
 use Rattle.insn.specs.declared.insn.Insn.TheVariants as i
@@ -7,18 +7,18 @@ use Rattle.insn.specs.Insn.{bytes_of}
 use Rattle.insn.specs.Program.{instruction_at}
 use Rattle.semantics.specs.Relay.{Relay}
 use Rattle.semantics.specs.declared.value.Value.{Value}
-use Rattle.semantics.specs.declared.value.Value.TheVariants.{Number}
+use Rattle.semantics.specs.declared.value.Value.TheVariants.{Number, Unset}
 use Rattle.semantics.specs.declared.value.Cell.{Cell}
 use Rattle.semantics.specs.declared.request.Helper.{Helper}
-use Rattle.semantics.specs.declared.request.Helper.TheVariants.{BoardGet, BoardSwap, BoardAdd, BoardCas, BoardCopy, Send, SendRow, Sway, Honest, SignOrder, PassOn}
+use Rattle.semantics.specs.declared.request.Helper.TheVariants.{BoardGet}
 use Rattle.semantics.specs.declared.request.Request.{Request}
 use Rattle.semantics.specs.declared.entry.Entry.{Entry}
-use Rattle.semantics.specs.State.{Cause, FrameWrite, NoInstruction, NoHelper, State, Outcome, Next, Ask, Exit, Trap, value_at, operand_value}
+use Rattle.semantics.specs.State.{Cause, FrameWrite, NoInstruction, NoHelper, UnsetRegister, State, Outcome, Next, Ask, Exit, Trap, value_at, operand_value}
 use Rattle.semantics.specs.Memory.{stored}
 use Rattle.semantics.specs.Outbox.{Choice, written, places_set}
 use Rattle.semantics.specs.Entries.{is_entered, entered}
 use Rattle.semantics.specs.Step.{assigned, changed, arrived, branched, exited}
-use Rattle.semantics.specs.Call.{called, asked, sent, attempted, returned}
+use Rattle.semantics.specs.Call.{Effect, Asks, Puts, Enters, told, effect, done, called, asked, sent, attempted, returned}
 use Rattle.semantics.specs.Execution.{executed, fetched, step}
 
 -- what P owes of what is no call: a trap, a register assigned, another unit, an exit, a store
@@ -75,19 +75,20 @@ attempted_walk : (relay : Relay) (s : State) (P : Outcome → Type 0) → Calls 
 attempted_walk relay s P c (Err cause) = c.trapped cause
 attempted_walk relay s P c (Ok entry) = c.enters (if is_entered relay s.entries entry then 0 else 1) entry
 
+done_walk : (relay : Relay) (s : State) (P : Outcome → Type 0) → Calls relay s P → (e : Effect) → P (done relay s e)
+done_walk relay s P c (Asks request) = asked_walk relay s P c request
+done_walk relay s P c (Puts tells choice) = sent_walk relay s P c (told tells) choice
+done_walk relay s P c (Enters entry) = attempted_walk relay s P c entry
+
 pub called_walk : (context : List ℕ) (relay : Relay) (s : State) (P : Outcome → Type 0) → Calls relay s P → (h : Option Helper) → P (called context relay s h)
 called_walk context relay s P c None = c.trapped NoHelper
-called_walk context relay s P c (Some BoardGet) = asked_walk relay s P c _
-called_walk context relay s P c (Some BoardSwap) = asked_walk relay s P c _
-called_walk context relay s P c (Some BoardAdd) = asked_walk relay s P c _
-called_walk context relay s P c (Some BoardCas) = asked_walk relay s P c _
-called_walk context relay s P c (Some BoardCopy) = asked_walk relay s P c _
-called_walk context relay s P c (Some Send) = sent_walk relay s P c (λ set. 1 - set) _
-called_walk context relay s P c (Some SendRow) = sent_walk relay s P c (λ set. set) _
-called_walk context relay s P c (Some Sway) = sent_walk relay s P c (λ set. set) _
-called_walk context relay s P c (Some Honest) = sent_walk relay s P c (λ set. set) _
-called_walk context relay s P c (Some SignOrder) = attempted_walk relay s P c _
-called_walk context relay s P c (Some PassOn) = attempted_walk relay s P c _
+called_walk context relay s P c (Some helper) = done_walk relay s P c (effect context s helper)
+
+-- P of a call with nothing in r1: each helper takes an argument there, and so it traps
+pub unset_walk : (context : List ℕ) (relay : Relay) (s : State) (P : Outcome → Type 0) → value_at s.registers 1 ≡ Unset → ((cause : Cause) → P (Trap cause)) → (h : Option Helper) → P (called context relay s h)
+unset_walk context relay s P e trapped None = trapped NoHelper
+unset_walk context relay s P e trapped (Some BoardGet) = rw e (trapped UnsetRegister)
+unset_walk context relay s P e trapped (Some helper) = rw e (trapped UnsetRegister)
 
 executed_walk : (context : List ℕ) (relay : Relay) (insn : Insn) (s : State) (P : Outcome → Type 0) → Walks s P → ((h : Option Helper) → P (called context relay s h)) → P (executed context relay insn s)
 executed_walk context relay (i.Arithmetic width operation dst operand) s P w c = assigned_walk s P w dst 1 _

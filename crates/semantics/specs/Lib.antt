@@ -15,4 +15,3 @@ pub mod Whole
 pub mod Plain
 pub mod Laws
 pub mod Examples
-pub mod Places

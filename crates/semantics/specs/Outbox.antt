@@ -1,8 +1,9 @@
 -- The outbox of a relay (own).
-use Rattle.std.specs.Prelude.{ℕ, ◌+◌, ◌*◌, ◌==◌, ◌&&◌, if◌then◌else◌, List, map, zip, sum_by, count_by, Option, Some, None, is_some, slice_get, slice_range}
+use Rattle.std.specs.Prelude.{ℕ, ◌+◌, ◌*◌, ◌≤◌, ◌==◌, ◌&&◌, if◌then◌else◌, List, length, map, zip, sum_by, count_by, Option, Some, None, is_some, slice_get, slice_range}
 use Rattle.std.specs.List.{enumerate_from}
 use Rattle.word.specs.Bytes.{little_number}
-use Rattle.semantics.specs.Relay.{Relay, relayed}
+use Rattle.semantics.specs.Limits.{most_generals, most_labels}
+use Rattle.semantics.specs.Relay.{IsRelay, Relay, relayed}
 use Rattle.label.specs.Relay.{receivers}
 use Rattle.semantics.specs.State.{Outbox}
 
@@ -64,3 +65,27 @@ taken_value context rank = little_number (slice_range context (32 + 4 * rank) (3
 -- honest: the same places, each with its label's taken value
 abbrev pub as_taken : List ℕ → ℕ → Choice
 as_taken context receiver place = if place.receiver == receiver then Some (taken_value context place.rank) else None
+
+-- ---- how many places are set at most; each statement is the contract of a function of this crate
+
+-- within the limits of a campaign a general relays at most 11 * 10 * 9 labels in a round
+abbrev pub RelaysAreFew : Type 0
+RelaysAreFew = (relay : Relay) → IsRelay relay → length (relayed relay) ≤ 990
+
+-- one place of a label, as many of a row as there are orders, and one in every label
+pub record FewPlacesAreSet : Type 0 where
+  pub sent : (relay : Relay) (label receiver order : ℕ) → places_set relay (at_place label receiver order) ≤ 1
+  pub along : (relay : Relay) (label : ℕ) (orders : List ℕ) → places_set relay (along_row label orders) ≤ length orders
+  pub swayed : (relay : Relay) (receiver order : ℕ) →
+      places_set relay (at_receiver receiver order) ≤ length (relayed relay)
+  pub taken : (relay : Relay) (context : List ℕ) (receiver : ℕ) →
+      places_set relay (as_taken context receiver) ≤ length (relayed relay)
+
+-- the ranges of what the helpers return
+pub record RangesAreKept : Type 0 where
+  pub along : (relay : Relay) (label : ℕ) (orders : List ℕ) → length orders ≤ most_generals →
+      places_set relay (along_row label orders) ≤ most_generals
+  pub swayed : (relay : Relay) (receiver order : ℕ) → IsRelay relay →
+      places_set relay (at_receiver receiver order) ≤ most_labels
+  pub taken : (relay : Relay) (context : List ℕ) (receiver : ℕ) → IsRelay relay →
+      places_set relay (as_taken context receiver) ≤ most_labels

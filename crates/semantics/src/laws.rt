@@ -1,6 +1,6 @@
 //! Laws of steps and runs: each function does nothing, and its contract is the law.
 ghost use Rattle.semantics.specs.Examples.{SomeArePlainAndSound};
-ghost use Rattle.semantics.specs.Places.{FewPlacesAreSet, RangesAreKept, RelaysAreFew};
+ghost use Rattle.semantics.specs.Outbox.{FewPlacesAreSet, RangesAreKept, RelaysAreFew};
 ghost use Rattle.semantics.specs.Laws.{EntriesAreFew, StepsAreCounted, StatesStayWhole, RunsStayOver, ReachedIsRun, SoundIsSafeAtEntry, ReachedIsSafe};
 
 /// Each step is counted once.

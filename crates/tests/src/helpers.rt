@@ -2,7 +2,7 @@
 
 use helper::{Argument, Helper, arguments, helper_of, result};
 
-/// Numbers of helpers, where they are any.
+/// Numbers of helpers, and two that no helper is to have.
 const NUMBERS: &[(i32, Option<Helper>)] = &[
     (0, None),
     (1, Some(Helper::BoardGet)),
@@ -10,7 +10,7 @@ const NUMBERS: &[(i32, Option<Helper>)] = &[
     (9, Some(Helper::Honest)),
     (10, Some(Helper::SignOrder)),
     (11, Some(Helper::PassOn)),
-    (12, None),
+    (1000, None),
 ];
 
 /// `send_row` takes a label and at most 13 orders, `board_copy` answers at most 64.

@@ -4,24 +4,16 @@ use Rattle.std.specs.Prelude.{decimal, codes, filter, Option, None, Some}
 use Rattle.std.proofs.lemmas.List.{take_more, map-append}
 use Rattle.std.proofs.lemmas.List.Elements.{filter-append}
 use Rattle.semantics.specs.declared.request.Request.{Request}
-use Rattle.semantics.specs.declared.request.Request.TheVariants.{Get, Swap, Add, Cas, Copy}
 use Rattle.board.specs.Board.{Access}
-use Rattle.trace.specs.Text.{Word, Line, author_line, spaced, further, asked, access_line, text, decision_line}
-use Rattle.trace.specs.Lines.{question, mark}
+use Rattle.trace.specs.Text.{Word, Line, author_line, spaced, further, access_line, question, text, decision_line}
+use Rattle.trace.specs.Lines.{mark}
 use Rattle.trace.proofs.WrittenLemmas.{further-append, further-one}
-
-asked_is : (q : Request) (ws : List Word) → asked q ++ ws ≡ question q ++ (codes "=" ∷ ws)
-asked_is (Get slot) ws = refl
-asked_is (Swap slot value) ws = refl
-asked_is (Add slot value) ws = refl
-asked_is (Cas slot expected new) ws = refl
-asked_is (Copy span) ws = refl
 
 -- the line of an access, part by part
 pub access_parts : (head number : List ℕ) (q : Request) (reply : List Word)
-    → (((head ++ 32 ∷ number) ++ further (question q)) ++ codes " =") ++ further reply ++ 10 ∷ [] ≡ (head ++ further (number ∷ (asked q ++ reply))) ++ 10 ∷ []
+    → (((head ++ 32 ∷ number) ++ further (question q)) ++ codes " =") ++ further reply ++ 10 ∷ [] ≡ (head ++ further (number ∷ (question q ++ (codes "=" ∷ reply)))) ++ 10 ∷ []
 access_parts head number q reply =
-    rw (asked_is q reply, further-append (question q) (codes "=" ∷ reply)) (simp append_assoc)
+    rw (further-append (question q) (codes "=" ∷ reply)) (simp append_assoc)
 
 -- the line of a letter, word by word
 pub loyal_line : (g : ℕ) (steps : Option ℕ) → steps ≡ None → codes "letter" ∷ decimal g ∷ codes "loyal" ∷ [] ≡ author_line g steps

@@ -10,14 +10,15 @@ use Rattle.combine.specs.Rule.{rule_name}
 use Rattle.combine.proofs.RuleLaws.{names_law}
 use Rattle.text.proofs.BytesLemmas.{all-weaker}
 use Rattle.semantics.specs.declared.request.Request.{Request}
-use Rattle.semantics.specs.declared.request.Request.TheVariants.{Get, Swap, Add, Cas, Copy}
+use Rattle.asking.specs.Wording.{Row, numbers_asked, row_asked}
+use Rattle.asking.proofs.RowLemmas.{row_has}
 use Rattle.board.specs.Board.{Access}
 use Rattle.roster.specs.Scenario.{Scenario, is_traitor}
 use Rattle.letter.specs.Letters.{Letter}
 use Rattle.world.specs.declared.verdict.Verdict.{Verdict}
 use Rattle.world.specs.Chronicle.{Chronicle}
 use Rattle.label.specs.Lieutenants.{lieutenants}
-use Rattle.trace.specs.Text.{Word, Line, asked, access_line, place, row_lines, yes_no, yes_no_none, author_line, letter_lines, rounds_told, steps_of, decision_line, decision_lines, verdict_line, version_word, version_line, campaign_words, further_words, head_lines, lines_behind, lines_in}
+use Rattle.trace.specs.Text.{Word, Line, access_line, question, place, row_lines, yes_no, yes_no_none, author_line, letter_lines, rounds_told, steps_of, decision_line, decision_lines, verdict_line, version_word, version_line, campaign_words, further_words, head_lines, lines_behind, lines_in}
 use Rattle.trace.specs.declared.version.Version.{Version}
 use Rattle.trace.specs.declared.version.Version.TheVariants.{First, Second}
 use Rattle.trace.proofs.Splitting.{IsPlain, ArePlain, IsLine, AreLines, decimal_plain}
@@ -38,19 +39,14 @@ decimals_plain : (ns : List ℕ) → ArePlain (map decimal ns)
 decimals_plain [] = tt
 decimals_plain (n ∷ ns) = (decimal_plain n, decimals_plain ns)
 
--- words of numbers behind one another
-numbers_plain : (ns : List ℕ) (ws : List Word) → ArePlain ws → ArePlain (map decimal ns ++ ws)
-numbers_plain ns ws p = plain-append (map decimal ns) ws (decimals_plain ns) p
+abbrev is_plain_word : Row → Bool
+is_plain_word r = list_all (λ c. nat_lt 32 c) r.word
 
-asked_plain : (q : Request) → ArePlain (asked q)
-asked_plain (Get slot) = (by_test (codes "get") refl, numbers_plain (slot ∷ []) (codes "=" ∷ []) (by_test (codes "=") refl, tt))
-asked_plain (Swap slot value) = (by_test (codes "swap") refl, numbers_plain (slot ∷ value ∷ []) (codes "=" ∷ []) (by_test (codes "=") refl, tt))
-asked_plain (Add slot value) = (by_test (codes "add") refl, numbers_plain (slot ∷ value ∷ []) (codes "=" ∷ []) (by_test (codes "=") refl, tt))
-asked_plain (Cas slot expected new) = (by_test (codes "cas") refl, numbers_plain (slot ∷ expected ∷ new ∷ []) (codes "=" ∷ []) (by_test (codes "=") refl, tt))
-asked_plain (Copy span) = (by_test (codes "copy") refl, numbers_plain (span.0 ∷ span.1 ∷ []) (codes "=" ∷ []) (by_test (codes "=") refl, tt))
+question_plain : (q : Request) → ArePlain (question q)
+question_plain q = (by_test (row_asked q).word (row_has is_plain_word refl q), decimals_plain (numbers_asked q))
 
 access_plain : (a : Access) → IsLine (access_line a)
-access_plain a = (by_test (codes "access") refl, (decimal_plain a.general, plain-append (asked a.request) (map decimal a.reply) (asked_plain a.request) (decimals_plain a.reply)))
+access_plain a = (by_test (codes "access") refl, (decimal_plain a.general, plain-append (question a.request) (codes "=" ∷ map decimal a.reply) (question_plain a.request) (by_test (codes "=") refl, decimals_plain a.reply)))
 
 accesses_plain : (xs : List Access) → AreLines (map access_line xs)
 accesses_plain [] = tt

@@ -1,19 +1,9 @@
 -- Single lines of a chronicle, by the numbers that they tell, and parts of them.
 use Rattle.std.specs.Prelude.{ℕ, Bool, true, false, List, [], ◌∷◌, ◌++◌, ◌==◌, map, filter, flat_map, decimal, codes, Option, None, Some}
-use Rattle.semantics.specs.declared.request.Request.{Request}
-use Rattle.semantics.specs.declared.request.Request.TheVariants.{Get, Swap, Add, Cas, Copy}
 use Rattle.board.specs.Board.{Access}
 use Rattle.letter.specs.Letters.{Letter}
 use Rattle.roster.specs.Scenario.{Scenario, is_traitor}
 use Rattle.trace.specs.Text.{Word, Line, access_line, letter_lines, place, decision_line}
-
--- what was asked, before the equals sign
-abbrev pub question : Request → List Word
-question (Get slot) = codes "get" ∷ decimal slot ∷ []
-question (Swap slot value) = codes "swap" ∷ decimal slot ∷ decimal value ∷ []
-question (Add slot value) = codes "add" ∷ decimal slot ∷ decimal value ∷ []
-question (Cas slot expected new) = codes "cas" ∷ decimal slot ∷ decimal expected ∷ decimal new ∷ []
-question (Copy span) = codes "copy" ∷ decimal span.0 ∷ decimal span.1 ∷ []
 
 abbrev pub round_line : ℕ → Line
 round_line round = codes "round" ∷ decimal round ∷ []

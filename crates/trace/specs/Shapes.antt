@@ -1,10 +1,11 @@
 -- The shapes of a chronicle's lines: each is a line's alone, whatever its numbers (own).
 use Rattle.std.specs.Prelude.{ℕ, suc, ◌==◌, ◌&&◌, ◌||◌, nat_lt, Bool, true, false, if◌then◌else◌, List, [], ◌∷◌, length, bytes_eq, codes, Option, Some, None, is_some}
-use Rattle.std.specs.List.{list_all}
+use Rattle.std.specs.List.{list_all, list_any}
 use Rattle.combine.specs.Names.{rule_named}
 use Rattle.text.specs.Stop.{dot, space}
 use Rattle.text.specs.Parts.{pieces}
 use Rattle.text.specs.Number.{decimal_of}
+use Rattle.asking.specs.Wording.{Row, rows}
 use Rattle.trace.specs.Text.{Word, acting_shape, loyal_shape}
 
 -- a decimal number without leading zeros, of any size
@@ -96,14 +97,12 @@ abbrev pub is_copied : Option (List Word) → Bool
 is_copied (Some (count ∷ equals ∷ words)) = bytes_eq equals (codes "=") && is_count (decimal_of count) words
 is_copied _ = false
 
--- an access
+-- an access of a request that is worded so
+abbrev pub is_worded : Row → List Word → Bool
+is_worded r words = if r.copies then is_copied (behind_shape r.shape words) else fits r.shape words
+
 unfoldable pub is_access : List Word → Bool
-is_access words =
-    fits (codes "access N get N = N") words
-    || fits (codes "access N swap N N = N") words
-    || fits (codes "access N add N N = N") words
-    || fits (codes "access N cas N N N = N") words
-    || is_copied (behind_shape (codes "access N copy N") words)
+is_access words = list_any (λ r. is_worded r words) rows
 
 -- a decision, and the verdict
 unfoldable pub is_end : List Word → Bool

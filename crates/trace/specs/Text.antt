@@ -6,7 +6,7 @@ use Rattle.combine.specs.Rule.{rule_name}
 use Rattle.text.specs.Parts.{pieces}
 use Rattle.text.specs.Stop.{space}
 use Rattle.semantics.specs.declared.request.Request.{Request}
-use Rattle.semantics.specs.declared.request.Request.TheVariants.{Get, Swap, Add, Cas, Copy}
+use Rattle.asking.specs.Wording.{numbers_asked, row_asked}
 use Rattle.board.specs.Board.{Access}
 use Rattle.roster.specs.Scenario.{Scenario, is_traitor}
 use Rattle.letter.specs.Letters.{Letter}
@@ -37,16 +37,12 @@ abbrev pub text : List Line → List ℕ
 text [] = []
 text (l ∷ ls) = spaced l ++ 10 ∷ text ls
 
--- what was asked
-abbrev pub asked : Request → Line
-asked (Get slot) = codes "get" ∷ decimal slot ∷ codes "=" ∷ []
-asked (Swap slot value) = codes "swap" ∷ decimal slot ∷ decimal value ∷ codes "=" ∷ []
-asked (Add slot value) = codes "add" ∷ decimal slot ∷ decimal value ∷ codes "=" ∷ []
-asked (Cas slot expected new) = codes "cas" ∷ decimal slot ∷ decimal expected ∷ decimal new ∷ codes "=" ∷ []
-asked (Copy span) = codes "copy" ∷ decimal span.0 ∷ decimal span.1 ∷ codes "=" ∷ []
+-- what was asked: the request's word and its numbers
+abbrev pub question : Request → List Word
+question request = (row_asked request).word ∷ map decimal (numbers_asked request)
 
 abbrev pub access_line : Access → Line
-access_line a = codes "access" ∷ decimal a.general ∷ (asked a.request ++ map decimal a.reply)
+access_line a = codes "access" ∷ decimal a.general ∷ (question a.request ++ (codes "=" ∷ map decimal a.reply))
 
 -- a number, or - for nothing
 abbrev pub place : Option ℕ → Word

@@ -2,12 +2,13 @@
 ghost use Rattle.std.specs.Prelude.{◌≡◌, ◌==◌, ◌<◌, ◌≤◌, ◌+◌, ◌++◌, ◌∷◌, [], ℕ, decimal, codes, length, map, filter, Option, slice_index_or};
 ghost use Rattle.semantics.specs.Replies.{words_in};
 ghost use Rattle.trace.specs.Sinks.{Wrote};
-ghost use Rattle.trace.specs.Text.{author_line, further, text, access_line, place, yes_no, yes_no_none, verdict_line, decision_line};
-ghost use Rattle.trace.specs.Lines.{question, mark, round_line, row_line};
+ghost use Rattle.trace.specs.Text.{author_line, further, text, access_line, place, question, yes_no, yes_no_none, verdict_line, decision_line};
+ghost use Rattle.trace.specs.Lines.{mark, round_line, row_line};
 
 use crate::composing::LineBuffer;
 use crate::sink::Sink;
 use crate::writing::{put_all, put_headed, put_next};
+use asking::{numbers, worded};
 use board::Access;
 use outbox::Outbox;
 use semantics::{Reply, Request};
@@ -33,26 +34,13 @@ fn put_words<S: Sink>(sink: &mut S, word: &[u8], numbers: &[u64])
     put_numbers(sink, numbers);
 }
 
-/// What was asked.
+/// What was asked: the word and the numbers.
 fn put_question<S: Sink>(sink: &mut S, request: &Request)
     ensures { Wrote (S.contents sink.old) (S.has_failed sink.old) (further (question request.now)) (S.contents sink.new)
         (S.has_failed sink.new) }
 {
-    match *request {
-        Request::Get { slot } => put_words(sink, b"get", &[slot.number() as u64]),
-        Request::Swap { slot, value } => put_words(sink, b"swap", &[slot.number() as u64, value]),
-        Request::Add { slot, value } => put_words(sink, b"add", &[slot.number() as u64, value]),
-        Request::Cas {
-            slot,
-            expected,
-            new,
-        } => {
-            put_words(sink, b"cas", &[slot.number() as u64, expected, new]);
-        }
-        Request::Copy { span } => {
-            put_words(sink, b"copy", &[span.slot() as u64, span.count() as u64]);
-        }
-    }
+    let (numbers, count) = numbers(request);
+    put_words(sink, worded(request).word.as_bytes(), &numbers[..count]);
 }
 
 /// The words of a reply, each behind a space.

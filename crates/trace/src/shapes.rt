@@ -1,11 +1,13 @@
 //! The shapes of a chronicle's lines.
-ghost use Rattle.std.specs.Prelude.{◌≡◌, ◌&&◌, ◌==◌, Some, option_map, codes, length};
-ghost use Rattle.std.specs.List.{list_all};
+ghost use Rattle.std.specs.Prelude.{◌≡◌, ◌&&◌, ◌==◌, Some, option_map, codes, length, map};
+ghost use Rattle.std.specs.List.{list_all, list_any};
 ghost use Rattle.text.specs.Stop.{dot, space, feed};
 ghost use Rattle.text.specs.Parts.{left, pieces};
 ghost use Rattle.trace.specs.Shapes.{are_joined, are_places, are_receivers, behind, behind_shape, fits, is_access, is_copied, is_count, is_end};
-ghost use Rattle.trace.specs.Shapes.{is_campaign, is_number, is_place, is_shaped, is_told, is_version, is_yes_no, stands_for, unshaped_from};
+ghost use Rattle.asking.specs.Wording.{row_of};
+ghost use Rattle.trace.specs.Shapes.{is_campaign, is_number, is_place, is_shaped, is_told, is_version, is_worded, is_yes_no, stands_for, unshaped_from};
 
+use asking::{Wording, wordings};
 use combine::Rule;
 use text::{DOT, FEED, SPACE, decimal, piece};
 
@@ -200,14 +202,38 @@ fn is_copied(words: Option<&[u8]>) -> bool
     }
 }
 
-/// Whether a line is an access that copies words.
-fn is_copy(line: &[u8]) -> bool
-    ensures { result ≡ is_copied (behind_shape (codes "access N copy N") (pieces space line.now)) }
+/// Whether a line has the words of a shape, and behind them how many words are copied, and the words.
+fn is_copy(shape: &[u8], line: &[u8]) -> bool
+    ensures { result ≡ is_copied (behind_shape shape.now (pieces space line.now)) }
 {
-    match behind(b"access N copy N", line) {
+    match behind(shape, line) {
         Some(words) => is_copied(words),
         None => false,
     }
+}
+
+/// Whether a line is an access of a request that is worded so.
+fn is_worded(wording: &Wording, line: &[u8]) -> bool
+    ensures { result ≡ is_worded (row_of wording.now) (pieces space line.now) }
+{
+    let shape = wording.shape.as_bytes();
+    if wording.copies {
+        is_copy(shape, line)
+    } else {
+        fits(shape, line)
+    }
+}
+
+/// Whether a line is an access of a request that is worded as one of these.
+fn is_any(wordings: &[Wording], line: &[u8]) -> bool
+    ensures { result ≡ list_any (λ r. is_worded r (pieces space line.now)) (map row_of wordings.now) }
+{
+    for wording in wordings {
+        if is_worded(wording, line) {
+            return true;
+        }
+    }
+    false
 }
 
 /// Whether a line is an access.
@@ -215,11 +241,7 @@ fn is_copy(line: &[u8]) -> bool
 fn is_access(line: &[u8]) -> bool
     ensures { result ≡ is_access (pieces space line.now) }
 {
-    fits(b"access N get N = N", line)
-        || fits(b"access N swap N N = N", line)
-        || fits(b"access N add N N = N", line)
-        || fits(b"access N cas N N N = N", line)
-        || is_copy(line)
+    is_any(wordings(), line)
 }
 
 /// Whether a line is a decision or the verdict.

@@ -4,7 +4,7 @@ use Rattle.insn.specs.declared.insn.Insn.{Insn}
 use Rattle.insn.specs.declared.insn.Insn.TheVariants.{Arithmetic, Negate, SignExtend, Swap, LoadImmediate, Jump, LongJump, Branch, Load, LoadSigned, Store, Call, Exit}
 use Rattle.semantics.specs.declared.value.Value.{Value}
 use Rattle.semantics.specs.declared.request.Request.{Request}
-use Rattle.semantics.specs.declared.request.Request.TheVariants as request
+use Rattle.asking.specs.Wording.{span_asked}
 use Rattle.semantics.specs.State.{value_at}
 use Rattle.asm.specs.Printing.{insn_text}
 use Rattle.helper.specs.Reads.{read_by}
@@ -68,8 +68,4 @@ words_told slot (suc n) words left = word_told slot words left ++ words_told (su
 
 -- what is told of a request, of the board's words before and after it: each that it asked for
 abbrev pub request_told : Request → List ℕ → List ℕ → List ℕ
-request_told (request.Get slot) words left = word_told slot words left
-request_told (request.Swap slot value) words left = word_told slot words left
-request_told (request.Add slot value) words left = word_told slot words left
-request_told (request.Cas slot expected new) words left = word_told slot words left
-request_told (request.Copy span) words left = words_told span.0 span.1 words left
+request_told request words left = let span = span_asked request in words_told span.0 span.1 words left

@@ -2,7 +2,7 @@
 ghost use Rattle.std.specs.Prelude.{◌≡◌, ◌<◌, ◌∷◌, ◌++◌, List, ℕ, Some, length, slice_get, string_bytes, IfOk, OnOk};
 ghost use Rattle.label.specs.Relay.{IsShape, relay};
 ghost use Rattle.semantics.specs.Relay.{relayed};
-ghost use Rattle.tracing.specs.Slips.{note_of, reason_of, dotted, in_brackets, no_label, no_place, no_row, passed_over, past, place_of, slip_told, unheard, unit_told};
+ghost use Rattle.tracing.specs.Slips.{note_of, reason_of, dotted, in_brackets, no_label, no_place, no_row, passed_over, past, place_of, says_none, slip_told, unheard, unit_told};
 
 use explain::helper_name;
 use helper::Helper;
@@ -18,6 +18,17 @@ pub struct Call {
     pub first: u64,
     pub second: u64,
     pub third: u64,
+}
+
+/// Whether the helper, with this in r0, says that it put nothing.
+pub fn says_none(helper: Helper, r0: u64) -> bool
+    ensures { result ≡ says_none helper r0 }
+{
+    match helper {
+        Helper::Send => r0 == 1,
+        Helper::SendRow | Helper::Sway | Helper::Honest => r0 == 0,
+        _ => false,
+    }
 }
 
 /// Adds the line of a call that puts nothing, in a program with these places of its units.

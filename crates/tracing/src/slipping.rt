@@ -7,9 +7,9 @@ ghost use Rattle.semantics.specs.Call.{helper_of, resumed};
 ghost use Rattle.board.specs.Board.{reply, next};
 ghost use Rattle.machine.specs.Advance.{IsAskOfRun, IsOfRun};
 ghost use Rattle.tracing.specs.Trace.{Rest};
-ghost use Rattle.tracing.specs.Slips.{call_at, call_by, number_at, number_in, says_none, slips_at, slips_on, where_said};
+ghost use Rattle.tracing.specs.Slips.{call_at, call_by, number_at, number_in, slips_at, slips_on, where_said};
 
-use crate::reasons::{Call, put_note};
+use crate::reasons::{Call, put_note, says_none};
 use board::Board;
 use helper::reads::numbered;
 use helper::{Helper, helper_of};
@@ -22,10 +22,10 @@ use semantics::{Request, Value};
 use std::alloc::{AllocError, Global};
 use verify::Verified;
 
-/// A line for each call of `send`, `send_row`, `sway` or `honest` that puts nothing, with the reason, of the run of a
-/// program to its exit, in this context and with an outbox of this relay. The board that it asks is its own, and begins
-/// with these words. With its unit stands a call's place in the text that the program was written in, where `places`
-/// has it for the unit.
+/// A line for each call of a helper that puts orders that puts none, with the reason, of the run of a program to its
+/// exit, in this context and with an outbox of this relay. The board that it asks is its own, and begins with these
+/// words. With its unit stands a call's place in the text that the program was written in, where `places` has it for
+/// the unit.
 ///
 /// # Errors
 ///
@@ -159,17 +159,6 @@ fn call_by(activation: &Activation, helper: Option<Helper>) -> Option<Call>
         second: number_at(activation, 2),
         third: number_at(activation, 3),
     })
-}
-
-/// Whether the helper, with this in r0, says that it put nothing.
-fn says_none(helper: Helper, r0: u64) -> bool
-    ensures { result ≡ says_none helper r0 }
-{
-    match helper {
-        Helper::Send => r0 == 1,
-        Helper::SendRow | Helper::Sway | Helper::Honest => r0 == 0,
-        _ => false,
-    }
 }
 
 /// Adds the line of a call that was made, if it says that it put nothing.

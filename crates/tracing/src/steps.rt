@@ -4,6 +4,7 @@ ghost use Rattle.tracing.specs.Lines.{read_told, reads_told, stored_told, before
 ghost use Rattle.tracing.specs.Values.{register_told, place_told};
 
 use crate::values::{Held, Place};
+use asking::span;
 use asm::put_instruction;
 use helper::reads::{Registers, numbered, read_by};
 use insn::{Insn, Reg};
@@ -163,11 +164,6 @@ pub fn put_request(
 ) -> Result<(), AllocError>
     ensures { OnOk result (string_bytes out.new ≡ string_bytes out.old ++ request_told request.now words.now left.now) }
 {
-    match request {
-        Request::Get { slot }
-        | Request::Swap { slot, .. }
-        | Request::Add { slot, .. }
-        | Request::Cas { slot, .. } => put_word(out, slot.number(), words, left),
-        Request::Copy { span } => put_words(out, span.slot(), span.count(), words, left),
-    }
+    let (slot, count) = span(request);
+    put_words(out, slot, count, words, left)
 }

@@ -9,22 +9,23 @@ use Rattle.semantics.specs.declared.value.Value.{Value}
 use Rattle.semantics.specs.declared.value.Value.TheVariants.{Unset, Number, Pointer}
 use Rattle.semantics.specs.declared.value.Cell.{Cell}
 use Rattle.semantics.specs.declared.request.Helper.{Helper}
-use Rattle.semantics.specs.declared.request.Helper.TheVariants.{BoardGet, BoardSwap, BoardAdd, BoardCas, BoardCopy, Send, SendRow, Sway, Honest, SignOrder, PassOn}
+use Rattle.semantics.specs.declared.request.Helper.TheVariants.{BoardCopy, SendRow}
 use Rattle.semantics.specs.declared.request.Request.{Request}
-use Rattle.semantics.specs.declared.request.Request.TheVariants.{Get, Swap, Add, Cas, Copy}
+use Rattle.semantics.specs.declared.request.Request.TheVariants.{Copy}
 use Rattle.semantics.specs.declared.entry.Entry.{Entry}
 use Rattle.semantics.specs.Entries.{is_entered}
 use Rattle.semantics.specs.State.{Cause, Argument, State, Next, Ask, Trap, value_at, given}
 use Rattle.semantics.specs.Memory.{stack_place, cells_at, bytes_in, with_words}
-use Rattle.semantics.specs.Outbox.{Choice, places_set, along_row, as_taken}
-use Rattle.semantics.specs.Call.{argument, below, slot_in, word_in, pointer_in, copy_of, orders_of, orders_at, asked, sent, sign_in, pass_in, attempted, called, fits, resumed}
+use Rattle.semantics.specs.Outbox.{Choice, places_set, along_row}
+use Rattle.semantics.specs.Call.{Effect, Asks, Enters, effect, done, told, argument, below, slot_in, pointer_in, copy_of, orders_of, orders_at, asked, sent, attempted, called, fits, resumed}
+use Rattle.semantics.specs.Call as call
 use Rattle.absval.specs.declared.value.AbsVal.{AbsVal}
 use Rattle.absval.specs.Contains.{Contains}
 use Rattle.absmem.specs.Known.{Known}
 use Rattle.absmem.specs.Describes.{Describes as StackDescribes}
 use Rattle.helper.specs.Table.{refusal, or_else, refused, arguments_of, AcceptsThese}
 use Rattle.helper.specs.Results.{HoldsResult, Returns}
-use Rattle.helper.proofs.Tests.{copy_in, place_in, row_in, sway_in}
+use Rattle.helper.proofs.Tests.{copy_in, row_in}
 use Rattle.helper.proofs.Accepts.{asked_trap, sent_trap}
 use Rattle.helper.proofs.Traps.{number_if, pointer_is}
 use Rattle.verify.specs.declared.state.AbsState.{AbsState}
@@ -48,11 +49,8 @@ CellsStand known cells p _ words = StackDescribes known cells × (length cells �
 
 resumed_stands : (a : AbsState) (lo hi unit : ℕ) (request : Request) (words : List ℕ) (w : State) → w.unit ≡ unit → Puts lo hi a.registers w.registers → HoldsResult lo hi (resumed request words w) →
     CellsStand a.stack w.cells (value_at w.registers 2) request words → DescribesAt a unit (resumed request words w)
-resumed_stands a lo hi unit (Get slot) words w e puts held cells = (e, record { registers = puts _ (held_in lo hi _ held); stack = cells.0; size = cells.1 })
-resumed_stands a lo hi unit (Swap slot value) words w e puts held cells = (e, record { registers = puts _ (held_in lo hi _ held); stack = cells.0; size = cells.1 })
-resumed_stands a lo hi unit (Add slot value) words w e puts held cells = (e, record { registers = puts _ (held_in lo hi _ held); stack = cells.0; size = cells.1 })
-resumed_stands a lo hi unit (Cas slot expected new) words w e puts held cells = (e, record { registers = puts _ (held_in lo hi _ held); stack = cells.0; size = cells.1 })
 resumed_stands a lo hi unit (Copy span) words w e puts held cells = (e, record { registers = puts _ (held_in lo hi _ held); stack = cells.0; size = cells.1 })
+resumed_stands a lo hi unit request words w e puts held cells = (e, record { registers = puts _ (held_in lo hi _ held); stack = cells.0; size = cells.1 })
 
 -- whatever fitting answer comes, its cells are as is known
 abbrev pub AnswersStand : Known → List Cell → Value → Request → Type 0
@@ -173,57 +171,33 @@ row_free a context relay s cause setting d e stands q =
 kept : (a : AbsState) (new : Known) (s : State) → Describes a s → new ≡ a.stack → StackDescribes new s.cells × (length s.cells ≡ 512)
 kept a new s d e = (subst (λ (known : Known). StackDescribes known s.cells) (sym e) d.stack, d.size)
 
+-- the cells behind a call: once it is answered, where it asks
+abbrev LeavesCells : Known → State → Effect → Type 0
+LeavesCells known s (Asks request) = IfOk request (AnswersStand known s.cells (value_at s.registers 2))
+LeavesCells known s _ = StackDescribes known s.cells × (length s.cells ≡ 512)
+
+done_goes : (new : AbsState) (lo hi : ℕ) (relay : Relay) (s : State) (e : Effect) → ((cause : Cause) → done relay s e ≡ Trap cause → ⊥) → Puts lo hi new.registers s.registers →
+    ((after : State) → done relay s e ≡ Next after → HoldsResult lo hi after) →
+    ((waiting : State) (request : Request) (words : List ℕ) → done relay s e ≡ Ask request waiting → fits request words ≡ true → HoldsResult lo hi (resumed request words waiting)) →
+    LeavesCells new.stack s e → GoesOn new (s.unit + 1) (done relay s e)
+done_goes new lo hi relay s (Asks request) free puts at_once answered cells = asked_goes new lo hi s request free puts answered cells
+done_goes new lo hi relay s (call.Puts tells choice) free puts at_once answered cells = sent_goes new lo hi relay s (told tells) choice free puts at_once cells
+done_goes new lo hi relay s (Enters entry) free puts at_once answered cells = attempted_goes new lo hi relay s entry free puts at_once cells
+
 -- a call whose arguments are accepted goes on to what is left
 pub called_goes : (helper : Helper) (a new : AbsState) (lo hi : ℕ) (context : List ℕ) (relay : Relay) (s : State) → IsSetting context relay → Describes a s → arguments_reason (arguments_of helper) 1 a.registers ≡ None →
     AcceptsThese helper (arguments_of helper) → Returns helper lo hi → WindowStands helper a new.stack → Puts lo hi new.registers s.registers → GoesOn new (s.unit + 1) (called context relay s (Some helper))
-called_goes BoardGet a new lo hi context relay s setting d e accepts returns stands puts =
-    let cells = kept a new.stack s d stands in
-    asked_goes new lo hi s (given (slot_in s) (λ slot. Ok (Get slot))) (λ cause q. accepts context relay s cause (arguments_fine (arguments_of BoardGet) 1 a.registers s.registers d.registers e) q) puts
-    (λ waiting request words q fit. returns.answered context relay s waiting request words q fit)
-    (given_all (AnswersStand new.stack s.cells (value_at s.registers 2)) (slot_in s) (λ slot. Ok (Get slot)) (λ slot q words fit. cells))
-called_goes BoardSwap a new lo hi context relay s setting d e accepts returns stands puts =
-    let cells = kept a new.stack s d stands in
-    asked_goes new lo hi s (given (slot_in s) (λ slot. given (word_in s 2) (λ value. Ok (Swap slot value)))) (λ cause q. accepts context relay s cause (arguments_fine (arguments_of BoardSwap) 1 a.registers s.registers d.registers e) q) puts
-    (λ waiting request words q fit. returns.answered context relay s waiting request words q fit)
-    (given_all (AnswersStand new.stack s.cells (value_at s.registers 2)) (slot_in s) (λ slot. given (word_in s 2) (λ value. Ok (Swap slot value))) (λ slot q.
-    given_all (AnswersStand new.stack s.cells (value_at s.registers 2)) (word_in s 2) (λ value. Ok (Swap slot value)) (λ value p words fit. cells)))
-called_goes BoardAdd a new lo hi context relay s setting d e accepts returns stands puts =
-    let cells = kept a new.stack s d stands in
-    asked_goes new lo hi s (given (slot_in s) (λ slot. given (word_in s 2) (λ value. Ok (Add slot value)))) (λ cause q. accepts context relay s cause (arguments_fine (arguments_of BoardAdd) 1 a.registers s.registers d.registers e) q) puts
-    (λ waiting request words q fit. returns.answered context relay s waiting request words q fit)
-    (given_all (AnswersStand new.stack s.cells (value_at s.registers 2)) (slot_in s) (λ slot. given (word_in s 2) (λ value. Ok (Add slot value))) (λ slot q.
-    given_all (AnswersStand new.stack s.cells (value_at s.registers 2)) (word_in s 2) (λ value. Ok (Add slot value)) (λ value p words fit. cells)))
-called_goes BoardCas a new lo hi context relay s setting d e accepts returns stands puts =
-    let cells = kept a new.stack s d stands in
-    let P = λ (request : Request). AnswersStand new.stack s.cells (value_at s.registers 2) request in
-    asked_goes new lo hi s (given (slot_in s) (λ slot. given (word_in s 2) (λ expected. given (word_in s 3) (λ after. Ok (Cas slot expected after)))))
-    (λ cause q. accepts context relay s cause (arguments_fine (arguments_of BoardCas) 1 a.registers s.registers d.registers e) q) puts
-    (λ waiting request words q fit. returns.answered context relay s waiting request words q fit)
-    (given_all P (slot_in s) (λ slot. given (word_in s 2) (λ expected. given (word_in s 3) (λ after. Ok (Cas slot expected after)))) (λ slot q.
-    given_all P (word_in s 2) (λ expected. given (word_in s 3) (λ after. Ok (Cas slot expected after))) (λ expected p.
-    given_all P (word_in s 3) (λ after. Ok (Cas slot expected after)) (λ after o words fit. cells))))
 called_goes BoardCopy a new lo hi context relay s setting d e accepts returns stands puts =
     asked_goes new lo hi s (copy_in s)
     (λ cause q. copy_free a new.stack s cause d (arguments_fine (arguments_of BoardCopy) 1 a.registers s.registers d.registers e) stands (asked_trap s (copy_in s) cause q)) puts
     (λ waiting request words q fit. returns.answered context relay s waiting request words q fit)
     (copy_stands a new.stack s d stands)
-called_goes Send a new lo hi context relay s setting d e accepts returns stands puts =
-    sent_goes new lo hi relay s (λ set. 1 - set) (place_in s) (λ cause q. accepts context relay s cause (arguments_fine (arguments_of Send) 1 a.registers s.registers d.registers e) q) puts
-    (λ after q. returns.at_once context relay s after setting.is_relay q) (kept a new.stack s d stands)
 called_goes SendRow a new lo hi context relay s setting d e accepts returns stands puts =
     sent_goes new lo hi relay s (λ set. set) (row_in context s)
     (λ cause q. row_free a context relay s cause setting d (arguments_fine (arguments_of SendRow) 1 a.registers s.registers d.registers e) stands.1 (sent_trap relay s (λ set. set) (row_in context s) cause q)) puts
     (λ after q. returns.at_once context relay s after setting.is_relay q) (kept a new.stack s d stands.0)
-called_goes Sway a new lo hi context relay s setting d e accepts returns stands puts =
-    sent_goes new lo hi relay s (λ set. set) (sway_in s) (λ cause q. accepts context relay s cause (arguments_fine (arguments_of Sway) 1 a.registers s.registers d.registers e) q) puts
-    (λ after q. returns.at_once context relay s after setting.is_relay q) (kept a new.stack s d stands)
-called_goes Honest a new lo hi context relay s setting d e accepts returns stands puts =
-    sent_goes new lo hi relay s (λ set. set) (given (argument s 1 13) (λ receiver. Ok (as_taken context receiver)))
-    (λ cause q. accepts context relay s cause (arguments_fine (arguments_of Honest) 1 a.registers s.registers d.registers e) q) puts
-    (λ after q. returns.at_once context relay s after setting.is_relay q) (kept a new.stack s d stands)
-called_goes SignOrder a new lo hi context relay s setting d e accepts returns stands puts =
-    attempted_goes new lo hi relay s (sign_in s) (λ cause q. accepts context relay s cause (arguments_fine (arguments_of SignOrder) 1 a.registers s.registers d.registers e) q) puts
-    (λ after q. returns.at_once context relay s after setting.is_relay q) (kept a new.stack s d stands)
-called_goes PassOn a new lo hi context relay s setting d e accepts returns stands puts =
-    attempted_goes new lo hi relay s (pass_in s) (λ cause q. accepts context relay s cause (arguments_fine (arguments_of PassOn) 1 a.registers s.registers d.registers e) q) puts
-    (λ after q. returns.at_once context relay s after setting.is_relay q) (kept a new.stack s d stands)
+called_goes helper a new lo hi context relay s setting d e accepts returns stands puts =
+    let cells = kept a new.stack s d stands in
+    done_goes new lo hi relay s (effect context s helper) (λ cause q. accepts context relay s cause (arguments_fine (arguments_of helper) 1 a.registers s.registers d.registers e) q) puts
+    (λ after q. returns.at_once context relay s after setting.is_relay q) (λ waiting request words q fit. returns.answered context relay s waiting request words q fit)
+    (search (given_all, cells))

@@ -8,7 +8,7 @@ use Rattle.semantics.specs.declared.value.Region.TheVariants.{Stack, Context}
 use Rattle.semantics.specs.declared.value.Value.{Value}
 use Rattle.semantics.specs.declared.value.Cell.{Cell}
 use Rattle.semantics.specs.declared.request.Helper.{Helper}
-use Rattle.semantics.specs.declared.request.Helper.TheVariants.{BoardGet, BoardSwap, BoardAdd, BoardCas, BoardCopy, Send, SendRow, Sway, Honest, SignOrder, PassOn}
+use Rattle.semantics.specs.declared.request.Helper.TheVariants.{BoardCopy, SendRow}
 use Rattle.semantics.specs.Relay.{IsSetting, Relay}
 use Rattle.semantics.specs.State.{State}
 use Rattle.semantics.specs.Memory.{overwritten, room_of}
@@ -71,17 +71,8 @@ behind_well p known le small all = (within_set p le small, (tt, (tt, (tt, (tt, (
 
 -- results are words
 results_fit : (helper : Helper) → ((returned_range helper).0 ≤ (returned_range helper).1) × ((returned_range helper).1 < 2 ^ 64)
-results_fit BoardGet = (omega arith, omega arith)
-results_fit BoardSwap = (omega arith, omega arith)
-results_fit BoardAdd = (omega arith, omega arith)
-results_fit BoardCas = (omega arith, omega arith)
 results_fit BoardCopy = (omega arith, omega arith)
-results_fit Send = (omega arith, omega arith)
-results_fit SendRow = (omega arith, omega arith)
-results_fit Sway = (omega arith, omega arith)
-results_fit Honest = (omega arith, omega arith)
-results_fit SignOrder = (omega arith, omega arith)
-results_fit PassOn = (omega arith, omega arith)
+results_fit helper = (omega arith, omega arith)
 
 -- ---- words that are copied
 
@@ -175,15 +166,7 @@ windows_stand BoardCopy a flags e f =
 windows_stand SendRow a flags e f =
     let known = row_arguments a.registers e in
     (refl, row_stands (known_at a.registers 2) (known_at a.registers 3) a.stack known.0 known.1 f)
-windows_stand BoardGet a flags e f = refl
-windows_stand BoardSwap a flags e f = refl
-windows_stand BoardAdd a flags e f = refl
-windows_stand BoardCas a flags e f = refl
-windows_stand Send a flags e f = refl
-windows_stand Sway a flags e f = refl
-windows_stand Honest a flags e f = refl
-windows_stand SignOrder a flags e f = refl
-windows_stand PassOn a flags e f = refl
+windows_stand helper a flags e f = refl
 
 pub call_goes : (o : Option Helper) (a : AbsState) (context : List ℕ) (relay : Relay) (s : State) → IsSetting context relay → Describes a s → length a.stack.bytes ≡ 512 → helper_reason o a ≡ None →
     GoesOn (called o a) (s.unit + 1) (semantics.called context relay s o)

@@ -8,6 +8,13 @@ use std::alloc::{AllocError, Global};
 use std::fs;
 use std::rt::Files;
 
+/// A program in assembly, by its name.
+#[derive(Drop)]
+struct Program {
+    name: String,
+    text: String,
+}
+
 /// Answers each beginning of the programs in these files, and each program with one byte changed in one of three ways.
 pub fn report<R: Print + Files + AllocGlobal>(rt: &R, files: &[String]) -> Result<()> {
     for file in files {
@@ -16,24 +23,63 @@ pub fn report<R: Print + Files + AllocGlobal>(rt: &R, files: &[String]) -> Resul
     Ok(())
 }
 
-/// The same of one file.
+/// The same of one file, which is bytecode, or assembly of one program or more.
 fn report_file<R: Print + Files + AllocGlobal>(rt: &R, file: &str) -> Result<()> {
-    let bytes = bytecode(rt, file)?;
-    let length = bytes.len();
-    if !are_answered(rt.alloc(), bytes.as_slice())? {
-        bail!("{file} is not answered as it should be");
+    if file.ends_with(".asm") {
+        let text = fs::read_to_string(rt, file)?;
+        let programs = programs(rt.alloc(), text.as_str())?;
+        let number = programs.len();
+        answer_all(rt.alloc(), programs.as_slice())?;
+        println!(rt; "{file}, {number} programs: each beginning and each change answered")?;
+        return Ok(());
     }
+    let bytes = fs::read(rt, file)?;
+    let length = bytes.len();
+    answer(rt.alloc(), file, bytes.as_slice())?;
     println!(rt; "{file}, {length} bytes: each beginning and each change answered")?;
     Ok(())
 }
 
-/// The bytecode that a file has, or that its assembly says.
-fn bytecode<R: Files + AllocGlobal>(rt: &R, file: &str) -> Result<Vec<u8>> {
-    if !file.ends_with(".asm") {
-        return Ok(fs::read(rt, file)?);
+/// Answers what comes of each program.
+fn answer_all(alloc: Global, programs: &[Program]) -> Result<()> {
+    for program in programs {
+        let bytes = assembled(alloc, program.text.as_str())?;
+        answer(alloc, program.name.as_str(), bytes.as_slice())?;
     }
-    let text = fs::read_to_string(rt, file)?;
-    assembled(rt.alloc(), text.as_str())
+    Ok(())
+}
+
+/// The programs of a text: each begins behind a line of two semicolons and its name.
+fn programs(alloc: Global, text: &str) -> Result<Vec<Program>> {
+    let mut programs = Vec::new(alloc);
+    for line in text.lines() {
+        match line.strip_prefix(";; ") {
+            Some(name) => programs.push(Program {
+                name: String::from_str(alloc, name)?,
+                text: String::new(alloc),
+            })?,
+            None => add_line(&mut programs, line)?,
+        }
+    }
+    Ok(programs)
+}
+
+/// Adds a line to the last program.
+fn add_line(programs: &mut Vec<Program>, line: &str) -> Result<()> {
+    let Some(program) = programs.last_mut() else {
+        bail!("a line stands before the first program");
+    };
+    program.text.push_str(line)?;
+    program.text.push('\n')?;
+    Ok(())
+}
+
+/// Answers what comes of the program of this name.
+fn answer(alloc: Global, name: &str, bytes: &[u8]) -> Result<()> {
+    if !are_answered(alloc, bytes)? {
+        bail!("{name} is not answered as it should be");
+    }
+    Ok(())
 }
 
 /// The bytecode that assembly says.

@@ -6,5 +6,5 @@ use Rattle.campaign_page.proofs.sections.put_each_lieutenant.Goals as goal
 
 pub loop-general-preserved : goal.loop-general-preserved
 loop-general-preserved g c =
-    let piece = lieutenant_part c.args.lists (g.H.Heard.seen c.args.table.now) c.args.traitors.now c.args.view in
+    let piece = lieutenant_part (g.H.Heard.seen c.args.table.now) c.args.traitors.now c.args.view in
     c.in_ok-put_lieutenant_of.ensures ∙ (ap (λ xs. xs ++ piece c.loop-general.general) c.loop-general.invariant ∙ range_text piece c.loop-general.general (string_bytes c.args.out.now))

@@ -1,3 +1,0 @@
-; Exits with 42.
-mov r0, 42
-exit

@@ -1,4 +1,0 @@
-; Eight bytes from -8 on end at 0.
-        std [r10-8], 6
-        ldd r0, [r10-8]
-        exit

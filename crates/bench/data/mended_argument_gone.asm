@@ -1,6 +1,0 @@
-; r6 to r9 stay over a call.
-        mov r6, 5
-        mov r1, r6
-        call board_get
-        mov r0, r6
-        exit

@@ -1,8 +1,0 @@
-; Five words from 59 on end at word 63.
-        mov r1, 59
-        mov r2, r10
-        add r2, -40
-        mov r3, 5
-        call board_copy
-        ldd r0, [r10-40]
-        exit

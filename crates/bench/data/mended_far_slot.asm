@@ -1,4 +1,0 @@
-; The last word of the board.
-        mov r1, 63
-        call board_get
-        exit

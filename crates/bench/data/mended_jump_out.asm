@@ -1,4 +1,0 @@
-; The jump leads to the exit, by its name.
-        mov r0, 0
-        jeq r0, 0, out
-out:    exit

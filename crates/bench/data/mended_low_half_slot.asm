@@ -1,7 +1,0 @@
-; All 64 bits are tested.
-        ldd r2, [r1+32]
-        mov r0, 0
-        jgt r2, 63, out
-        mov r1, r2
-        call board_get
-out:    exit

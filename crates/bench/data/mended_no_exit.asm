@@ -1,3 +1,0 @@
-; The exit is the last instruction.
-        mov r0, 0
-        exit

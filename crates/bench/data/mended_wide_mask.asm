@@ -1,9 +1,0 @@
-; The mask leaves 0 to 7.
-        ldd r2, [r1+32]
-        and r2, 7
-        mov r3, r10
-        add r3, -8
-        add r3, r2
-        stb [r3+0], 1
-        mov r0, 0
-        exit

@@ -1,9 +1,0 @@
-; A test that cannot hold: r2 is 0 or 8, so the empty cell is never read.
-        ldd r2, [r1+32]
-        and r2, 8
-        xor r2, 8
-        mov r0, 0
-        jgt r2, 8, never
-        exit
-never:  ldd r0, [r10-8]
-        exit

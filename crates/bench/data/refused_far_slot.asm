@@ -1,4 +1,0 @@
-; V12: the board has the words 0 to 63.
-        mov r1, 64
-        call board_get
-        exit

@@ -1,4 +1,0 @@
-; V2: a jump past the end.
-        mov r0, 0
-        jeq r0, 0, +1
-        exit

@@ -1,2 +1,0 @@
-; V4: the last instruction is not the exit.
-        mov r0, 0

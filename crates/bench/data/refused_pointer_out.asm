@@ -1,3 +1,0 @@
-; V13: the program ends with a pointer in r0.
-        mov r0, r1
-        exit

@@ -1,0 +1,10 @@
+use Rattle.std.proofs.Common.{[]}
+use Rattle.codec.specs.declared.form.Form.TheVariants as forms
+use Rattle.codec.specs.Reading.{checks_of}
+use Rattle.codec.proofs.DecodingLemmas.{handed_on}
+use Rattle.codec.proofs.jump.branch_immediate.Goals as goal
+
+pub returns-in_err-dst-clause-fault : goal.returns-in_err-dst-clause-fault
+returns-in_err-dst-clause-fault c = λ behind.
+    handed_on c.from_residual.result c.in_err-dst.field-0.0 (checks_of (forms.BranchImmediate c.args.width c.args.condition) c.args.fields behind)
+    c.from_residual.ensures.1 (c.in_err-dst.ensures.fault [])
