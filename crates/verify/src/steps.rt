@@ -6,8 +6,7 @@ ghost use Rattle.absval.specs.Table.{moved, combined};
 ghost use Rattle.verify.specs.Registers.{known_at, operand_known};
 ghost use Rattle.verify.specs.Reasons.{first_reason, is_unset, made_checks, write_checks, compare_checks, exit_checks, unless, outcome};
 ghost use Rattle.verify.specs.Instructions.{IsStraight};
-ghost use Rattle.verify.specs.MemoryTable.{unset_or, store_refused};
-ghost use Rattle.verify.specs.Transfer.{assigned, stepped, stored};
+ghost use Rattle.verify.specs.Transfer.{assigned, stepped};
 
 use crate::comparison::Comparison;
 use crate::reason::Reason;
@@ -272,36 +271,8 @@ fn store(
 ) -> Result<(), Reason>
     ensures { outcome result state.new ≡ stepped (Insn.Store size base offset source) state.old }
 {
-    match source {
-        Operand::Immediate(number) => store_value(
-            state,
-            size,
-            base,
-            offset,
-            absval::immediate(number),
-        ),
-        Operand::Register(src) => {
-            let value = registers::read(&state.registers, src);
-            store_value(state, size, base, offset, value)
-        }
-    }
-}
-
-/// A store of a value.
-#[inline(always)]
-fn store_value(
-    state: &mut AbsState,
-    size: Size,
-    base: Reg,
-    offset: i16,
-    value: AbsVal,
-) -> Result<(), Reason>
-    ensures { let pointer = known_at state.old.registers base in
-        outcome result state.new
-        ≡ unless (unset_or pointer (unset_or value (store_refused size pointer offset value)))
-        (record state.old { stack = stored size pointer offset value state.old.stack }) }
-{
     let pointer = registers::read(&state.registers, base);
+    let value = registers::operand(&state.registers, source);
     check_set(&pointer)?;
     check_set(&value)?;
     memory::store(&mut state.stack, size, pointer, offset, value)
