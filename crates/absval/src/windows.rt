@@ -90,6 +90,24 @@ pub fn window_of(region: Region, offsets: Offsets, distance: i16, size: usize) -
     window_between(region, offsets.low, offsets.high, distance, size)
 }
 
+/// The same, at one offset.
+fn window_at(region: Region, offset: i32, distance: i16, size: usize) -> Option<Window>
+    requires { size ≤ 4096 }
+    ensures exact { result ≡ window_known region offset offset distance size }
+    ensures fits { IfSome result (λ w. w.place + w.size ≤ room_of region) }
+    ensures holds { IfSome result (λ w. (o : ℤ) → offset ≤ℤ o → o ≤ℤ offset →
+        LiesIn w.place w.size size (window_at region (o +ℤ distance) size)) }
+    ensures least { IfSome result (λ w. pos w.place ≡ (offset +ℤ distance) +ℤ pos (base_of region)) }
+    ensures greatest { IfSome result
+        (λ w. pos (w.place + w.size) ≡ ((offset +ℤ distance) +ℤ pos (base_of region)) +ℤ pos size) }
+{
+    let place = place_at(region, offset, distance)?;
+    if place + size > room(region) {
+        return None;
+    }
+    Some(Window { place, size })
+}
+
 /// The same, from the least offset to the greatest.
 fn window_between(region: Region, low: i32, high: i32, distance: i16, size: usize) -> Option<Window>
     requires { size ≤ 4096 }
@@ -101,6 +119,9 @@ fn window_between(region: Region, low: i32, high: i32, distance: i16, size: usiz
     ensures greatest { IfSome result
         (λ w. pos (w.place + w.size) ≡ ((high +ℤ distance) +ℤ pos (base_of region)) +ℤ pos size) }
 {
+    if low == high {
+        return window_at(region, low, distance, size);
+    }
     let first = place_at(region, low, distance)?;
     let last = place_at(region, high, distance)?;
     if last < first || last + size > room(region) {
