@@ -34,8 +34,25 @@ impl CellSet {
         CellSet { words: [0; 8] }
     }
 
-    /// The cells of the window are taken in or out.
+    /// The cells of the window are taken in or out. Most windows lie in one word.
     pub(crate) fn set(&mut self, place: usize, end: usize, value: bool)
+        requires ordered { place ≤ end }
+        requires within { end ≤ 512 }
+        ensures size { length self.new ≡ 512 }
+        ensures window { IsSetTo value self.old self.new place end }
+    {
+        let number = place / 64;
+        if mask::is_in_word(number, end) {
+            let mask = mask::in_word(number, place, end);
+            self.words[number] = mask::put(self.words[number], mask, value);
+            return;
+        }
+        self.set_across(place, end, value);
+    }
+
+    /// The same, word by word.
+    #[inline(never)]
+    fn set_across(&mut self, place: usize, end: usize, value: bool)
         requires ordered { place ≤ end }
         requires within { end ≤ 512 }
         ensures size { length self.new ≡ 512 }
@@ -47,8 +64,22 @@ impl CellSet {
         }
     }
 
-    /// Whether each cell of the window belongs to the set.
+    /// Whether each cell of the window belongs to the set. Most windows lie in one word.
     pub(crate) fn has(&self, place: usize, end: usize) -> bool
+        requires ordered { place ≤ end }
+        requires within { end ≤ 512 }
+        ensures { IsTrue result ↔ ((k : ℕ) → place ≤ k → k < end → byte_at self.now k ≡ true) }
+    {
+        let number = place / 64;
+        if mask::is_in_word(number, end) {
+            return mask::has(self.words[number], mask::in_word(number, place, end));
+        }
+        self.has_across(place, end)
+    }
+
+    /// The same, word by word.
+    #[inline(never)]
+    fn has_across(&self, place: usize, end: usize) -> bool
         requires ordered { place ≤ end }
         requires within { end ≤ 512 }
         ensures { IsTrue result ↔ ((k : ℕ) → place ≤ k → k < end → byte_at self.now k ≡ true) }

@@ -27,6 +27,24 @@ pub(crate) fn window(number: usize, place: usize, end: usize) -> u64
     lowest(to) - lowest(from)
 }
 
+/// Whether a window ends in the word of this number, and not at its beginning.
+pub(crate) fn is_in_word(number: usize, end: usize) -> bool
+    requires { number ≤ 8 }
+    ensures { IsTrue result ↔ ((64 * number < end) × (end ≤ 64 * number + 64)) }
+{
+    end > 64 * number && end - 64 * number <= 64
+}
+
+/// The bits that stand for the cells of the window, of which each lies in the word of this number.
+pub(crate) fn in_word(number: usize, place: usize, end: usize) -> u64
+    requires ordered { place ≤ end }
+    requires begins { place / 64 ≡ number }
+    requires ends { end ≤ 64 * number + 64 }
+    ensures { result ≡ 2 ^ min (end - 64 * number) 64 - 2 ^ (place - 64 * number) }
+{
+    lowest(end - 64 * number) - ((1 << (place % 64)) - 1)
+}
+
 /// The word with the bits of the mask set or cleared, and its other bits.
 pub(crate) fn put(word: u64, mask: u64, value: bool) -> u64
     ensures { (i : ℕ) → i < 64 →

@@ -18,6 +18,19 @@ pub(crate) fn clear(spills: &mut Blocks, place: usize, end: usize)
     if spills.is_free() {
         return;
     }
+    clear_each(spills, place, end);
+}
+
+/// The same, block by block.
+#[inline(never)]
+fn clear_each(spills: &mut Blocks, place: usize, end: usize)
+    requires long { length spills.old ≡ 64 }
+    requires ordered { place ≤ end }
+    requires within { end ≤ 512 }
+    requires filed { (b : ℕ) → b < 64 → IsFiled b (spill_at spills.old b) }
+    ensures size { length spills.new ≡ 64 }
+    ensures each { (b : ℕ) → b < 64 → spill_at spills.new b ≡ left_of place end b (spill_at spills.old b) }
+{
     let first = place.saturating_sub(7) / 8;
     let last = (end + 7) / 8;
     for b in first..last {

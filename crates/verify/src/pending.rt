@@ -3,6 +3,7 @@ ghost use Rattle.std.specs.Prelude.{◌≡◌, ◌<◌, Some, None, [], length, 
 ghost use Rattle.verify.specs.Judgement.{KnownSoFar, reached_at, along, joined_with};
 ghost use Rattle.verify.specs.Kept.{unboxed, AtHand};
 
+use crate::registers;
 use crate::state::AbsState;
 use std::alloc::{AllocError, Global};
 use std::marker::Model;
@@ -128,7 +129,8 @@ pub fn come(pending: &mut Pending, unit: usize, state: Box<AbsState>) -> Box<Abs
     meet(pending, unit, state)
 }
 
-/// The same state once more, in the box that no unit needs any more, else in a new one.
+/// The same state once more, in the box that no unit needs any more, else in a new one, in which that of the entry
+/// stands at first: of that the least is written.
 pub fn second(
     alloc: Global,
     pending: &mut Pending,
@@ -137,8 +139,9 @@ pub fn second(
     ensures value { IfOk result (λ b. b.value ≡ state.now) }
     ensures rest { pending.new.items ≡ pending.old.items }
 {
-    let Some(mut spare) = pending.spare.take() else {
-        return boxed(alloc, state.copy());
+    let mut spare = match pending.spare.take() {
+        Some(spare) => spare,
+        None => boxed(alloc, registers::at_entry())?,
     };
     spare.assign(state);
     Ok(spare)

@@ -1,33 +1,20 @@
-use Rattle.std.proofs.Common.{◌≡◌, ◌<◌, ℕ, List, Bool, refl, subst, sym, arith}
-use Rattle.std.proofs.lemmas.Bool.{true≢false}
+use Rattle.std.proofs.Common.{◌≡◌, ◌+◌, ◌*◌, ◌/◌, ◌<◌, ℕ, List, Bool, refl, subst, sym, arith}
+use Rattle.std.specs.Prelude.{min}
 use Rattle.std.specs.Int.{bit_at}
 use Rattle.absmem.specs.Members.{word_at}
 use Rattle.absmem.proofs.Members.{HasCells, has_none, has_more, has_here}
 use Rattle.absmem.proofs.cell_set.CellSet.has.Goals as goal
 
-pub loop-number-init : goal.loop-number-init
-loop-number-init c = has_none c.self.inside.words c.args.place c.args.end
-
-pub returns-then-not-has : goal.returns-then-not-has
-returns-then-not-has c =
+pub returns-then-is_in_word : goal.returns-then-is_in_word
+returns-then-is_in_word c =
     let words = c.self.inside.words in
-    let number = c.loop-number.number in
-    let lt : c.loop-number.number < 8 = omega arith in (
-      λ none. absurd (true≢false (sym none)),
-      λ all. c.if-not-has.ensures.1 (subst (λ (mask : ℕ). (i : ℕ) → i < 64 → bit_at mask i ≡ 1 → bit_at (word_at words number) i ≡ 1) (sym c.window.ensures)
-          (has_here words number c.args.place c.args.end lt (subst (λ (flags : List Bool). HasCells flags c.args.place c.args.end) (sym c.self.view_is) all))),
+    let fits = c.if-is_in_word.ensures.0 refl in
+    let lt : c.args.place / 64 < 8 = omega (arith, fits.0) in
+    let whole : min c.args.end (64 * (c.args.place / 64 + 1)) ≡ c.args.end = omega (arith, fits.1) in (
+      λ yes. subst (λ (flags : List Bool). HasCells flags c.args.place c.args.end) c.self.view_is
+          (λ k le less. has_more words (c.args.place / 64) c.args.place c.args.end lt
+          (subst (λ (mask : ℕ). (i : ℕ) → i < 64 → bit_at mask i ≡ 1 → bit_at (word_at words (c.args.place / 64)) i ≡ 1) c.in_word.ensures (c.has.ensures.0 yes))
+          (has_none words c.args.place c.args.end) k le (omega (arith, whole))),
+      λ all. c.has.ensures.1 (subst (λ (mask : ℕ). (i : ℕ) → i < 64 → bit_at mask i ≡ 1 → bit_at (word_at words (c.args.place / 64)) i ≡ 1) (sym c.in_word.ensures)
+          (has_here words (c.args.place / 64) c.args.place c.args.end lt (subst (λ (flags : List Bool). HasCells flags c.args.place c.args.end) (sym c.self.view_is) all))),
     )
-
-pub loop-number-preserved : goal.loop-number-preserved
-loop-number-preserved c =
-    let words = c.self.inside.words in
-    let number = c.loop-number.number in
-    let lt : c.loop-number.number < 8 = omega arith in
-    has_more words number c.args.place c.args.end lt
-    (subst (λ (mask : ℕ). (i : ℕ) → i < 64 → bit_at mask i ≡ 1 → bit_at (word_at words number) i ≡ 1) c.window.ensures (c.if-not-has.ensures.0 refl)) c.loop-number.invariant
-
-pub returns : goal.returns
-returns c = (
-  λ yes. subst (λ (flags : List Bool). HasCells flags c.args.place c.args.end) c.self.view_is (λ k le lt. c.loop-number.invariant k le (omega arith)),
-  λ all. refl,
-)

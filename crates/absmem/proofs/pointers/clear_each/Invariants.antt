@@ -1,7 +1,7 @@
 use Rattle.std.proofs.Common.{◌≡◌, ◌<◌, ◌≤◌, ℕ, length, List}
 use Rattle.absmem.specs.declared.spill.Spill.{Spill}
 use Rattle.absmem.specs.Known.{spill_at, left_of}
-use Rattle.absmem.proofs.pointers.clear.Given as goal
+use Rattle.absmem.proofs.pointers.clear_each.Given as goal
 
 pub record Cleared (old new : List Spill) (place end first b : ℕ) : Type 0 where
   pub size : length new ≡ 64
