@@ -1,6 +1,6 @@
 -- Where calls go on.
 use Rattle.std.proofs.Common.{◌≡◌, ◌∙◌, ℕ, ◌+◌, ◌*◌, ◌≤◌, List, Option, None, Some, Bool, true, false, refl, sym, ap, subst, length, replicate}
-use Rattle.std.specs.Prelude.{Result, Ok, Err, pos, IsOk, IfOk, nat_le, if◌then◌else◌, ◌==◌, nat_lt, ◌^◌, ◌-◌}
+use Rattle.std.specs.Prelude.{Result, Ok, Err, pos, IsOk, IfOk, nat_le, if◌then◌else◌, ◌==◌, nat_lt, ◌^◌}
 use Rattle.std.specs.List.{list_all}
 use Rattle.std.proofs.lemmas.Bool.{and_parts, eqb-true, le-leb}
 use Rattle.std.proofs.lemmas.List.{length-replicate}
