@@ -10,7 +10,7 @@ use Rattle.codec.specs.declared.form.Form.{Form}
 use Rattle.codec.specs.Spelling.{spelling, instruction_bytes}
 use Rattle.codec.specs.Form.{form_of}
 use Rattle.codec.proofs.FrontLemmas.{insn_written, length-spelling}
-use Rattle.codec.specs.Reading.{fields_of, checks_of, first_fault, fault_in, AreUnits}
+use Rattle.codec.specs.Reading.{fields_of, checks_of, first_fault, fault_in, fault_at, AreUnits}
 
 -- no more units than fit
 units_inside : (fs : List Fields) (f : Fields) (behind : List ℕ) → AreUnits fs f behind → 8 * length fs ≤ 8 + length behind
@@ -27,42 +27,58 @@ IsPut o r place = MatchResult o (λ n. (r ≡ Ok place) × (n ≡ units_of place
 abbrev pub IsMeant : Result ℕ Fault → Insn → Fields → List ℕ → Type 0
 IsMeant o place f behind = IfOk o (λ n. (n ≡ units_of place) × IsInsn place × AreUnits (spelling place) f behind)
 
--- an instruction of one unit
-pub one_unit : (o : Result ℕ Fault) (r : Result Insn Fault) (place : Insn) (f : Fields) (behind : List ℕ) → IsPut o r place → IfOk r (λ i. IsInsn i × (spelling i ≡ f ∷ [])) → IsMeant o place f behind
-one_unit (Ok n) r place f behind put s =
+meant_once : (o : Result ℕ Fault) (r : Result Insn Fault) (place : Insn) (f : Fields) (behind : List ℕ) → IsPut o r place → IfOk r (λ i. IsInsn i × (spelling i ≡ f ∷ [])) → IsMeant o place f behind
+meant_once (Ok n) r place f behind put s =
     let t : IsInsn place × (spelling place ≡ f ∷ []) = subst (λ (x : Result Insn Fault). IfOk x (λ i. IsInsn i × (spelling i ≡ f ∷ []))) put.0 s in
     (put.1, t.0, subst (λ (us : List Fields). AreUnits us f behind) (sym t.1) refl)
-one_unit (Err e) r place f behind put s = tt
+meant_once (Err e) r place f behind put s = tt
 
--- the wide instruction
-pub two_units : (o : Result ℕ Fault) (r : Result Insn Fault) (place : Insn) (f : Fields) (behind : List ℕ) → IsPut o r place →
+meant_wide : (o : Result ℕ Fault) (r : Result Insn Fault) (place : Insn) (f : Fields) (behind : List ℕ) → IsPut o r place →
     IfOk r (λ i. IsInsn i × (8 ≤ length behind) × (spelling i ≡ f ∷ fields_of behind ∷ [])) → IsMeant o place f behind
-two_units (Ok n) r place f behind put s =
+meant_wide (Ok n) r place f behind put s =
     let t : IsInsn place × (8 ≤ length behind) × (spelling place ≡ f ∷ fields_of behind ∷ []) =
     subst (λ (x : Result Insn Fault). IfOk x (λ i. IsInsn i × (8 ≤ length behind) × (spelling i ≡ f ∷ fields_of behind ∷ []))) put.0 s in
     (put.1, t.0, subst (λ (us : List Fields). AreUnits us f behind) (sym t.2) (refl, t.1, refl))
-two_units (Err e) r place f behind put s = tt
+meant_wide (Err e) r place f behind put s = tt
+
+-- an instruction of one unit
+pub one_unit : (o : Result ℕ Fault) (r : Result Insn Fault) (place : Insn) (f : Fields) (bytes : List ℕ) → f ≡ fields_of bytes → IsPut o r place → IfOk r (λ i. IsInsn i × (spelling i ≡ f ∷ [])) →
+    IsMeant o place (fields_of bytes) (drop 8 bytes)
+one_unit o r place f bytes are put s =
+    subst (λ (g : Fields). IsMeant o place g (drop 8 bytes)) are (meant_once o r place f (drop 8 bytes) put s)
+
+-- the wide instruction
+pub two_units : (o : Result ℕ Fault) (r : Result Insn Fault) (place : Insn) (f : Fields) (tail bytes : List ℕ) → f ≡ fields_of bytes → tail ≡ drop 8 bytes → IsPut o r place →
+    IfOk r (λ i. IsInsn i × (8 ≤ length tail) × (spelling i ≡ f ∷ fields_of tail ∷ [])) → IsMeant o place (fields_of bytes) (drop 8 bytes)
+two_units o r place f tail bytes are behind put s =
+    subst (λ (t : List ℕ). IsMeant o place (fields_of bytes) t) behind (subst (λ (g : Fields). IsMeant o place g tail) are (meant_wide o r place f tail put s))
+
+same_form : (form : Form) (o : Result ℕ Fault) (r : Result Insn Fault) (place : Insn) (f : Fields) (behind : List ℕ) → form_of f.opcode ≡ form → IsPut o r place →
+    IfErr r (λ e. first_fault (checks_of form f behind) ≡ Some e) → IfErr o (λ e. fault_in f behind ≡ Some e)
+same_form form (Ok n) r place f behind same put found = tt
+same_form form (Err e) r place f behind same put found =
+    let t : first_fault (checks_of form f behind) ≡ Some e = subst (λ (x : Result Insn Fault). IfErr x (λ y. first_fault (checks_of form f behind) ≡ Some y)) put found in
+    subst (λ (g : Form). first_fault (checks_of g f behind) ≡ Some e) (sym same) t
 
 -- the checks are those of the opcode's form
-pub form_fault : (form given : Form) (o : Result ℕ Fault) (r : Result Insn Fault) (place : Insn) (f : Fields) (behind : List ℕ) → given ≡ form → given ≡ form_of f.opcode → IsPut o r place →
-    IfErr r (λ e. first_fault (checks_of form f behind) ≡ Some e) → IfErr o (λ e. fault_in f behind ≡ Some e)
-form_fault form given (Ok n) r place f behind is same put found = tt
-form_fault form given (Err e) r place f behind is same put found =
-    let t : first_fault (checks_of form f behind) ≡ Some e = subst (λ (x : Result Insn Fault). IfErr x (λ y. first_fault (checks_of form f behind) ≡ Some y)) put found in
-    subst (λ (g : Form). first_fault (checks_of g f behind) ≡ Some e) (sym is ∙ same) t
+pub form_fault : (form given : Form) (o : Result ℕ Fault) (r : Result Insn Fault) (place : Insn) (first f : Fields) (tail bytes : List ℕ) → given ≡ form → given ≡ form_of first.opcode →
+    first ≡ fields_of bytes → f ≡ fields_of bytes → tail ≡ drop 8 bytes → IsPut o r place → IfErr r (λ e. first_fault (checks_of form f tail) ≡ Some e) → IfErr o (λ e. fault_at bytes ≡ Some e)
+form_fault form given o r place first f tail bytes is same begins are behind put found =
+    let here : form_of (fields_of bytes).opcode ≡ form = ap (λ g. form_of g.opcode) (sym begins) ∙ (sym same ∙ is) in
+    let checked : IfErr r (λ e. first_fault (checks_of form (fields_of bytes) tail) ≡ Some e) = subst (λ (g : Fields). IfErr r (λ e. first_fault (checks_of form g tail) ≡ Some e)) are found in
+    same_form form o r place (fields_of bytes) (drop 8 bytes) here put (subst (λ (t : List ℕ). IfErr r (λ e. first_fault (checks_of form (fields_of bytes) t) ≡ Some e)) behind checked)
 
 -- what the meaning's units say of the bytes
-pub all_written : (o : Result ℕ Fault) (place : Insn) (bytes tail : List ℕ) (f : Fields) → 8 ≤ length bytes → ((k : ℕ) → get_or bytes k 0 < 256) → f ≡ fields_of bytes → tail ≡ drop 8 bytes → IsMeant o place f tail →
+pub all_written : (o : Result ℕ Fault) (place : Insn) (bytes : List ℕ) → 8 ≤ length bytes → ((k : ℕ) → get_or bytes k 0 < 256) → IsMeant o place (fields_of bytes) (drop 8 bytes) →
     IfOk o (λ _. take (8 * units_of place) bytes ≡ instruction_bytes place)
-all_written (Ok n) place bytes tail f long small same behind meant =
-    insn_written place bytes long small (subst (λ (t : List ℕ). AreUnits (spelling place) (fields_of bytes) t) behind (subst (λ (g : Fields). AreUnits (spelling place) g tail) same meant.2))
-all_written (Err e) place bytes tail f long small same behind meant = tt
+all_written (Ok n) place bytes long small meant = insn_written place bytes long small meant.2
+all_written (Err e) place bytes long small meant = tt
 
 -- and of how many there are
-pub all_inside : (o : Result ℕ Fault) (place : Insn) (bytes tail : List ℕ) (f : Fields) → 8 ≤ length bytes → tail ≡ drop 8 bytes → IsMeant o place f tail → IfOk o (λ _. 8 * units_of place ≤ length bytes)
-all_inside (Ok n) place bytes tail f long behind meant =
-    omega (arith, units_inside (spelling place) f tail meant.2, length-spelling place, ap length behind, length-drop 8 bytes)
-all_inside (Err e) place bytes tail f long behind meant = tt
+pub all_inside : (o : Result ℕ Fault) (place : Insn) (bytes : List ℕ) → 8 ≤ length bytes → IsMeant o place (fields_of bytes) (drop 8 bytes) → IfOk o (λ _. 8 * units_of place ≤ length bytes)
+all_inside (Ok n) place bytes long meant =
+    omega (arith, units_inside (spelling place) (fields_of bytes) (drop 8 bytes) meant.2, length-spelling place, length-drop 8 bytes)
+all_inside (Err e) place bytes long meant = tt
 
 -- a fault that is handed on is the first of the checks
 pub handed_on : (r : Result Insn Fault) (e : Fault) (checks : List (Bool × Fault)) → IsErrAnd r (λ f. f ≡ e) → first_fault checks ≡ Some e → IfErr r (λ f. first_fault checks ≡ Some f)

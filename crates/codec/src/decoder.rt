@@ -3,11 +3,11 @@ ghost use Rattle.insn.specs.declared.insn.Insn.{Insn as InsnValue};
 ghost use Rattle.insn.specs.Insn.{IsInsn, units_of};
 ghost use Rattle.insn.specs.Program.{slots_of};
 ghost use Rattle.codec.specs.Spelling.{spelling, instruction_bytes};
-ghost use Rattle.codec.specs.Reading.{fault_at, fault_in, AreUnits};
+ghost use Rattle.codec.specs.Reading.{fields_of, fault_at, AreUnits};
 ghost use Rattle.codec.specs.Program.{SpellsProgram, IsFirstFault, IsAnswered};
 
 use crate::fault::{CodecError, Fault};
-use crate::fields::{Fields, read_fields};
+use crate::fields::read_fields;
 use crate::form::{Form, form_at};
 use crate::{arithmetic, jump, memory};
 use insn::{Insn, Operand, Program, Reg};
@@ -29,51 +29,58 @@ fn put(place: &mut Insn, read: Result<Insn, Fault>) -> Result<u16, Fault>
     }
 }
 
-/// Puts the instruction that the fields and what stands behind them begin with into the place, and gives how many units
-/// it takes.
+/// Puts the instruction that the bytes begin with into the place, and gives how many units it takes. The fields are read
+/// in each case, so that none is read where it is not used.
 #[inline(always)]
-fn meaning(place: &mut Insn, fields: Fields, behind: &[u8]) -> Result<u16, Fault>
+fn meaning(place: &mut Insn, bytes: &[u8]) -> Result<u16, Fault>
+    requires { 8 ≤ length bytes.now }
     ensures found { IfOk result (λ n. (n ≡ units_of place.new)
-        × IsInsn place.new × AreUnits (spelling place.new) fields behind.now) }
-    ensures fault { IfErr result (λ e. fault_in fields behind.now ≡ Some e) }
+        × IsInsn place.new × AreUnits (spelling place.new) (fields_of bytes.now) (drop 8 bytes.now)) }
+    ensures fault { IfErr result (λ e. fault_at bytes.now ≡ Some e) }
 {
-    match form_at(fields.opcode) {
+    match *form_at(read_fields(bytes).opcode) {
         Form::Immediate(width, operation) => put(
             place,
-            arithmetic::immediate(width, operation, fields),
+            arithmetic::immediate(width, operation, read_fields(bytes)),
         ),
         Form::Register(width, operation) => put(
             place,
-            arithmetic::register(width, operation, fields),
+            arithmetic::register(width, operation, read_fields(bytes)),
         ),
         Form::DivideImmediate(width, division) => put(
             place,
-            arithmetic::divide_immediate(width, division, fields),
+            arithmetic::divide_immediate(width, division, read_fields(bytes)),
         ),
         Form::DivideRegister(width, division) => put(
             place,
-            arithmetic::divide_register(width, division, fields),
+            arithmetic::divide_register(width, division, read_fields(bytes)),
         ),
-        Form::MoveRegister(width) => put(place, arithmetic::move_register(width, fields)),
-        Form::Negate(width) => put(place, arithmetic::negate(width, fields)),
-        Form::Swap(order) => put(place, arithmetic::swap(order, fields)),
-        Form::LoadImmediate => put(place, memory::load_immediate(fields, behind)),
-        Form::Jump => put(place, jump::near(fields)),
-        Form::LongJump => put(place, jump::long(fields)),
+        Form::MoveRegister(width) => put(
+            place,
+            arithmetic::move_register(width, read_fields(bytes)),
+        ),
+        Form::Negate(width) => put(place, arithmetic::negate(width, read_fields(bytes))),
+        Form::Swap(order) => put(place, arithmetic::swap(order, read_fields(bytes))),
+        Form::LoadImmediate => put(
+            place,
+            memory::load_immediate(read_fields(bytes), &bytes[8..]),
+        ),
+        Form::Jump => put(place, jump::near(read_fields(bytes))),
+        Form::LongJump => put(place, jump::long(read_fields(bytes))),
         Form::BranchImmediate(width, condition) => put(
             place,
-            jump::branch_immediate(width, condition, fields),
+            jump::branch_immediate(width, condition, read_fields(bytes)),
         ),
         Form::BranchRegister(width, condition) => put(
             place,
-            jump::branch_register(width, condition, fields),
+            jump::branch_register(width, condition, read_fields(bytes)),
         ),
-        Form::Load(size) => put(place, memory::load(size, fields)),
-        Form::LoadSigned(part) => put(place, memory::load_signed(part, fields)),
-        Form::StoreImmediate(size) => put(place, memory::store_immediate(size, fields)),
-        Form::StoreRegister(size) => put(place, memory::store_register(size, fields)),
-        Form::Call => put(place, jump::call(fields)),
-        Form::Exit => put(place, jump::exit(fields)),
+        Form::Load(size) => put(place, memory::load(size, read_fields(bytes))),
+        Form::LoadSigned(part) => put(place, memory::load_signed(part, read_fields(bytes))),
+        Form::StoreImmediate(size) => put(place, memory::store_immediate(size, read_fields(bytes))),
+        Form::StoreRegister(size) => put(place, memory::store_register(size, read_fields(bytes))),
+        Form::Call => put(place, jump::call(read_fields(bytes))),
+        Form::Exit => put(place, jump::exit(read_fields(bytes))),
         Form::LeftOut => Err(Fault::LeftOut),
         Form::Unknown => Err(Fault::Opcode),
     }
@@ -90,7 +97,7 @@ fn read(place: &mut Insn, bytes: &[u8]) -> Result<u16, Fault>
     ensures found { IfOk result (λ _. take (8 * units_of place.new) bytes.now ≡ instruction_bytes place.new) }
     ensures fault { IfErr result (λ e. fault_at bytes.now ≡ Some e) }
 {
-    meaning(place, read_fields(bytes), &bytes[8..])
+    meaning(place, bytes)
 }
 
 /// The instruction that the bytes begin with, whatever stands behind it.

@@ -301,9 +301,9 @@ static FORMS: [Form; 256] = [
 
 /// What the opcode stands for.
 #[inline(always)]
-pub fn form_at(opcode: u8) -> Form
-    ensures form { result ≡ form_of opcode }
-    ensures opcode { IsOpcode result opcode }
+pub fn form_at(opcode: u8) -> &'static Form
+    ensures form { result.now ≡ form_of opcode }
+    ensures opcode { IsOpcode result.now opcode }
 {
-    FORMS[opcode as usize]
+    &FORMS[opcode as usize]
 }
