@@ -1,5 +1,5 @@
 -- A first file that is refused.
-use Rattle.std.proofs.Common.{ℕ, ◌≡◌, ◌≢◌, Bool, List, inl, inr, refl, subst, sym, true, false}
+use Rattle.std.proofs.Common.{ℕ, ◌≡◌, ◌≢◌, ◌∙◌, Bool, List, inl, inr, refl, subst, sym, true, false}
 use Rattle.std.specs.Borrow.{Bor}
 use Rattle.std.specs.declared.alloc.Global.{Global}
 use Rattle.std.specs.Prelude.{Option, None, Some, IfSome, String, string_bytes}
@@ -323,3 +323,35 @@ stops_for unread refused name FaultMemory stops = tt
 pub prevented_first : (task : Task) (files : Files) (unread second_unread : Type 0) (bytes : List ℕ) (fault : Failure) → AreBytes files.first bytes
     → StopsFirst task bytes fault → Prevents unread second_unread task files fault
 prevented_first task files unread second_unread bytes fault are stops = inl (stops_for unread (IsRefused task files.first) (first_name task) fault (stops files.first are))
+
+-- ---- a refusal of which nothing is reported
+
+pub quiet_first : (cause : Refusal) (file : Bor (List ℕ)) (own : List ℕ) (fault : Failure) → cause ≢ Memory → fault ≡ fault_of_bytes cause file own → fault ≢ FaultMemory
+quiet_first (Codec error) file own told other is e = (let z : FaultMemory ≡ Refused (Codec error) (seems_behind (Codec error) own) = sym e ∙ is in cc)
+quiet_first (Object fault) file own told other is e = (let z : FaultMemory ≡ Refused (Object fault) (seems_behind (Object fault) own) = sym e ∙ is in cc)
+quiet_first (Verifier fault) file own told other is e = (let z : FaultMemory ≡ Refused (Verifier fault) (seems_behind (Verifier fault) own) = sym e ∙ is in cc)
+quiet_first (Assembly error) file own told other is e = (let z : FaultMemory ≡ Refused (Assembly error) (seems_behind (Assembly error) own) = sym e ∙ is in cc)
+quiet_first (Table error) file own told other is e = (let z : FaultMemory ≡ Refused (Table error) (seems_behind (Table error) own) = sym e ∙ is in cc)
+quiet_first (Scenario error) file own told other is e = (let z : FaultMemory ≡ Refused (Scenario error) (seems_behind (Scenario error) own) = sym e ∙ is in cc)
+quiet_first (Setting error) file own told other is e = (let z : FaultMemory ≡ Refused (Setting error) (seems_behind (Setting error) own) = sym e ∙ is in cc)
+quiet_first (Trace error) file own told other is e = (let z : FaultMemory ≡ Refused (Trace error) (seems_behind (Trace error) own) = sym e ∙ is in cc)
+quiet_first (Threads error) file own told other is e = (let z : FaultMemory ≡ Refused (Threads error) (seems_behind (Threads error) own) = sym e ∙ is in cc)
+quiet_first (Accesses fault) file own told other is e = (let z : FaultMemory ≡ Refused (Accesses fault) (seems_behind (Accesses fault) own) = sym e ∙ is in cc)
+quiet_first (Stranger general generals) file own told other is e = (let z : FaultMemory ≡ Refused (Stranger general generals) (seems_behind (Stranger general generals) own) = sym e ∙ is in cc)
+quiet_first NotText file own told other is e = (let z : FaultMemory ≡ Text file = sym e ∙ is in cc)
+quiet_first Memory file own told other is e = other refl
+
+pub asked_reports : (task : Task) (refusal : Refusal) (notation : Notation) → asked_of refusal task ≡ Some notation → is_reported task refusal ≡ true
+asked_reports task (Verifier fault) notation is = asks task notation is
+asked_reports task (Codec error) notation is = absurd cc
+asked_reports task (Object fault) notation is = absurd cc
+asked_reports task (Assembly error) notation is = absurd cc
+asked_reports task (Table error) notation is = absurd cc
+asked_reports task (Scenario error) notation is = absurd cc
+asked_reports task (Setting error) notation is = absurd cc
+asked_reports task (Trace error) notation is = absurd cc
+asked_reports task (Threads error) notation is = absurd cc
+asked_reports task (Accesses fault) notation is = absurd cc
+asked_reports task (Stranger general generals) notation is = absurd cc
+asked_reports task NotText notation is = absurd cc
+asked_reports task Memory notation is = absurd cc

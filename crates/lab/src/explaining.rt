@@ -1,5 +1,6 @@
 //! What `check --explain` says of a program behind what `check` says of it.
-ghost use Rattle.std.specs.Prelude.{◌≡◌, option_map};
+ghost use Rattle.std.specs.Prelude.{◌≡◌, ◌≢◌, false, option_map};
+ghost use Rattle.faults.specs.Hints.{is_reported};
 ghost use Rattle.lab.specs.Faults.{StopsFirst};
 ghost use Rattle.lab.specs.Hints.{asked_of, bytecode_in, explained_in};
 ghost use Rattle.lab.specs.Refusals.{Refuses};
@@ -56,7 +57,8 @@ fn asked_of<'a>(refusal: &Refusal, task: &'a Task) -> Option<&'a Notation>
     }
 }
 
-/// The fault of a first file of these bytes that the task refuses so, with what is said behind it.
+/// The fault of a first file of these bytes that the task refuses so, with what is said behind it. Where nothing is
+/// reported behind it, it is not told as want of memory.
 pub(crate) fn refused<'a>(
     alloc: Global,
     task: &'a Task,
@@ -64,7 +66,8 @@ pub(crate) fn refused<'a>(
     bytes: &[u8],
 ) -> Failure<'a>
     requires { Refuses task.now bytes.now refusal }
-    ensures { StopsFirst task.entry.now bytes.now result }
+    ensures stops { StopsFirst task.entry.now bytes.now result }
+    ensures quiet { is_reported task.entry.now refusal ≡ false → refusal ≢ Refusal.Memory → result ≢ Failure.Memory }
 {
     let file = task.file().unwrap_or("");
     let own = bytecode_in(task, bytes);

@@ -35,4 +35,4 @@ pub returns-clause-fault : goal.returns-clause-fault
 returns-clause-fault g c =
     let both : Files = files g.R.Source.bytes c.args.first c.args.second in
     prevented_first c.args.task.now both _ _ c.in_ok-bytes.bytes.items c.refused.result c.in_ok-bytes.ensures.whole
-    (rw (c.as_slice-in-Err.ensures.value) at c.refused.ensures)
+    (rw (c.as_slice-in-Err.ensures.value) at c.refused.ensures.stops)
