@@ -121,7 +121,8 @@ fn serve_entered<R: Wait, G: Gate, J: Room>(
     ensures unentered { OnErr result (made.new.accesses.items ≡ made.old.accesses.items) }
 {
     let passed = Passed::gate(gate, general, round, made.count(round));
-    let reply = board.apply(rt, me, general, round, request)?;
+    let asked = request;
+    let reply = board.apply(rt, me, general, round, asked)?;
     let access = Access {
         general,
         round,
