@@ -88,7 +88,10 @@ impl Made {
     pub(crate) fn count(&self, round: u32) -> u64
         ensures { result ≡ count_by (λ a. a.round == round) self.now.accesses.items }
     {
-        self.accesses.iter().filter(|mark| mark.round() == round).count() as u64
+        self.accesses
+            .iter()
+            .filter(|mark| mark.round() == round)
+            .count() as u64
     }
 
     /// Makes room for one more.
