@@ -1,7 +1,11 @@
 -- What is written of a file, its name, and which file or folder is told that it was not written (own).
-use Rattle.std.specs.Prelude.{ℕ, suc, ◌≡◌, ◌≢◌, ◌≤◌, ◌⊎◌, ◌++◌, List, [], ◌∷◌, codes, decimal, string_bytes, ⊤}
+use Rattle.std.specs.Prelude.{ℕ, suc, ◌≡◌, ◌≢◌, ◌≤◌, ◌⊎◌, ◌++◌, List, [], ◌∷◌, Some, codes, decimal, string_bytes, ⊤}
 use Rattle.std.specs.declared.io.ErrorKind.{ErrorKind}
 use Rattle.std.specs.declared.io.ErrorKind.TheVariants.{OutOfMemory}
+use Rattle.command_line.specs.declared.tasks.Task.{Task}
+use Rattle.command_line.specs.Tasks.{schedule_target_of, seed_of}
+use Rattle.chance.specs.Seeded.{seeded}
+use Rattle.explore.specs.Text.{schedule_text}
 use Rattle.byzlab.specs.declared.filling.Filled.{Filled}
 use Rattle.byzlab.specs.declared.keeping.Unkept.{Unkept}
 use Rattle.byzlab.specs.declared.keeping.Unkept.TheVariants.{Memory, Unwritten}
@@ -12,6 +16,11 @@ file_of filled = (string_bytes filled.name, filled.bytes.now)
 
 abbrev pub IsFilledBy : List ℕ → List ℕ → Filled → Type 0
 IsFilledBy name bytes filled = file_of filled ≡ (name, bytes)
+
+-- the schedule of the task's seed was written, for the file that the task names
+abbrev pub IsScheduleKept : Task → Filled → Type 0
+IsScheduleKept task filled = (seed : ℕ) × (name : List ℕ) × (seed_of task ≡ Some seed)
+    × (schedule_target_of task ≡ Some name) × IsFilledBy name (schedule_text (seeded seed)) filled
 
 -- this name and this kind of error are told, which is no want of memory; or memory is wanting
 abbrev pub IsUnwritten : List ℕ → ErrorKind → Unkept → Type 0

@@ -1,24 +1,25 @@
 //! How requests come out. Only what is here makes an `Ending`: of a request that was served, of an exploration that was
 //! kept and printed, of a line that was told.
-ghost use Rattle.std.specs.Prelude.{◌≡◌, IfErr, IfOk, IsOk, true};
+ghost use Rattle.std.specs.Prelude.{◌≡◌, ◌≢◌, ◌⊎◌, IfErr, IfOk, IsOk, None, Ok, codes, is_some, true};
 ghost use Rattle.std.specs.Io.KnownBytes.{Appends};
+ghost use Rattle.command_line.specs.Tasks.{schedule_target_of, seed_of};
+ghost use Rattle.lab.specs.Serving.{Tells, files};
+ghost use Rattle.desk.specs.Serving.{IsShown};
 ghost use Rattle.byzlab.specs.Failures.{IsStatus, failure_of};
+ghost use Rattle.byzlab.specs.Kept.{IsScheduleKept};
 
-use crate::failures::why_unwritten;
 use crate::filling::Filled;
-use crate::input::Input;
 use crate::keeping::Unkept;
-use crate::target::target_of;
 use crate::telling::{Said, tell_unkept, turn_down};
 use crate::watched::Watched;
 use command_line::Request;
 use desk::serve;
 use lab::Failure;
-use std::alloc::AllocError;
-use std::io::ErrorKind;
+use std::alloc::{AllocError, Global};
+use std::io::{ErrorKind, Write};
 use std::sync::Wait;
 use std::thread::Threads;
-use streams::Output;
+use streams::{Output, Source};
 
 /// How a request came out.
 #[derive(Drop)]
@@ -77,35 +78,82 @@ pub fn settled(rt: &HostRuntime, outcome: Result<Ending, AllocError>) -> Ending
     }
 }
 
-/// Does what is asked for on these files, and tells behind a fault of its output why, where it explains what it
-/// refuses.
-pub fn served<'a, T: Threads + Wait + Sync>(
-    rt: &HostRuntime,
-    threads: &T,
-    request: &Request,
-    first: Input<'a>,
-    second: Option<Input<'a>>,
-) -> Ending
-    ensures status { IsStatus result.status }
-{
-    let mut target = Watched::new(target_of(rt, request.task.target()));
-    let alloc = rt.alloc();
-    let status = serve(
-        threads,
-        alloc,
-        request,
-        first,
-        second,
-        &mut target,
-        &mut rt.stderr(),
-    );
-    let fault = target.fault();
-    if let Some(why) = why_unwritten(status, &request.task, fault) {
-        let _ = rt.eprintln(format_args!("error: {why}"));
+/// A request that was served, with no schedule written behind it yet: `Served::of` alone makes one.
+#[derive(Drop)]
+pub struct Served<'a> {
+    request: &'a Request,
+    ending: Ending,
+}
+
+impl<'a> Served<'a> {
+    /// Does what is asked for on these files, as `desk::serve` does: prints the answer, or what is at fault.
+    pub fn of<T, R, W, F>(
+        threads: &T,
+        alloc: Global,
+        request: &'a Request,
+        first: R,
+        second: Option<R>,
+        out: &mut Watched<W>,
+        fault: &mut F,
+    ) -> Served<'a>
+    where
+        T: Threads + Wait + Sync,
+        R: Source,
+        W: Write + Drop,
+        F: Output,
+        ensures request { result.request ≡ request.entry }
+        ensures status { IsStatus result.ending.status }
+        ensures written { result.ending.is_unwritten ≡ is_some out.new.fault }
+        ensures done { result.ending.status ≡ 0 →
+            IsShown request.entry.now (files R.bytes first second) (W.contents out.old.stream)
+            (W.contents out.new.stream) }
+        ensures quiet { result.ending.status ≡ 0 → fault.new ≡ fault.old }
+        ensures unprinted { result.ending.status ≡ 3 → out.new ≡ out.old }
+        ensures memory { result.ending.status ≡ 3 →
+            Tells (F.fails fault.old) (F.contents fault.old) (F.contents fault.new) (codes "out of memory") }
+    {
+        let status = serve(threads, alloc, request, first, second, out, fault);
+        Served {
+            request,
+            ending: Ending {
+                status,
+                is_unwritten: out.fault().is_some(),
+            },
+        }
     }
-    Ending {
-        status,
-        is_unwritten: fault.is_some(),
+
+    /// The exit status so far.
+    pub fn status(&self) -> u8
+        ensures { result ≡ self.now.ending.status }
+    {
+        self.ending.status
+    }
+
+    /// How it came out, where no schedule is to be written.
+    pub fn alone(self) -> Ending
+        requires { (schedule_target_of self.request.now.task ≡ None)
+            ⊎ ((seed_of self.request.now.task ≡ None) ⊎ (self.ending.status ≢ 0)) }
+        ensures { result ≡ self.entry.ending }
+    {
+        let Served { ending, .. } = self;
+        ending
+    }
+
+    /// How it came out, where the schedule of its seed was to be written behind it.
+    pub fn with_schedule(
+        self,
+        rt: &HostRuntime,
+        written: Result<Filled<'_>, Unkept>,
+    ) -> Result<Ending, AllocError>
+        requires { IfOk written (IsScheduleKept self.request.now.task) }
+        ensures kept { IfOk written.entry (λ _. result ≡ Ok self.entry.ending) }
+        ensures unkept { IfErr written.entry (λ _. IfOk result (λ ending. ending.status ≡ 1)) }
+    {
+        let Served { request, ending } = self;
+        match written {
+            Ok(_filled) => Ok(ending),
+            Err(unkept) => Ok(Ending::refused(tell_unkept(rt, request, unkept)?)),
+        }
     }
 }
 

@@ -24,7 +24,8 @@ ghost use Rattle.byzlab.specs.Failures.{AsksNothing, IsStatus, IsUnasked};
 
 use chance::seeded;
 use command_line::{Request, Task, TaskError, each};
-use ending::{Ending, kept_and_printed, lacking, served, settled};
+use ending::{Ending, Served, kept_and_printed, lacking, settled};
+use failures::why_unwritten;
 use folder::FolderOf;
 use input::{Input, Opened};
 use keeping::{keep, write_whole};
@@ -38,7 +39,9 @@ use std::io::{self, Cursor, ErrorKind, Read};
 use std::process::ExitCode;
 use std::sync::Wait;
 use std::thread::Threads;
-use telling::{Said, Unread, tell_unkept, tell_unread, tell_untaken, turn_down};
+use target::target_of;
+use telling::{Said, Unread, tell_unread, tell_untaken, turn_down};
+use watched::Watched;
 
 fn main(rt: HostRuntime) -> ExitCode {
     let status = match called(&rt, &rt) {
@@ -125,8 +128,8 @@ fn answered<T: Threads + Wait + Sync>(
         folder: Some(folder),
     } = &request.task
     else {
-        let ending = served(rt, threads, request, first, second);
-        return schedule_written(rt, request, ending);
+        let done = served(rt, threads, request, first, second);
+        return schedule_written(rt, request, done);
     };
     let bytes = match read(rt, request, scenario.as_str(), first)? {
         Ok(bytes) => bytes,
@@ -136,7 +139,8 @@ fn answered<T: Threads + Wait + Sync>(
         Some(ending) => Ok(ending),
         None => {
             let first = Opened::Text(Cursor::new(bytes));
-            Ok(served(rt, threads, request, first, second))
+            let done = served(rt, threads, request, first, second);
+            schedule_written(rt, request, done)
         }
     }
 }
@@ -173,27 +177,55 @@ fn unexplored(refusal: Refusal) -> Result<Option<Ending>, AllocError>
     }
 }
 
+/// Does what is asked for on these files, and tells behind a fault of its output why, where it explains what it
+/// refuses.
+fn served<'a, T: Threads + Wait + Sync>(
+    rt: &HostRuntime,
+    threads: &T,
+    request: &'a Request,
+    first: Input<'a>,
+    second: Option<Input<'a>>,
+) -> Served<'a>
+    ensures request { result.request ≡ request.entry }
+    ensures status { IsStatus result.ending.status }
+{
+    let mut target = Watched::new(target_of(rt, request.task.target()));
+    let alloc = rt.alloc();
+    let done = Served::of(
+        threads,
+        alloc,
+        request,
+        first,
+        second,
+        &mut target,
+        &mut rt.stderr(),
+    );
+    if let Some(why) = why_unwritten(done.status(), &request.task, target.fault()) {
+        let _ = rt.eprintln(format_args!("error: {why}"));
+    }
+    done
+}
+
 /// Writes the schedule of the seed behind a campaign that was played by it, where it is to be written.
 fn schedule_written(
     rt: &HostRuntime,
     request: &Request,
-    ending: Ending,
+    done: Served<'_>,
 ) -> Result<Ending, AllocError>
-    ensures status { IsStatus ending.status → IfOk result (λ ending. IsStatus ending.status) }
-    ensures unasked { schedule_target_of request.now.task ≡ None → result ≡ Ok ending }
-    ensures undone { ending.status ≢ 0 → result ≡ Ok ending }
+    requires { done.request.now ≡ request.now }
+    ensures status { IsStatus done.entry.ending.status → IfOk result (λ ending. IsStatus ending.status) }
+    ensures unasked { schedule_target_of request.now.task ≡ None → result ≡ Ok done.entry.ending }
+    ensures undone { done.entry.ending.status ≢ 0 → result ≡ Ok done.entry.ending }
 {
     let (Some(seed), Some(name)) = (request.task.seed(), request.task.schedule_target()) else {
-        return Ok(ending);
+        return Ok(done.alone());
     };
-    if ending.status() != 0 {
-        return Ok(ending);
+    if done.status() != 0 {
+        return Ok(done.alone());
     }
     let text = seeded(rt.alloc(), seed)?;
-    match write_whole(rt, name, text.as_bytes()) {
-        Ok(_written) => Ok(ending),
-        Err(unkept) => Ok(Ending::refused(tell_unkept(rt, request, unkept)?)),
-    }
+    let written = write_whole(rt, name, text.as_bytes());
+    done.with_schedule(rt, written)
 }
 
 /// The task's files; or, where one of them does not open, the line that was told of it.

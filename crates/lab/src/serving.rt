@@ -1,5 +1,7 @@
-ghost use Rattle.std.specs.Prelude.{◌≡◌, ◌≢◌, ◌⊎◌, [], Ok, Err, IfOk, IfErr, IsErrAnd, IsSomeAnd, MatchResult, OnOk, codes, option_map};
-ghost use Rattle.faults.specs.Faults.{IsToldIf, Stops};
+ghost use Rattle.std.specs.Prelude.{◌≡◌, ◌≢◌, ◌⊎◌, [], Ok, Err, IfOk, IfErr, IfSome, IsErrAnd, IsSomeAnd, MatchResult, OnOk, codes, option_map};
+ghost use Rattle.std.specs.Fmt.{with_newline};
+ghost use Rattle.std.specs.Io.KnownBytes.{Appends};
+ghost use Rattle.faults.specs.Faults.{IsToldIf, Stops, fault_text, status_of};
 ghost use Rattle.lab.specs.Faults.{Undoes, Prevents};
 ghost use Rattle.lab.specs.Hints.{explained_in};
 ghost use Rattle.faults.specs.Whys.{Nothing, TellsWhyOf, is_explained};
@@ -61,11 +63,18 @@ where
 {
     match print(rt, alloc, task, first, second, out) {
         Ok(()) => 0,
-        Err(error) => {
-            let _ = fault.tell(&error);
-            error.status()
-        }
+        Err(failure) => ended(&failure, fault),
     }
+}
+
+/// Says why a task is not done. The result is the exit status.
+fn ended<F: Output>(failure: &Failure<'_>, fault: &mut F) -> u8
+    ensures status { result ≡ status_of failure.now }
+    ensures told { F.fails fault.old ⊎ IfSome (with_newline (fault_text failure.now))
+        (Appends (F.contents fault.old) (F.contents fault.new)) }
+{
+    let _ = fault.tell(failure);
+    failure.status()
 }
 
 /// Prints the whole answer, or nothing where there is none. Where the output fails, at most a beginning of the answer

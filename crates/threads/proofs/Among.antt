@@ -1,7 +1,12 @@
 -- Accesses that stand among others.
-use Rattle.std.proofs.Common.{◌≡◌, List, [], ◌∷◌, ◌++◌, refl, sym, ap, subst, ◌∙◌, inl, inr, ⊎_elim}
+use Rattle.std.proofs.Common.{◌≡◌, ℕ, List, [], ◌∷◌, ◌++◌, length, length-append, refl, sym, ap, subst, inl, inr, ⊎_elim, arith}
+use Rattle.std.specs.Prelude.{Result, Ok, Err, IfOk, OnErr}
 use mathlib.Core.List.{IsPrefix}
+use Rattle.semantics.specs.declared.reply.Reply.{Reply}
+use Rattle.semantics.specs.declared.request.Request.{Request}
+use Rattle.semantics.specs.Replies.{words_in}
 use Rattle.board.specs.Board.{Access}
+use Rattle.shared_board.specs.Witnessed.{Witnessed, Serves}
 use Rattle.threads.specs.Served.{AreAmong}
 
 -- one more of both
@@ -25,6 +30,17 @@ pub among_served : (made seen before made' seen' : List Access) (a : Access) →
 among_served made seen before made' seen' a h p one all =
     subst (λ (m : List Access). AreAmong m seen') (sym one) (subst (λ (l : List Access). AreAmong (made ++ a ∷ []) l) (sym all) (among_both made before a (among_prefix made seen before h p)))
 
--- one more that is not told
-pub among_met : (made seen before seen' : List Access) (a : Access) → AreAmong made seen → IsPrefix seen before → seen' ≡ before ++ a ∷ [] → AreAmong made seen'
-among_met made seen before seen' a h p all = subst (λ (l : List Access). AreAmong made l) (sym all) (among_later made before (a ∷ []) (among_prefix made seen before h p))
+-- what is served is entered, and what is refused changes nothing
+pub served_entered : {E : Type 0} (opening : List ℕ) (general round : ℕ) (request : Request) (old new : Witnessed) (made made' : List Access) (r : Result Reply E)
+    → IfOk r (λ x. Serves opening old general round request (words_in x) new)
+    → IfOk r (λ x. made' ≡ made ++ record { general = general; round = round; request = request; reply = words_in x } ∷ [])
+    → OnErr r (new ≡ old) → OnErr r (made' ≡ made)
+    → AreAmong made old.seen × (old.made ≡ length made) → AreAmong made' new.seen × (new.made ≡ length made')
+served_entered opening general round request old new made made' (Ok x) serves entered same still was =
+    let a : Access = record { general = general; round = round; request = request; reply = words_in x } in (
+      among_served made old.seen serves.before made' new.seen a was.0 serves.later entered serves.entered,
+      (let one = serves.once in let count = was.1 in let long = ap length entered in omega (arith, length-append made (a ∷ []))),
+    )
+served_entered opening general round request old new made made' (Err e) serves entered same still was =
+    subst (λ (w : Witnessed). AreAmong made' w.seen × (w.made ≡ length made')) (sym same)
+    (subst (λ (m : List Access). AreAmong m old.seen × (old.made ≡ length m)) (sym still) was)

@@ -8,3 +8,4 @@ pub mod Tasks
 pub mod Concluded
 pub mod Among
 pub mod Numbered
+pub mod Popped

@@ -1,16 +1,15 @@
 -- Letters taken out of a list one at a time.
 use Rattle.std.proofs.Common.{◌≡◌, ◌≢◌, ℕ, zero, suc, ◌+◌, ◌<◌, ◌≤◌, Bool, true, false, cond, List, [], ◌∷◌, ◌++◌, length, take, refl, sym, ap, subst, ◌∙◌, ⊎_elim, Option, None, Some, arith, length-append}
-use Rattle.std.specs.Prelude.{◌==◌, ◌&&◌, slice_get, option_to_list}
+use Rattle.std.specs.Prelude.{◌==◌, slice_get, option_to_list}
 use Rattle.std.specs.List.{find, remove}
 use Rattle.std.proofs.Math.Numerals.{add-one}
-use Rattle.std.proofs.lemmas.Bool.{eq-eqb, ne_eqb}
 use Rattle.std.proofs.lemmas.Bool.Decides.{eqb_tells}
 use Rattle.letter.specs.Letters.{Letter}
 use Rattle.world.specs.World.{each}
 use Rattle.world.specs.Accounted.{letter_by, letters_by}
 use Rattle.threads.specs.Taking.{without, left_by, left_by_all, left_rounds}
 use Rattle.world.proofs.Holding.{each-same}
-use Rattle.world.proofs.Arranged.{by_false, by_true, is_by}
+use Rattle.world.proofs.Arranged.{by_false, is_by}
 
 -- the first that passes stands where the front has none that does
 found_by : (p : Letter → Bool) (y x : Letter) (ys : List Letter) (i : ℕ) (b : Bool) → (find p (take i ys) ≡ None → (find p ys ≡ slice_get ys i) × (without p ys ≡ remove ys i))

@@ -2,7 +2,6 @@
 use Rattle.std.proofs.Common.{◌≡◌, IsTrue, ℕ, zero, suc, ◌+◌, ◌<◌, ◌≤◌, List, [], ◌∷◌, ◌++◌, length, length-append, take, drop, refl, sym, ap, subst, ◌∙◌, Bool, arith, Option, None, Some}
 use Rattle.std.specs.Prelude.{◌↔◌, slice_get, sum_by}
 use Rattle.insn.specs.declared.insn.Insn.{Insn}
-use Rattle.label.specs.declared.shape.Shape.{Shape}
 use Rattle.board.specs.Board.{Access}
 use Rattle.semantics.specs.Relay.{Relay, oral}
 use Rattle.letter.specs.Contexts.{tells_oral}
@@ -11,7 +10,7 @@ use Rattle.roster.specs.Scenario.{Scenario, IsScenario, program_of, shape_of}
 use Rattle.letter.specs.Letters.{Letter}
 use Rattle.letter.specs.Contexts.{AreWords, context_of, shape_told, rows_told, outbox_told, faithful_letter}
 use Rattle.letter.specs.Activation.{started}
-use Rattle.letter.specs.Runs.{Runs, IsWithin, IsRunOf, IsLetter}
+use Rattle.letter.specs.Runs.{Runs, IsRunOf, IsLetter}
 use Rattle.letter.specs.Origin.{AreLettersOf, AreRoundsOf}
 use Rattle.letter.proofs.Loyal.{shape_is_told, letter_is}
 use Rattle.world.specs.World.{accesses_of}

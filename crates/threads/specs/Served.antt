@@ -1,6 +1,7 @@
 -- What one general was served of the accesses of all (own).
-use Rattle.std.specs.Prelude.{◌≡◌, ◌⊎◌, List, [], ◌∷◌}
+use Rattle.std.specs.Prelude.{◌≡◌, ◌⊎◌, List, [], ◌∷◌, flat_map}
 use Rattle.board.specs.Board.{Access}
+use Rattle.letter.specs.Letters.{Letter}
 
 -- these stand among those, in the same order
 abbrev pub AreAmong : List Access → List Access → Type 0
@@ -8,7 +9,11 @@ AreAmong [] all = Unit {0}
 AreAmong (a ∷ made) [] = ⊥
 AreAmong (a ∷ made) (b ∷ all) = ((a ≡ b) × AreAmong made all) ⊎ AreAmong (a ∷ made) all
 
--- what he has made, and the beginning of the board's history that he has met
+-- the accesses that letters tell
+abbrev pub told_in : List Letter → List Access
+told_in letters = flat_map (λ l. l.transcript) letters
+
+-- what was served to him, and the beginning of the board's history that he has met
 pub record Served : Type 0 where
   pub made : List Access
   pub seen : List Access

@@ -1,5 +1,5 @@
 //! The letters of a campaign whose generals stay in their threads for all rounds.
-ghost use Rattle.std.specs.Prelude.{◌≡◌, ℕ, ◌<◌, ◌≤◌, [], suc, length, slice_index_or, vec_capacity, None, IsPermutation, IfOk};
+ghost use Rattle.std.specs.Prelude.{◌≡◌, ℕ, ◌<◌, ◌≤◌, [], suc, length, slice_index_or, vec_capacity, None, All, IsPermutation, IfOk};
 ghost use Rattle.delivery.specs.Told.{WasTold};
 ghost use Rattle.post.specs.Seen.{PosterSeen, poster_seen};
 ghost use Rattle.threads.specs.Answers.{AreAscending};
@@ -38,7 +38,8 @@ pub(crate) fn collect<R: Threads + Wait + Sync, G: Gate + Sync, J: Room + Send +
     witnesses: Vec<Witness<J>>,
     stack: usize,
 ) -> Result<(Vec<Round>, Told), MusterError>
-    requires { scenario.now.generals ≤ length witnesses.items }
+    requires many { scenario.now.generals ≤ length witnesses.items }
+    requires unserved { All (λ w. w.made ≡ 0) witnesses.items }
     ensures rounds { IfOk result (λ r. length r.0.items ≡ suc scenario.now.bound) }
     ensures told { IfOk result (λ r. WasTold scenario.now r.0.items r.1) }
 {
@@ -66,6 +67,7 @@ fn through_residents<R: Threads + Wait + Sync, G: Gate + Sync, J: Room + Send + 
 ) -> Result<Ending, AllocError>
     requires few { length posters.items ≤ 13 }
     requires witnesses { length posters.items ≤ length witnesses.items }
+    requires unserved { All (λ w. w.made ≡ 0) witnesses.items }
     requires posters { (g : ℕ) (d : PosterSeen) → g < length posters.items →
         slice_index_or posters.items g d ≡ poster_seen camp.now.post.table g [] }
     requires inboxes { length posters.items ≤ length camp.now.inboxes.items }
@@ -88,6 +90,7 @@ fn through_residents<R: Threads + Wait + Sync, G: Gate + Sync, J: Room + Send + 
             requires room { length posters.items ≤ vec_capacity answers }
             requires few { length posters.items ≤ 13 }
             requires witnesses { length posters.items ≤ length witnesses.items }
+            requires unserved { All (λ w. w.made ≡ 0) witnesses.items }
             requires posters { (g : ℕ) (d : PosterSeen) → g < length posters.items →
                 slice_index_or posters.items g d ≡ poster_seen camp.now.post.table g [] }
             requires inboxes { length posters.items ≤ length camp.now.inboxes.items }
@@ -110,6 +113,8 @@ fn through_residents<R: Threads + Wait + Sync, G: Gate + Sync, J: Room + Send + 
                     move || -> Answer
                         requires post { poster.table ≡ camp.now.post.table }
                         requires general { poster.general ≡ resident.general }
+                        requires unposted { poster.posted ≡ [] }
+                        requires unserved { me.made ≡ 0 }
                     { resident.stay(rt, alloc, &camp.post, poster, me) },
                 );
                 refused = kept(&mut handles, started);

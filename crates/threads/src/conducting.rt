@@ -1,5 +1,5 @@
 //! A campaign's rounds, conducted through the generals' camp.
-ghost use Rattle.std.specs.Prelude.{◌≡◌, ◌≢◌, ◌≤◌, ◌∷◌, [], suc, List, length, IsPermutation, IsSortedByKey, IfOk, IfErr};
+ghost use Rattle.std.specs.Prelude.{◌≡◌, ◌≢◌, ◌≤◌, ◌∷◌, ◌++◌, [], suc, List, length, IsPermutation, IsSortedByKey, IfOk, IfErr};
 ghost use Rattle.std.specs.Ordering.{nat_cmp};
 ghost use Rattle.letter.specs.Letters.{Letter as LetterSeen};
 ghost use Rattle.delivery.specs.Told.{WasTold};
@@ -74,8 +74,8 @@ fn tasks(alloc: Global, scenario: &Scenario, told: &Told) -> Result<Vec<Task>, A
     Ok(tasks)
 }
 
-/// The letters that are in the post, ascending by general. No more is promised of them here: they are tested where they
-/// are told, and judged at the end.
+/// The letters that it takes out of the post until it finds none, all of them, ascending by general. No more is promised
+/// of them here: they are tested where they are told, and judged at the end.
 fn take_letters<R: Wait>(
     rt: &R,
     alloc: Global,
@@ -84,6 +84,8 @@ fn take_letters<R: Wait>(
 ) -> Result<(Collector, Vec<Letter>), AllocError>
     requires { collector.table ≡ post.now.table }
     ensures post { IfOk result (λ r. r.0.table ≡ post.now.table) }
+    ensures taken { IfOk result (λ r. (came : List LetterSeen) × (r.0.taken ≡ collector.taken ++ came)
+        × IsPermutation came r.1.items) }
     ensures ascending { IfOk result (λ r. IsSortedByKey (λ (letter : LetterSeen). letter.general) nat_cmp r.1.items) }
 {
     let mut letters = Vec::new(alloc);

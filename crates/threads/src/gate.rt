@@ -1,6 +1,14 @@
 //! What holds a general before each access.
+ghost use Rattle.std.specs.Prelude.{◌≡◌, ◌++◌, ◌∷◌, ◌<◌, [], true, vec_len, vec_capacity, IfOk, OnErr};
+ghost use Rattle.semantics.specs.Call.{fits};
+ghost use Rattle.semantics.specs.Replies.{words_in};
+ghost use Rattle.board.specs.Requests.{IsReplyTo};
+ghost use Rattle.shared_board.specs.Witnessed.{Serves};
+ghost use Rattle.threads.specs.Served.{AreAmong, told_in};
+
 use crate::made::{Made, Passed};
 use board::Access;
+use post::Poster;
 use round::Server;
 use semantics::{Reply, Request};
 use shared_board::{Room, SharedBoard, Witness};
@@ -23,45 +31,105 @@ impl Gate for Open {
     fn before_access(&self, _general: u32, _round: u32, _nth: u64) {}
 }
 
-/// The board as one general meets it in one round: first the gate, then the lock, for one access.
+/// The board as one general meets it: first the gate, then the lock, for one access. It is seen as what was served to
+/// him, and the beginning of the board's history that he has met.
 #[derive(Drop)]
 pub(crate) struct Gated<'a, R, G, J: Room> {
     pub(crate) rt: &'a R,
-    pub(crate) alloc: Global,
     pub(crate) gate: &'a G,
     pub(crate) board: &'a SharedBoard<J>,
     /// His leave to have accesses served.
     pub(crate) me: Witness<J>,
-    /// The accesses that he has made in this round.
+    /// All that were served to him.
     pub(crate) made: Made,
 }
 
 impl<'a, R, G, J: Room> Model for Gated<'a, R, G, J> {
+    ghost use Rattle.std.specs.Prelude.{◌≡◌, length};
     ghost use Rattle.threads.specs.Served.{AreAmong, Served};
 
     ghost Value = { Served };
 
     ghost view = { λ g. record { made = g.made.accesses.items; seen = g.me.seen } };
 
-    ghost invariant = { λ g. AreAmong g.made.accesses.items g.me.seen };
+    ghost invariant = { λ g. AreAmong g.made.accesses.items g.me.seen × (g.me.made ≡ length g.made.accesses.items) };
+}
+
+impl<'a, R, G, J: Room> Gated<'a, R, G, J> {
+    /// Does nothing. What was served to him stands in the history that he has met.
+    pub(crate) fn recall(&self)
+        ensures { AreAmong self.now.made self.now.seen }
+    {
+        let _made = &self.made;
+    }
+
+    /// Ends with a poster, with which just the accesses that were served to him are told.
+    pub(crate) fn settle(self, poster: Poster) -> Settled
+        requires { self.made ≡ told_in poster.posted }
+        ensures { result.poster ≡ poster }
+    {
+        Settled { poster }
+    }
+}
+
+/// A poster, with which all accesses that were served to its general are told: `settle` alone makes one.
+#[derive(Drop)]
+pub(crate) struct Settled {
+    poster: Poster,
 }
 
 impl<'a, R: Wait, G: Gate, J: Room> Server for Gated<'a, R, G, J> {
     ghost served = { λ gated. gated.made };
 
     fn serve(&mut self, general: u32, round: u32, request: Request) -> Result<Reply, AllocError> {
-        let passed = Passed::gate(self.gate, general, round, self.made.count());
-        let reply = self
-            .board
-            .apply(self.rt, &mut self.me, general, round, request)?;
-        let access = Access {
+        self.made.make_room()?;
+        serve_entered(
+            self.rt,
+            self.gate,
+            self.board,
+            &mut self.me,
+            &mut self.made,
             general,
             round,
             request,
-            reply,
-        };
-        self.made.enter(passed, access.copy(self.alloc)?)?;
-        let Access { reply, .. } = access;
-        Ok(reply)
+        )
     }
+}
+
+/// Has an access served behind the gate, and enters it. There is room for it before it is served.
+fn serve_entered<R: Wait, G: Gate, J: Room>(
+    rt: &R,
+    gate: &G,
+    board: &SharedBoard<J>,
+    me: &mut Witness<J>,
+    made: &mut Made,
+    general: u32,
+    round: u32,
+    request: Request,
+) -> Result<Reply, AllocError>
+    requires room { vec_len made.old.accesses < vec_capacity made.old.accesses }
+    ensures serves { IfOk result (λ r. Serves J.opening me.old general round request (words_in r) me.new) }
+    ensures fits { IfOk result (λ r. fits request (words_in r) ≡ true) }
+    ensures form { IfOk result (λ r. IsReplyTo request r) }
+    ensures entered { IfOk result (λ r. made.new.accesses.items ≡ made.old.accesses.items ++ record {
+      general = general;
+      round = round;
+      request = request;
+      reply = words_in r;
+    } ∷ []) }
+    ensures unserved { OnErr result (me.new ≡ me.old) }
+    ensures unentered { OnErr result (made.new.accesses.items ≡ made.old.accesses.items) }
+{
+    let passed = Passed::gate(gate, general, round, made.count(round));
+    let asked = request;
+    let reply = board.apply(rt, me, general, round, asked)?;
+    let access = Access {
+        general,
+        round,
+        request,
+        reply,
+    };
+    made.enter(passed, &access);
+    let Access { reply, .. } = access;
+    Ok(reply)
 }

@@ -138,7 +138,8 @@ fn by_board<R: Threads + Wait + Sync, G: Gate + Sync, J: Room + Send + Sync>(
     witness: Witness<J>,
     witnesses: Vec<Witness<J>>,
 ) -> Result<Chronicle, MusterError>
-    requires { scenario.generals ≤ length witnesses.items }
+    requires witnesses { scenario.generals ≤ length witnesses.items }
+    requires unserved { All (λ w. w.made ≡ 0) witnesses.items }
     ensures history { IfOk result (λ chronicle. IsPrefix witness.seen chronicle.accesses) }
     ensures scenario { IfOk result (λ chronicle. chronicle.scenario ≡ scenario) }
     ensures replay { IfOk result (λ chronicle. chronicle ≡ chronicle_of (replay_of scenario chronicle.accesses)) }

@@ -1,14 +1,14 @@
 //! A general's thread through all rounds.
-ghost use Rattle.std.specs.Prelude.{◌≡◌, ◌≢◌, ◌++◌, ◌∷◌, [], Err, IfOk, IfErr};
+ghost use Rattle.std.specs.Prelude.{◌≡◌, ◌≢◌, ◌++◌, ◌∷◌, [], Err, IfOk, OnOk, IfErr};
 ghost use Rattle.letter.specs.Letters.{Letter as LetterSeen};
 ghost use Rattle.threads.specs.Answers.{failure_of};
 ghost use Rattle.threads.specs.Duties.{IsDone};
-ghost use Rattle.threads.specs.Served.{AreAmong};
+ghost use Rattle.threads.specs.Served.{AreAmong, told_in};
 ghost use Rattle.threads.specs.declared.error.MusterError.TheVariants.{Unaccounted, Spawn, Post as PostFull};
 
 use crate::answers::{accounted, posted};
 use crate::error::MusterError;
-use crate::gate::{Gate, Gated};
+use crate::gate::{Gate, Gated, Settled};
 use crate::inbox::{Closed, Inbox};
 use crate::made::Made;
 use crate::tally::Tally;
@@ -24,8 +24,9 @@ use std::sync::Wait;
 pub(crate) struct Answer {
     /// Whose it is.
     general: u32,
-    /// That his inbox was closed, with his poster, which a task that fails takes from him; or by what he has failed.
-    ended: Result<(Closed, Poster), MusterError>,
+    /// That his inbox was closed, with his poster, which a task that fails takes from him, and with which all that was
+    /// served to him is told; or by what he has failed.
+    ended: Result<(Closed, Settled), MusterError>,
 }
 
 impl Answer {
@@ -70,10 +71,12 @@ impl<'a, G: Gate, J: Room> Resident<'a, G, J> {
     ) -> Answer
         requires post { poster.table ≡ post.now.table }
         requires general { poster.general ≡ self.general }
+        requires unposted { poster.posted ≡ [] }
+        requires unserved { me.made ≡ 0 }
         ensures general { result.general ≡ self.entry.general }
         ensures closed { IfOk result.ended (λ r. r.0.general ≡ self.entry.inbox.now.general) }
-        ensures poster { IfOk result.ended (λ r. r.1.table ≡ post.now.table) }
-        ensures his { IfOk result.ended (λ r. r.1.general ≡ self.entry.general) }
+        ensures poster { IfOk result.ended (λ r. r.1.poster.table ≡ post.now.table) }
+        ensures his { IfOk result.ended (λ r. r.1.poster.general ≡ self.entry.general) }
         ensures started { IfErr result.ended (λ e. e ≢ Spawn) }
     {
         let ended = self.do_tasks(rt, alloc, post, poster, me);
@@ -87,7 +90,7 @@ impl<'a, G: Gate, J: Room> Resident<'a, G, J> {
     }
 
     /// Does the tasks that his inbox gives him, until the inbox is closed: nothing else ends them without an error, and
-    /// none of them has failed, since his poster is still there.
+    /// none of them has failed, since his poster is still there. All that was served to him is then told.
     ///
     /// # Errors
     ///
@@ -98,29 +101,36 @@ impl<'a, G: Gate, J: Room> Resident<'a, G, J> {
         alloc: Global,
         post: &Post,
         mut poster: Poster,
-        mut me: Witness<J>,
-    ) -> Result<(Closed, Poster), MusterError>
+        me: Witness<J>,
+    ) -> Result<(Closed, Settled), MusterError>
         requires post { poster.table ≡ post.now.table }
         requires general { poster.general ≡ self.now.general }
+        requires unposted { poster.posted ≡ [] }
+        requires unserved { me.made ≡ 0 }
         ensures closed { IfOk result (λ r. r.0.general ≡ self.now.inbox.now.general) }
-        ensures poster { IfOk result (λ r. r.1.table ≡ post.now.table) }
-        ensures his { IfOk result (λ r. r.1.general ≡ self.now.general) }
+        ensures poster { IfOk result (λ r. r.1.poster.table ≡ post.now.table) }
+        ensures his { IfOk result (λ r. r.1.poster.general ≡ self.now.general) }
         ensures started { IfErr result (λ e. e ≢ Spawn) }
     {
+        let mut server = Gated {
+            rt,
+            gate: self.gate,
+            board: self.board,
+            me,
+            made: Made::new(alloc),
+        };
         for _ in rt.forever() {
             let task = match self.inbox.next(rt) {
                 Ok(task) => task,
-                Err(closed) => return Ok((closed, poster)),
+                Err(closed) => return Ok((closed, server.settle(poster))),
             };
-            let (again, later) = self.do_task(rt, alloc, post, poster, me, task)?;
-            poster = again;
-            me = later;
+            poster = self.do_task(rt, alloc, post, poster, &mut server, task)?;
             self.tally.posted(rt);
         }
         unreachable!()
     }
 
-    /// Does a task: his letter for it is posted.
+    /// Does a task: his letter for it is posted, and tells just what was served to him meanwhile.
     ///
     /// # Errors
     ///
@@ -131,57 +141,51 @@ impl<'a, G: Gate, J: Room> Resident<'a, G, J> {
         alloc: Global,
         post: &Post,
         poster: Poster,
-        me: Witness<J>,
+        server: &mut Gated<'_, R, G, J>,
         task: Task,
-    ) -> Result<(Poster, Witness<J>), MusterError>
+    ) -> Result<Poster, MusterError>
         requires post { poster.table ≡ post.now.table }
         requires general { poster.general ≡ self.now.general }
-        ensures post { IfOk result (λ r. r.0.table ≡ post.now.table) }
-        ensures general { IfOk result (λ r. r.0.general ≡ self.now.general) }
-        ensures done { IfOk result (λ r. (letter : LetterSeen) × IsDone task letter
-            × (r.0.posted ≡ poster.posted ++ letter ∷ [])) }
+        requires told { server.old.made ≡ told_in poster.posted }
+        ensures post { IfOk result (λ poster. poster.table ≡ post.now.table) }
+        ensures general { IfOk result (λ poster. poster.general ≡ self.now.general) }
+        ensures done { IfOk result (λ later. (letter : LetterSeen) × IsDone task letter
+            × (later.posted ≡ poster.posted ++ letter ∷ [])) }
+        ensures told { IfOk result (λ later. server.new.made ≡ told_in later.posted) }
         ensures theirs { task.general ≢ self.now.general → result ≡ Err Unaccounted }
         ensures own { IfErr result (λ e. e ≡ Unaccounted → task.general ≢ self.now.general) }
         ensures started { IfErr result (λ e. e ≢ Spawn) }
     {
-        let (letter, me) = self.letter(rt, alloc, me, task)?;
+        let letter = self.letter(alloc, server, task)?;
         let (poster, sent) = post.post(rt, poster, letter);
         posted(sent)?;
-        Ok((poster, me))
+        Ok(poster)
     }
 
-    /// His letter for a task. The accesses that it tells are among those that the board has served, as they were asked
-    /// and answered there.
+    /// His letter for a task. It tells just the accesses that were served to him meanwhile, as they were asked and
+    /// answered; all that were stand in the board's history.
     ///
     /// # Errors
     ///
     /// `Memory` where memory is refused, `Unaccounted` where the task is not his.
     fn letter<R: Wait>(
         &self,
-        rt: &R,
         alloc: Global,
-        me: Witness<J>,
+        server: &mut Gated<'_, R, G, J>,
         task: Task,
-    ) -> Result<(Letter, Witness<J>), MusterError>
-        ensures general { IfOk result (λ r. r.0.general ≡ self.now.general) }
-        ensures done { IfOk result (λ r. IsDone task r.0) }
-        ensures served { IfOk result (λ r. AreAmong r.0.transcript r.1.seen) }
+    ) -> Result<Letter, MusterError>
+        ensures general { IfOk result (λ letter. letter.general ≡ self.now.general) }
+        ensures done { IfOk result (IsDone task) }
+        ensures served { IfOk result (λ letter. server.new.made ≡ server.old.made ++ letter.transcript) }
+        ensures met { OnOk result (AreAmong server.new.made server.new.seen) }
         ensures theirs { task.general ≢ self.now.general → result ≡ Err Unaccounted }
         ensures own { IfErr result (λ e. e ≡ Unaccounted → task.general ≢ self.now.general) }
         ensures started { IfErr result (λ e. e ≢ Spawn) }
         ensures posted { IfErr result (λ e. e ≢ PostFull) }
     {
         accounted(task.general() == self.general)?;
-        let mut server = Gated {
-            rt,
-            alloc,
-            gate: self.gate,
-            board: self.board,
-            me,
-            made: Made::new(alloc),
-        };
-        let letter = task.letter(alloc, &mut server)?;
-        let Gated { me, .. } = server;
-        Ok((letter, me))
+        let letter = task.letter(alloc, server)?;
+        server.recall();
+        Ok(letter)
     }
 }

@@ -1,4 +1,4 @@
-use Rattle.std.proofs.Common.{◌≡◌, ℕ, suc, List, All, refl, sym, ap, subst, ◌∙◌}
+use Rattle.std.proofs.Common.{◌≡◌, suc, List, All, refl, sym, ap, subst, ◌∙◌}
 use Rattle.board.specs.Board.{Access, IsLegal}
 use Rattle.letter.specs.Letters.{Letter, messages}
 use Rattle.world.specs.Lists.{replayed, names_in}

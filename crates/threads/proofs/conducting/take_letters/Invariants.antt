@@ -1,5 +1,8 @@
-use Rattle.std.proofs.Common.{◌≡◌}
+use Rattle.std.proofs.Common.{◌≡◌, ◌++◌}
 use Rattle.threads.proofs.conducting.take_letters.Given as goal
 
 abbrev pub invariant-loop : goal.invariant-loop
-invariant-loop g l = l.collector.table ≡ l.post.table
+invariant-loop g l = record {
+  post : l.collector.table ≡ l.post.table;
+  taken : l.collector.taken ≡ l.initial.collector.taken ++ l.letters.items;
+}

@@ -1,5 +1,5 @@
 use Rattle.std.proofs.Common.{◌≡◌, ◌<◌, ◌≤◌, ◌+◌, ℕ, [], length, vec_len, slice_index_or}
-use Rattle.std.specs.Prelude.{vec_capacity}
+use Rattle.std.specs.Prelude.{All, vec_capacity}
 use Rattle.post.specs.Seen.{PosterSeen, poster_seen}
 use Rattle.threads.specs.Inboxes.{AreOwn}
 use Rattle.threads.proofs.collecting.fn.through_residents.scope.Given as goal
@@ -11,6 +11,7 @@ invariant-loop-poster g l = record {
   room : length l.initial.posters.items ≤ vec_capacity l.answers;
   fresh : l.answers.items ≡ [];
   witnesses : length l.posters.items ≤ length l.witnesses.items;
+  unserved : All (λ w. w.made ≡ 0) l.witnesses.items;
   inboxes : length l.posters.items ≤ length l.camp.now.inboxes.items;
   own : AreOwn l.camp.now.inboxes.items;
   each : (g : ℕ) (d : PosterSeen) → g < length l.posters.items → slice_index_or l.posters.items g d ≡ poster_seen l.camp.now.post.table g [];
