@@ -75,7 +75,7 @@ general_words g = codes "general " ++ decimal g
 abbrev pub access_words : Access → List ℕ
 access_words a = general_words a.general ++ codes " " ++ asked_words a.request ++ answer_words a.reply
 
-abbrev pub is_copy : Request → Bool
+unfoldable pub is_copy : Request → Bool
 is_copy request = (row_asked request).copies
 
 -- what is written of an access beside the board: all but its general, and the words of a copy

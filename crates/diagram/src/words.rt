@@ -227,6 +227,7 @@ pub(crate) fn put_shown(out: &mut String, access: &Access) -> Result<(), AllocEr
 }
 
 /// Whether words are copied.
+#[tactic(auto, unfolding(crate::specs::Words::is_copy))]
 fn is_copy(request: &Request) -> bool
     ensures { result ≡ is_copy request.now }
 {

@@ -3,7 +3,6 @@ ghost use Rattle.std.specs.Prelude.{◌≡◌};
 
 use crate::scenarios::{first_letters, played};
 use crate::texts::{COLLUDING, SEVEN, SPYING};
-use asking::span;
 use board::Access;
 use letter::Letter;
 use round::{Server, live};
@@ -11,8 +10,7 @@ use semantics::{Reply, Request};
 use std::alloc::{AllocError, Global};
 use world::Chronicle;
 
-/// A server whose replies are these words, one after another. It has no memory for more, nor for a reply that is not one
-/// word.
+/// A server whose replies are these words, one after another. It has no memory for more, nor for a copy.
 #[derive(Drop)]
 struct Answers<'a> {
     words: &'a [u64],
@@ -36,9 +34,12 @@ impl Server for Answers<'_> {
             return Err(AllocError);
         };
         let word = *word;
-        let (_, count) = span(&request);
-        if count != 1 {
-            return Err(AllocError);
+        match &request {
+            Request::Get { .. } => {}
+            Request::Swap { .. } => {}
+            Request::Add { .. } => {}
+            Request::Cas { .. } => {}
+            Request::Copy { .. } => return Err(AllocError),
         }
         self.served.push(Access {
             general,
