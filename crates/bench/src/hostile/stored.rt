@@ -23,15 +23,10 @@ pub fn report<R: Print + Files + AllocGlobal>(rt: &R, files: &[String]) -> Resul
     Ok(())
 }
 
-/// The same of one file, which is bytecode, or assembly of one program or more.
+/// The same of the programs of one file.
 fn report_file<R: Print + Files + AllocGlobal>(rt: &R, file: &str) -> Result<()> {
-    if file.ends_with(".asm") {
-        let text = fs::read_to_string(rt, file)?;
-        answer_all(rt.alloc(), text.as_str())?;
-    } else {
-        let bytes = fs::read(rt, file)?;
-        answer(rt.alloc(), file, bytes.as_slice())?;
-    }
+    let text = fs::read_to_string(rt, file)?;
+    answer_all(rt.alloc(), text.as_str())?;
     println!(rt; "{file}: each beginning and each change answered")?;
     Ok(())
 }
