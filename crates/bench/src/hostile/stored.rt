@@ -23,20 +23,13 @@ pub fn report<R: Print + Files + AllocGlobal>(rt: &R, files: &[String]) -> Resul
     Ok(())
 }
 
-/// The same of one file, which is bytecode, or assembly of one program or more.
+/// The same of the programs of one file.
 fn report_file<R: Print + Files + AllocGlobal>(rt: &R, file: &str) -> Result<()> {
-    if file.ends_with(".asm") {
-        let text = fs::read_to_string(rt, file)?;
-        let programs = programs(rt.alloc(), text.as_str())?;
-        let number = programs.len();
-        answer_all(rt.alloc(), programs.as_slice())?;
-        println!(rt; "{file}, {number} programs: each beginning and each change answered")?;
-        return Ok(());
-    }
-    let bytes = fs::read(rt, file)?;
-    let length = bytes.len();
-    answer(rt.alloc(), file, bytes.as_slice())?;
-    println!(rt; "{file}, {length} bytes: each beginning and each change answered")?;
+    let text = fs::read_to_string(rt, file)?;
+    let programs = programs(rt.alloc(), text.as_str())?;
+    let number = programs.len();
+    answer_all(rt.alloc(), programs.as_slice())?;
+    println!(rt; "{file}, {number} programs: each beginning and each change answered")?;
     Ok(())
 }
 
