@@ -4,11 +4,11 @@
 #![tactic(auto)]
 
 mod answering;
-mod asking;
 mod comparing;
 mod item;
 mod likeness;
 mod lines;
+mod questions;
 mod reading;
 mod report;
 mod respelling;

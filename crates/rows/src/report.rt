@@ -1,7 +1,7 @@
 //! What is printed of a table.
 use crate::answering::answered;
-use crate::asking::difference;
 use crate::item::Key;
+use crate::questions::difference;
 use crate::reading::rows;
 use crate::row::{Call, Row};
 use crate::shelf::{Content, Output, Shelf};
