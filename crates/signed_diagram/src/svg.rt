@@ -46,17 +46,10 @@ pub fn signed_campaign_svg(alloc: Global, chronicle: &SignedChronicle) -> Result
     let wide = width(alloc, generals, accesses)?;
     let bottom = top_of(generals, shown.as_slice(), accesses, rounds);
     let marks = marks(scenario, accesses, shown.as_slice());
-    let is_cut = is_cut(plain.as_slice());
+    let cut = is_cut(plain.as_slice());
     let mut text = String::from_str(alloc, start())?;
     put_box(&mut text, wide + 16, bottom + foot_height(marks))?;
-    put_head(
-        &mut text,
-        scenario,
-        drawn.as_slice(),
-        accesses,
-        marks,
-        is_cut,
-    )?;
+    put_head(&mut text, scenario, drawn.as_slice(), accesses, marks, cut)?;
     put_heads(&mut text, scenario, accesses)?;
     put_bands(
         &mut text,
