@@ -1,10 +1,14 @@
 //! Schedules by which generals come to the board in an order that is listed.
-ghost use Rattle.std.specs.Prelude.{◌≡◌, Err, IfErr, IfOk, string_bytes};
+ghost use Rattle.std.specs.Prelude.{ℕ, ◌≡◌, List, Ok, Err, IfErr, IfOk, string_bytes};
+ghost use Rattle.explore.specs.Schedules.{schedule_from};
+ghost use Rattle.explore.specs.Text.{schedule_text};
 ghost use Rattle.retracing.specs.Accesses.{accesses_told};
 ghost use Rattle.retracing.specs.Arranged.{IfFault, IsArranged, IsListedAt, IsNever, IsUnarranged};
 ghost use Rattle.retracing.specs.declared.fault.AccessFault.{AccessFault as Fault};
 ghost use Rattle.retracing.specs.declared.fault.AccessesError.TheVariants.{At};
+ghost use Rattle.world.specs.Kind.{opening};
 ghost use Rattle.world.specs.Playing.{lists_in};
+ghost use Rattle.world.specs.World.{oral_kind};
 
 use crate::fault::{AccessFault, AccessesError};
 use crate::listing::accesses_of;
@@ -36,6 +40,8 @@ fn never(rows: &[Vec<u8>], round: usize, place: usize) -> AccessFault
 /// cannot come there, or want of memory.
 pub fn arranged(alloc: Global, scenario: &Scenario, text: &str) -> Result<String, AccessesError>
     ensures arranged { IfOk result (λ lines. IsArranged scenario.now text.now (string_bytes lines)) }
+    ensures entries { IfOk result (λ lines. (rows : List (List ℕ)) → accesses_told text.now ≡ Ok rows →
+        string_bytes lines ≡ schedule_text (schedule_from oral_kind (opening oral_kind scenario.now) rows)) }
     ensures unarranged { IfErr result (λ e. IfFault e (IsUnarranged scenario.now text.now)) }
     ensures unlisted { (fault : Fault) → accesses_told text.now ≡ Err fault → result ≡ Err (At fault) }
 {

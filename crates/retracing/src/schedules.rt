@@ -1,10 +1,15 @@
 //! Schedules by which campaigns come again.
-ghost use Rattle.std.specs.Prelude.{◌≡◌, ◌≢◌, IfOk, IfErr, string_bytes};
+ghost use Rattle.std.specs.Prelude.{◌≡◌, ◌≢◌, ◌+◌, IfOk, IfErr, string_bytes};
+ghost use Rattle.explore.specs.Schedules.{schedule_from};
 ghost use Rattle.explore.specs.Text.{schedule_text};
 ghost use Rattle.retracing.specs.Reading.{IsReadAs};
 ghost use Rattle.retracing.specs.Retraced.{ComesAgain, IsLedgerOfRun, IsRetraced};
 ghost use Rattle.trace.specs.Audit.{IsFaultOf};
 ghost use Rattle.trace.specs.Laws.{IsSoundText};
+ghost use Rattle.trace.specs.Names.{chronicle_told};
+ghost use Rattle.world.specs.KindLists.{names_in};
+ghost use Rattle.world.specs.Kind.{opening};
+ghost use Rattle.world.specs.World.{oral_kind};
 ghost use Rattle.trace.specs.declared.fault.TraceError.TheVariants.{Memory};
 
 use board::Access;
@@ -24,6 +29,9 @@ use world::Schedule;
 pub fn retraced(alloc: Global, scenario: &Scenario, text: &str) -> Result<String, TraceError>
     ensures sound { IfOk result (λ _. IsSoundText scenario.now text.now) }
     ensures retraced { IfOk result (λ lines. IsRetraced scenario.now text.now (string_bytes lines)) }
+    ensures entries { IfOk result (λ lines. string_bytes lines ≡ schedule_text (schedule_from oral_kind
+        (opening oral_kind scenario.now)
+        (names_in 1 (chronicle_told scenario.now text.now).accesses (scenario.now.bound + 1)))) }
     ensures unsound { IfErr result (λ e. e ≢ Memory → IsSoundText scenario.now text.now → ⊥) }
     ensures fault { IfErr result (λ e. e ≢ Memory → IsFaultOf scenario.now text.now e) }
 {
@@ -45,6 +53,8 @@ pub fn schedule_of(
 ) -> Result<Schedule, AllocError>
     requires { IsLedgerOfRun scenario.now accesses.now }
     ensures again { IfOk result (λ schedule. ComesAgain scenario.now accesses.now schedule) }
+    ensures entries { IfOk result (λ schedule. schedule ≡ schedule_from oral_kind (opening oral_kind scenario.now)
+        (names_in 1 accesses.now (scenario.now.bound + 1))) }
     ensures read { IfOk result (λ schedule. IsReadAs (schedule_text schedule) schedule) }
 {
     scenario.recall();
