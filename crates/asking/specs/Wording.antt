@@ -22,8 +22,8 @@ row_of w = record {
   copies = w.copies;
 }
 
--- the line of an access, in which N stands for a number: to its end where one word answers, else to the number that tells
--- how many do
+-- the line of an access, in which N stands for a number: to its end where one word answers, else to the number that
+-- tells how many do
 abbrev pub shape_by : List ℕ → List (List ℕ) → Bool → List ℕ
 shape_by word names true = codes "access N " ++ word ++ flat_map (λ _. codes " N") (drop 1 names)
 shape_by word names false = codes "access N " ++ word ++ flat_map (λ _. codes " N") names ++ codes " = N"
@@ -47,7 +47,8 @@ row word names sentence copies = record {
 abbrev pub rows : List Row
 rows =
     row (codes "get") (codes "slot" ∷ []) ((codes "reads word ", 0) ∷ []) false
-    ∷ row (codes "swap") (codes "slot" ∷ codes "value" ∷ []) ((codes "writes ", 1) ∷ (codes " into word ", 0) ∷ []) false
+    ∷ row (codes "swap") (codes "slot" ∷ codes "value" ∷ [])
+    ((codes "writes ", 1) ∷ (codes " into word ", 0) ∷ []) false
     ∷ row (codes "add") (codes "slot" ∷ codes "value" ∷ []) ((codes "adds ", 1) ∷ (codes " to word ", 0) ∷ []) false
     ∷ row (codes "cas") (codes "slot" ∷ codes "expected" ∷ codes "new" ∷ [])
     ((codes "writes ", 2) ∷ (codes " into word ", 0) ∷ (codes " if it is ", 1) ∷ []) false

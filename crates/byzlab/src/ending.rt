@@ -1,10 +1,12 @@
 //! How requests come out. Only what is here makes an `Ending`: of a request that was served, of an exploration that was
 //! kept and printed, of a line that was told.
-ghost use Rattle.std.specs.Prelude.{◌≡◌, ◌≢◌, ◌⊎◌, IfErr, IfOk, IsOk, None, Ok, codes, is_some, true};
+ghost use Rattle.std.specs.Prelude.{◌≡◌, ◌≢◌, ◌⊎◌, IfErr, IfOk, IsOk, IsSomeAnd, None, Ok, codes, false, is_some, true};
 ghost use Rattle.std.specs.Io.KnownBytes.{Appends};
 ghost use Rattle.command_line.specs.Tasks.{schedule_target_of, seed_of};
-ghost use Rattle.lab.specs.Serving.{Tells, files};
-ghost use Rattle.desk.specs.Serving.{IsShown};
+ghost use Rattle.streams.specs.Writing.{AppendsFront};
+ghost use Rattle.lab.specs.Serving.{IsFault, Tells, files};
+ghost use Rattle.desk.specs.Printing.{is_shaped};
+ghost use Rattle.desk.specs.Serving.{IsAnswerUnwritten, IsPrevented, IsRefusalShown, IsShown};
 ghost use Rattle.byzlab.specs.Failures.{IsStatus, failure_of};
 ghost use Rattle.byzlab.specs.Kept.{IsScheduleKept};
 
@@ -86,7 +88,8 @@ pub struct Served<'a> {
 }
 
 impl<'a> Served<'a> {
-    /// Does what is asked for on these files, as `desk::serve` does: prints the answer, or what is at fault.
+    /// Does what is asked for on these files, as `desk::serve` does: prints the answer, or what is at fault. The output
+    /// shows nothing of a write that failed.
     pub fn of<T, R, W, F>(
         threads: &T,
         alloc: Global,
@@ -108,6 +111,22 @@ impl<'a> Served<'a> {
             IsShown request.entry.now (files R.bytes first second) (W.contents out.old.stream)
             (W.contents out.new.stream) }
         ensures quiet { result.ending.status ≡ 0 → fault.new ≡ fault.old }
+        // Neither JSON nor one line is asked for.
+        ensures at_fault { is_shaped request.entry.now ≡ false → result.ending.status ≡ 1 →
+            IsFault (R.fails first) (IsSomeAnd second R.fails) (Unit {0})
+            (AppendsFront (W.contents out.old.stream) (W.contents out.new.stream)) request.entry.now.task
+            (files R.bytes first second) (out.new ≡ out.old)
+            (Tells (F.fails fault.old) (F.contents fault.old) (F.contents fault.new)) }
+        // One of them is.
+        ensures refused { is_shaped request.entry.now ≡ true → result.ending.status ≡ 1 →
+            IsAnswerUnwritten (Unit {0})
+            (Tells (F.fails fault.old) (F.contents fault.old) (F.contents fault.new)) request.entry.now
+            (files R.bytes first second) (W.contents out.old.stream) (W.contents out.new.stream)
+            ⊎ IsPrevented (R.fails first) (IsSomeAnd second R.fails)
+            (IsRefusalShown (fault.new ≡ fault.old) (Unit {0})
+            (Tells (F.fails fault.old) (F.contents fault.old) (F.contents fault.new)) request.entry.now
+            (W.contents out.old.stream) (W.contents out.new.stream))
+            request.entry.now (files R.bytes first second) }
         ensures unprinted { result.ending.status ≡ 3 → out.new ≡ out.old }
         ensures memory { result.ending.status ≡ 3 →
             Tells (F.fails fault.old) (F.contents fault.old) (F.contents fault.new) (codes "out of memory") }

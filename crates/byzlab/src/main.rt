@@ -311,8 +311,8 @@ fn completed<'a>(
     }
 }
 
-/// The bytes of a scenario in which the files stand that it names, for a page behind its story; or, where it names some,
-/// and is refused, and an explanation is asked for, that this was told at its own lines and those of the files.
+/// The bytes of a scenario in which the files stand that it names, for a page behind its story; or, where it names
+/// some, and is refused, and an explanation is asked for, that this was told at its own lines and those of the files.
 fn made<'a>(
     rt: &HostRuntime,
     request: &Request,

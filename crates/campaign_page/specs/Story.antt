@@ -6,7 +6,8 @@ use Rattle.label.specs.Labels.{on}
 abbrev pub is_blank : ℕ → Bool
 is_blank c = c == 32 || (c == 9 || (c == 13 || c == 10))
 
--- how many bytes of its head are left, within a comment or not: a comment goes from a number sign to the end of its line
+-- how many bytes of its head are left, within a comment or not: a comment goes from a number sign to the end of its
+-- line
 abbrev pub bytes_on : Bool → List ℕ → ℕ
 bytes_on within [] = 0
 bytes_on within (c ∷ cs) =

@@ -29,8 +29,8 @@ fn put(place: &mut Insn, read: Result<Insn, Fault>) -> Result<u16, Fault>
     }
 }
 
-/// Puts the instruction that the bytes begin with into the place, and gives how many units it takes. The fields are read
-/// in each case, so that none is read where it is not used.
+/// Puts the instruction that the bytes begin with into the place, and gives how many units it takes. The fields are
+/// read in each case, so that none is read where it is not used.
 #[inline(always)]
 fn meaning(place: &mut Insn, bytes: &[u8]) -> Result<u16, Fault>
     requires { 8 ≤ length bytes.now }

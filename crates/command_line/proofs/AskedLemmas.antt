@@ -15,7 +15,7 @@ use Rattle.clap.specs.Words.{subcommand_of}
 use Rattle.clap.proofs.FaultLemmas.{stopped_fault}
 use Rattle.clap.proofs.OnLiterals.{clap_on_literals}
 use Rattle.command_line.specs.Asked.{spelt, told_in}
-use Rattle.command_line.specs.Lab.{app_before, app_with, lab_app, shape, task_met}
+use Rattle.command_line.specs.Lab.{app_before, app_for, app_with, lab_app, shape, task_met, usages_for}
 use Rattle.command_line.specs.Met.{has_places}
 use Rattle.command_line.specs.Tasks.{Told, has}
 use Rattle.command_line.specs.Usage.{Look, Usage, end_of_flags, long, look_of, plain, short, taken_in, value_at}
@@ -312,3 +312,65 @@ pub rule_agrees : (words : List Text) → LabAgrees (fault_of lab_app words) (su
 rule_agrees words = as_lab (fault_of lab_app words) (subcommand_of lab_app words) (spelt words)
     (subst (λ (a : App). AgreesWith usages (built_fault a nothing_held words) (entered a (stop_after a.top.rules (names_of a) words)) (spelt words))
     (sym (lab_built usages all_clear)) (agrees_in usages all_clear words))
+
+-- ---- the subcommand that the first word names, alone
+
+all_of_one : (usage : Usage) → is_clear usage ≡ true → list_all is_clear (usage ∷ []) ≡ true
+all_of_one usage clear = ap (λ (b : Bool). b && true) clear
+
+found_alone : (word : Text) (usage : Usage) → usage_in usages word ≡ Some usage → usage_in (usage ∷ []) word ≡ Some usage
+found_alone word usage is = ap (λ (b : Bool). cond b (Some usage) None) (find_among (λ usage. bytes_eq usage.name word) usages usage is).1
+
+fault_is : (us : List Usage) → list_all is_clear us ≡ true → (words : List Text) → fault_of (app_with us) words ≡ built_fault (built_app us) nothing_held words
+fault_is us clear words = ap (λ (a : App). built_fault a nothing_held words) (lab_built us clear)
+
+met_with : (us : List Usage) → list_all is_clear us ≡ true → (words : List Text) → subcommand_of (app_with us) words ≡ entered (built_app us) (stop_after top.rules (names_of (built_app us)) words)
+met_with us clear words = ap (λ (a : App). entered a (stop_after a.top.rules (names_of a) words)) (lab_built us clear)
+
+module _ (word : Text) (rest : List Text) (usage : Usage) (is : usage_in usages word ≡ Some usage) where
+  one_clear : list_all is_clear (usage ∷ []) ≡ true
+  one_clear = all_of_one usage (clear_in usages all_clear usages word usage all_clear is)
+
+  fault_alone : fault_of (app_with (usage ∷ [])) (word ∷ rest) ≡ fault_of lab_app (word ∷ rest)
+  fault_alone =
+      fault_is (usage ∷ []) one_clear (word ∷ rest)
+      ∙ (faults_are (usage ∷ []) one_clear word rest usage (found_alone word usage is)
+      ∙ sym (fault_is usages all_clear (word ∷ rest) ∙ faults_are usages all_clear word rest usage is))
+
+  met_alone : subcommand_of (app_with (usage ∷ [])) (word ∷ rest) ≡ subcommand_of lab_app (word ∷ rest)
+  met_alone =
+      met_with (usage ∷ []) one_clear (word ∷ rest)
+      ∙ (met_are (usage ∷ []) one_clear word rest usage (found_alone word usage is)
+      ∙ sym (met_with usages all_clear (word ∷ rest) ∙ met_are usages all_clear word rest usage is))
+
+-- of it alone `clap` answers, and meets, what it does of all
+pub record IsSame (app : App) (words : List Text) : Type 0 where
+  pub fault : fault_of app words ≡ fault_of lab_app words
+  pub met : subcommand_of app words ≡ subcommand_of lab_app words
+
+pub same_for : (words : List Text) → IsSame (app_for words) words
+same_for [] = record { fault = refl; met = refl }
+same_for (word ∷ rest) = go (usage_in usages word) refl
+  where
+    go : (o : Option Usage) → usage_in usages word ≡ o → IsSame (app_with (option_map_or (λ usage. usage ∷ []) o usages)) (word ∷ rest)
+    go None is = record { fault = refl; met = refl }
+    go (Some usage) is = record { fault = fault_alone word rest usage is; met = met_alone word rest usage is }
+
+-- what is true of each subcommand alone, and of all, is true of those of the words
+pub true_for : (P : List Usage → Bool) → P usages ≡ true → list_all (λ usage. P (usage ∷ [])) usages ≡ true → (words : List Text) → P (usages_for words) ≡ true
+true_for P whole each [] = whole
+true_for P whole each (word ∷ rest) = go (usage_in usages word) refl
+  where
+    among : (us : List Usage) (usage : Usage) → list_all (λ usage. P (usage ∷ [])) us ≡ true → usage_in us word ≡ Some usage → P (usage ∷ []) ≡ true
+    among [] usage all is = absurd cc
+    among (first ∷ us) usage all is =
+        let parts = and_parts (P (first ∷ [])) (list_all (λ usage. P (usage ∷ [])) us) all in
+        here parts.0 (among us usage parts.1) (bytes_eq first.name word) is
+      where
+        here : P (first ∷ []) ≡ true → (usage_in us word ≡ Some usage → P (usage ∷ []) ≡ true) → (b : Bool) → cond b (Some first) (usage_in us word) ≡ Some usage → P (usage ∷ []) ≡ true
+        here first_is later true is = let same : first ≡ usage = cc in subst (λ (u : Usage). P (u ∷ []) ≡ true) same first_is
+        here first_is later false is = later is
+
+    go : (o : Option Usage) → usage_in usages word ≡ o → P (option_map_or (λ usage. usage ∷ []) o usages) ≡ true
+    go None is = whole
+    go (Some usage) is = among usages usage each is

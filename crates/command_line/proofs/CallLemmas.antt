@@ -6,23 +6,23 @@ use Rattle.clap.specs.declared.error.kind.ErrorKind.{ErrorKind}
 use Rattle.clap.specs.declared.error.kind.ErrorKind.TheVariants.{OutOfMemory}
 use Rattle.clap.proofs.OnLiterals.{clap_on_literals}
 use Rattle.command_line.specs.Asked.{asked, is_meant, spelt}
-use Rattle.command_line.specs.Lab.{lab_app, task_met}
+use Rattle.command_line.specs.Lab.{app_for, app_with, lab_app, task_met}
 use Rattle.command_line.specs.Met.{has_places}
 use Rattle.command_line.specs.Tasks.{Asks, IfMisuse, IfRefused, IfWords, IsErrorOf, IsMisused, IsToldBy, Told}
 use Rattle.command_line.specs.declared.tasks.Request.{Request}
 use Rattle.command_line.specs.declared.errors.Misuse.{Misuse as MisuseOf}
 use Rattle.command_line.specs.declared.errors.TaskError.{TaskError}
 use Rattle.command_line.specs.declared.errors.TaskError.TheVariants.{Words, Misuse, Memory}
-use Rattle.command_line.proofs.AskedLemmas.{LabAgrees, rule_agrees}
+use Rattle.command_line.proofs.AskedLemmas.{LabAgrees, rule_agrees, same_for, true_for}
 use Rattle.command_line.proofs.MeantLemmas.{misused_not_meant, says_meant}
 
-is_simple_lab : is_simple lab_app ≡ true
+simple_for : (words : List Text) → is_simple (app_for words) ≡ true
 unfolding clap_on_literals
-is_simple_lab = refl
+simple_for = true_for (λ us. is_simple (app_with us)) refl refl
 
-is_free_lab : is_simple_and_free lab_app ≡ true
+free_for : (words : List Text) → is_simple_and_free (app_for words) ≡ true
 unfolding clap_on_literals
-is_free_lab = refl
+free_for = true_for (λ us. is_simple_and_free (app_with us)) refl refl
 
 -- the rule finds the task that was met
 pub record IsFound (words : List Text) (met : Option (Text × List Row)) : Type 0 where
@@ -38,14 +38,14 @@ found_by words (Some task) is none agrees =
     record { task = task; spelt_is = is; met_is = agrees.1; filled = agrees.2 }
 
 -- where `clap` gives matches, the rule finds the task that was met
-pub task_found : (app : App) (words : List Text) (met : Option (Text × List Row)) → app ≡ lab_app
+pub task_found : (app : App) (words : List Text) (met : Option (Text × List Row)) → app ≡ app_for words
     → (is_simple_and_free app ≡ true → fault_of app words ≡ [])
     → (is_simple app ≡ true → met ≡ subcommand_of app words) → IsFound words met
 task_found app words met lab passes meets =
     let none : fault_of lab_app words ≡ [] =
-    sym (ap (λ (a : App). fault_of a words) lab) ∙ passes (ap is_simple_and_free lab ∙ is_free_lab) in
+    sym (ap (λ (a : App). fault_of a words) lab ∙ (same_for words).fault) ∙ passes (ap is_simple_and_free lab ∙ free_for words) in
     let met_is : met ≡ subcommand_of lab_app words =
-    meets (ap is_simple lab ∙ is_simple_lab) ∙ ap (λ (a : App). subcommand_of a words) lab in
+    meets (ap is_simple lab ∙ simple_for words) ∙ (ap (λ (a : App). subcommand_of a words) lab ∙ (same_for words).met) in
     subst (IsFound words) (sym met_is) (found_by words (spelt words) refl none (rule_agrees words))
 
 -- and so a subcommand was met
@@ -60,16 +60,16 @@ none_by words (Some task) k among agrees =
     let bad : IsAmong k [] = subst (IsAmong k) agrees.0 among in absurd bad
 
 -- where `clap` gives an error, and memory was there, its kind is one of those of the words,
-pub kind_among : (app : App) (words : List Text) (k : ErrorKind) → app ≡ lab_app
+pub kind_among : (app : App) (words : List Text) (k : ErrorKind) → app ≡ app_for words
     → (is_simple_and_free app ≡ true → (k ≡ OutOfMemory) ⊎ IsAmong k (fault_of app words))
     → (k ≡ OutOfMemory → ⊥) → IsAmong k (fault_of lab_app words)
-kind_among app words k lab fails apart = elim (fails (ap is_simple_and_free lab ∙ is_free_lab)) [
+kind_among app words k lab fails apart = elim (fails (ap is_simple_and_free lab ∙ free_for words)) [
   | inl memory ↦ absurd (apart memory)
-  | inr among ↦ subst (λ (a : App). IsAmong k (fault_of a words)) lab among
+  | inr among ↦ subst (IsAmong k) (ap (λ (a : App). fault_of a words) lab ∙ (same_for words).fault) among
 ]
 
 -- and the rule finds no task
-pub none_found : (app : App) (words : List Text) (k : ErrorKind) → app ≡ lab_app
+pub none_found : (app : App) (words : List Text) (k : ErrorKind) → app ≡ app_for words
     → (is_simple_and_free app ≡ true → (k ≡ OutOfMemory) ⊎ IsAmong k (fault_of app words))
     → (k ≡ OutOfMemory → ⊥) → asked words ≡ None
 none_found app words k lab fails apart =
@@ -78,14 +78,14 @@ none_found app words k lab fails apart =
 -- ---- what is told of words that `clap` refused so
 
 pub told_unasked : (app : App) (words : List Text) (refusal : Error) (error : TaskError) → IsToldBy refusal error
-    → app ≡ lab_app → (is_simple_and_free app ≡ true → (kind_of refusal ≡ OutOfMemory) ⊎ IsAmong (kind_of refusal) (fault_of app words))
+    → app ≡ app_for words → (is_simple_and_free app ≡ true → (kind_of refusal ≡ OutOfMemory) ⊎ IsAmong (kind_of refusal) (fault_of app words))
     → IfRefused error (asked words ≡ None)
 told_unasked app words refusal (Words own) told lab fails = none_found app words (kind_of refusal) lab fails told.1
 told_unasked app words refusal (Misuse misuse) told lab fails = absurd told
 told_unasked app words refusal Memory told lab fails = tt
 
 pub told_among : (app : App) (words : List Text) (refusal : Error) (error : TaskError) → IsToldBy refusal error
-    → app ≡ lab_app → (is_simple_and_free app ≡ true → (kind_of refusal ≡ OutOfMemory) ⊎ IsAmong (kind_of refusal) (fault_of app words))
+    → app ≡ app_for words → (is_simple_and_free app ≡ true → (kind_of refusal ≡ OutOfMemory) ⊎ IsAmong (kind_of refusal) (fault_of app words))
     → IfWords error (λ own. IsAmong (kind_of own) (fault_of lab_app words))
 told_among app words refusal (Words own) told lab fails =
     subst (λ (e : Error). IsAmong (kind_of e) (fault_of lab_app words)) (sym told.0)

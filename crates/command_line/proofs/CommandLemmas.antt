@@ -1,11 +1,14 @@
 -- What `clap` is told of a subcommand, and of all of them, row by row.
-use Rattle.std.proofs.Common.{◌≡◌, ◌∙◌, ◌+◌, ◌<◌, ◌++◌, ℕ, Bool, false, ◌||◌, List, [], ◌∷◌, ap, ap₂, refl, append-nil, append_assoc, codes, drop, get_or, length, map, sym}
+use Rattle.std.proofs.Common.{◌≡◌, ◌∙◌, ◌+◌, ◌<◌, ◌++◌, ℕ, Bool, true, false, ◌||◌, List, [], ◌∷◌, Option, Some, None, ap, ap₂, refl, append-nil, append_assoc, codes, drop, find, get_or, length, map, sym}
 use Rattle.std.proofs.lemmas.List.{at_drop_more}
+use Rattle.std.specs.Option.{option_map_or}
+use Rattle.std.specs.Prelude.{if◌then◌else◌}
+use Rattle.std.specs.Str.{bytes_eq}
 use Rattle.clap.specs.Words.{App, Rule, Shape, new_app, with_rule, with_subcommand}
-use Rattle.command_line.specs.Lab.{described, flag_rule, lab_app, place_rule, shape}
+use Rattle.command_line.specs.Lab.{app_for, app_with, described, flag_rule, named_in, place_rule, shape, usages_for}
 use Rattle.command_line.specs.Subcommand.{flag_of, rule_for, shape_for, usage_of, with_subcommands}
-use Rattle.command_line.specs.Usage.{Usage}
-use Rattle.command_line.specs.Usages.{usages}
+use Rattle.command_line.specs.Usage.{Text, Usage}
+use Rattle.command_line.specs.Usages.{usage_named, usages}
 use Rattle.command_line.specs.declared.subcommand.Flag.{Flag}
 use Rattle.command_line.specs.declared.subcommand.Place.{Place}
 use Rattle.command_line.specs.declared.subcommand.Subcommand.{Subcommand}
@@ -73,7 +76,39 @@ unfolding shape_for
 usages_are app [] = refl
 usages_are app (row ∷ rest) = usages_are (with_subcommand app (shape (usage_of row))) rest
 
-pub lab_is : (bare lab whole : App) (rows : List Subcommand) → bare ≡ new_app (codes "byzlab") → lab ≡ with_subcommands bare rows → map usage_of rows ≡ usages → whole ≡ described lab → whole ≡ lab_app
-lab_is bare lab whole rows new with all is =
-    let same : described (with_usages (new_app (codes "byzlab")) usages) ≡ lab_app = refl in
-    is ∙ ap described (with ∙ (usages_are bare rows ∙ ap₂ with_usages new all)) ∙ same
+same_app : (words : List Text) → described (with_usages (new_app (codes "byzlab")) (usages_for words)) ≡ app_for words
+same_app [] = refl
+same_app (word ∷ rest) = go (usage_named word)
+  where
+    go : (o : Option Usage) → described (with_usages (new_app (codes "byzlab")) (option_map_or (λ usage. usage ∷ []) o usages)) ≡ app_with (option_map_or (λ usage. usage ∷ []) o usages)
+    go None = refl
+    go (Some usage) = refl
+
+pub lab_is : (words : List Text) (bare lab whole : App) (rows : List Subcommand) → bare ≡ new_app (codes "byzlab") → lab ≡ with_subcommands bare rows → map usage_of rows ≡ usages_for words → whole ≡ described lab
+    → whole ≡ app_for words
+lab_is words bare lab whole rows new with all is =
+    is ∙ ap described (with ∙ (usages_are bare rows ∙ ap₂ with_usages new all)) ∙ same_app words
+
+-- ---- the subcommand of a name
+
+abbrev pub row_named : Text → List Subcommand → Option Usage
+row_named name rows = find (λ usage. bytes_eq usage.name name) (map usage_of rows)
+
+module _ (name : Text) (rows : List Subcommand) (i : ℕ) (d : Subcommand) (less : i < length rows) where
+  abbrev here : Bool → Option Usage
+  here same = if same then Some (usage_of (get_or rows i d)) else row_named name (drop (i + 1) rows)
+
+  pub row_passed : bytes_eq (get_or rows i d).name.now name ≡ false → row_named name (drop (i + 1) rows) ≡ row_named name (drop i rows)
+  row_passed other = sym (at_drop_more (row_named name) rows i d less ∙ ap here other)
+
+  pub row_found : bytes_eq (get_or rows i d).name.now name ≡ true → row_named name (drop i rows) ≡ Some (usage_of (get_or rows i d))
+  row_found same = at_drop_more (row_named name) rows i d less ∙ ap here same
+
+abbrev one_of : List Subcommand → Option Usage → List Usage
+one_of rows found = option_map_or (λ usage. usage ∷ []) found (map usage_of rows)
+
+pub alone_named : (name : Text) (rows one : List Subcommand) (row : Subcommand) → one ≡ row ∷ [] → row_named name rows ≡ Some (usage_of row) → map usage_of one ≡ named_in (map usage_of rows) name
+alone_named name rows one row is found = ap (map usage_of) is ∙ sym (ap (one_of rows) found)
+
+pub none_named : (name : Text) (rows : List Subcommand) → row_named name rows ≡ None → map usage_of rows ≡ named_in (map usage_of rows) name
+none_named name rows none = sym (ap (one_of rows) none)

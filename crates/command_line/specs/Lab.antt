@@ -1,5 +1,5 @@
 -- The command line as `clap` is told of it.
-use Rattle.std.specs.Prelude.{Bool, true, false, List, [], ◌++◌, Option, Some, None, codes, find, if◌then◌else◌, map, option_map, slice_get}
+use Rattle.std.specs.Prelude.{Bool, true, false, List, [], ◌∷◌, ◌++◌, Option, Some, None, codes, find, if◌then◌else◌, map, option_map, slice_get}
 use Rattle.std.specs.Option.{option_map_or}
 use Rattle.std.specs.Str.{bytes_eq}
 use Rattle.clap.specs.declared.builder.action.ArgAction.TheVariants.{SetTrue}
@@ -48,6 +48,18 @@ app_with usages = record { top = record app_before.top { is_leaf = false }; subs
 
 abbrev pub lab_app : App
 lab_app = app_with usages
+
+-- the one of this name, and else all
+abbrev pub named_in : List Usage → Text → List Usage
+named_in us name = option_map_or (λ usage. usage ∷ []) (find (λ usage. bytes_eq usage.name name) us) us
+
+-- the program as `clap` is told of it: with the subcommand that the first word names, and else with all
+abbrev pub usages_for : List Text → List Usage
+usages_for [] = usages
+usages_for (name ∷ words) = named_in usages name
+
+abbrev pub app_for : List Text → App
+app_for words = app_with (usages_for words)
 
 -- ---- what `clap` met
 

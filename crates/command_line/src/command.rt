@@ -1,11 +1,12 @@
 ghost use Rattle.std.specs.Prelude.{◌≡◌, IfOk, IsSomeAnd, Some, codes, option_map, string_bytes};
 ghost use Rattle.clap.specs.Words.{app_of};
 ghost use Rattle.clap.specs.declared.builder.command.Command.TheViews.{out-Command};
-ghost use Rattle.command_line.specs.Lab.{described, lab_about, lab_app, lab_version};
+ghost use Rattle.command_line.specs.Asked.{words_of};
+ghost use Rattle.command_line.specs.Lab.{app_for, described, lab_about, lab_version};
 ghost use Rattle.command_line.specs.Subcommand.{with_subcommands};
 
 use crate::subcommand::Subcommand;
-use crate::subcommands::subcommands;
+use crate::subcommands::subcommands_for;
 use clap::Command;
 use std::alloc::{AllocError, Global};
 
@@ -16,14 +17,14 @@ const ABOUT: &str =
 /// What `--version` says: the version, and the line of the toolchain that proves this one (`rt version`).
 const VERSION: &str = "1.0.0, proved with Rattle, logic dac8208d650f15bf";
 
-/// The program's command line.
-pub(crate) fn lab_command<'a>(alloc: Global) -> Result<Command<'a>, AllocError>
-    ensures shape { IfOk result (λ c. app_of c ≡ lab_app) }
+/// The command line of these words: with the subcommand that the first one names, and else with all.
+pub(crate) fn lab_command<'a>(alloc: Global, words: &[&str]) -> Result<Command<'a>, AllocError>
+    ensures shape { IfOk result (λ c. app_of c ≡ app_for (words_of words.now)) }
     ensures about { IfOk result (λ c. option_map (λ text. text.now) (out-Command c).about ≡ Some lab_about) }
     ensures version { IfOk result (λ c. option_map (λ text. text.now) (out-Command c).version ≡ Some lab_version) }
     ensures name { IfOk result (λ c. IsSomeAnd (out-Command c).bin_name (λ name. string_bytes name ≡ codes "byzlab")) }
 {
-    let lab = with_subcommands(alloc, Command::new(alloc, "byzlab"), subcommands())?;
+    let lab = with_subcommands(alloc, Command::new(alloc, "byzlab"), subcommands_for(words))?;
     described(lab)
 }
 

@@ -35,7 +35,7 @@ pub fn request(alloc: Global, words: &[&str]) -> Result<Request, TaskError>
     ensures misused { IfErr result (λ error. IfMisuse error (λ misuse.
         IsSomeAnd (spelt (words_of words.now)) (λ told. IsMisused told misuse))) }
 {
-    let lab = lab_command(alloc)?;
+    let lab = lab_command(alloc, words)?;
     match lab.try_get_matches_from(words) {
         Ok(matches) => Met::of(&matches).request(alloc),
         Err(error) => Err(refused(error)),

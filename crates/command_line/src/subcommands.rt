@@ -1,9 +1,12 @@
 //! The subcommands, a row each.
 ghost use Rattle.std.specs.Prelude.{◌≡◌, map};
+ghost use Rattle.command_line.specs.Asked.{words_of};
+ghost use Rattle.command_line.specs.Lab.{named_in, usages_for};
 ghost use Rattle.command_line.specs.Subcommand.{usage_of};
 ghost use Rattle.command_line.specs.Usages.{usages};
 
 use crate::subcommand::{Flag, Place, Subcommand};
+use std::slice;
 
 const EXPLAIN: &str =
     "Tells what is known of the registers that are read, and what a refused instruction misses";
@@ -403,4 +406,29 @@ pub(crate) fn subcommands() -> &'static [Subcommand<'static>]
     &[
         CHECK, ASM, DIS, BOOK, TABLE, MUSTER, PLAY, AUDIT, EXPLORE, TREE, DRAW, PAGE, SCHEDULE,
     ]
+}
+
+/// The subcommand that the first word names, and else all.
+pub(crate) fn subcommands_for(words: &[&str]) -> &'static [Subcommand<'static>]
+    ensures { map usage_of result.now ≡ usages_for (words_of words.now) }
+{
+    let Some((name, _rest)) = words.split_first() else {
+        return subcommands();
+    };
+    named_among(name, subcommands())
+}
+
+/// The subcommand of this name alone, and else all of these.
+fn named_among(
+    name: &str,
+    subcommands: &'static [Subcommand<'static>],
+) -> &'static [Subcommand<'static>]
+    ensures { map usage_of result.now ≡ named_in (map usage_of subcommands.now) name.now }
+{
+    for subcommand in subcommands {
+        if subcommand.name == name {
+            return slice::from_ref(subcommand);
+        }
+    }
+    subcommands
 }

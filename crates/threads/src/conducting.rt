@@ -74,8 +74,8 @@ fn tasks(alloc: Global, scenario: &Scenario, told: &Told) -> Result<Vec<Task>, A
     Ok(tasks)
 }
 
-/// The letters that it takes out of the post until it finds none, all of them, ascending by general. No more is promised
-/// of them here: they are tested where they are told, and judged at the end.
+/// The letters that it takes out of the post until it finds none, all of them, ascending by general. No more is
+/// promised of them here: they are tested where they are told, and judged at the end.
 fn take_letters<R: Wait>(
     rt: &R,
     alloc: Global,

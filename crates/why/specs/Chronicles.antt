@@ -1,5 +1,5 @@
 -- What is said of a fault of a schedule or a chronicle.
-use Rattle.std.specs.Prelude.{ℕ, List, Bool, true, false, ◌==◌, if◌then◌else◌, Option, None, Some, codes, length, option_map, take}
+use Rattle.std.specs.Prelude.{ℕ, List, ◌++◌, Bool, true, false, ◌==◌, if◌then◌else◌, Option, None, Some, codes, length, option_map, take}
 use Rattle.text.specs.Stop.{feed}
 use Rattle.text.specs.Parts.{pieces}
 use Rattle.trace.specs.declared.fault.Fault.{Fault}
@@ -11,8 +11,9 @@ use Rattle.why.specs.Report.{has_words, report_text, shown_line}
 -- ---- of a schedule
 
 abbrev pub schedule_sentence : List ℕ
-schedule_sentence = codes
-    "a line is entries with one space between them, `G` or `G*K` for K of them, G being 0 to 12 and K 1 to 4096; a schedule has at most 5 lines and 1048576 bytes"
+schedule_sentence =
+    codes "a line is entries with one space between them, `G` or `G*K` for K of them, G being 0 to 12 and K 1 to 4096; "
+    ++ codes "a schedule has at most 5 lines and 1048576 bytes"
 
 abbrev pub schedule_advice : ℕ → List ℕ → Option (List ℕ)
 schedule_advice number line =

@@ -53,7 +53,8 @@ steps_of _ = 0
 -- a general's letter, or none, from his part and the round's accesses
 abbrev pub letter_held : Kind → Scenario → List (List Letter) → List Access → ℕ → Option Part → List Letter
 letter_held K s closed accesses g part =
-    letter_of_part (λ a. letter_left g (suc (length closed)) (accesses_of g accesses) a) (loyal_letter K s closed g) part
+    letter_of_part (λ a. letter_left g (suc (length closed)) (accesses_of g accesses) a) (loyal_letter K s closed g)
+    part
 
 -- the letters of a round
 abbrev pub letters_held : Kind → Scenario → List (List Letter) → List Access → List Part → List Letter

@@ -1,8 +1,9 @@
 use Rattle.std.proofs.lemmas.Result.{IfOk-weaker}
 use Rattle.clap.specs.Words.{app_of}
+use Rattle.command_line.specs.Asked.{words_of}
 use Rattle.command_line.proofs.CommandLemmas.{lab_is}
 use Rattle.command_line.proofs.command.lab_command.Goals as goal
 
 pub returns-clause-shape : goal.returns-clause-shape
 returns-clause-shape c = IfOk-weaker c.described.result _ _
-    (λ whole is. lab_is (app_of c.new.result) (app_of c.in_ok-lab.lab) (app_of whole) c.subcommands.result.now c.new.ensures.app c.in_ok-lab.ensures c.subcommands.ensures is) c.described.ensures.shape
+    (λ whole is. lab_is (words_of c.args.words.now) (app_of c.new.result) (app_of c.in_ok-lab.lab) (app_of whole) c.subcommands_for.result.now c.new.ensures.app c.in_ok-lab.ensures c.subcommands_for.ensures is) c.described.ensures.shape
