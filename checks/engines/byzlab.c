@@ -30,7 +30,7 @@ static uint64_t run(void *loaded, const struct program *program, unsigned times)
     size_t length = (size_t)times * CONTEXT;
     (void)loaded;
     if (byzlab_run_many(program->bytes, program->length, contexts, length, &fault, outcomes, times)) abort();
-    return outcomes[times - 1].r0;
+    return times ? outcomes[times - 1].r0 : 0;
 }
 
 /* The line of an explanation that says why: the last that begins with a unit; notes and helps stand below it. */

@@ -27,7 +27,7 @@ struct engine {
     /* What the engine makes of a program that it accepts; NULL where it refuses it. */
     void *(*load)(const struct program *);
     void (*unload)(void *);
-    /* Runs it so many times; r0 of the last. */
+    /* Runs it so many times, which may be 0; r0 of the last. */
     uint64_t (*run)(void *, const struct program *, unsigned times);
     /* Why the last program was refused, in a line; NULL where the engine does not say. */
     const char *(*why)(const struct program *);

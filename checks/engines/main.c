@@ -170,11 +170,13 @@ static double loads(const struct engine *engine, const struct program *program, 
     return (now(engine) - begun) / times;
 }
 
-/* The time of one of so many runs, with its share of what a call does before the first. */
+/* The time of one of so many runs, without what a call does before the first. */
 static double runs(const struct engine *engine, void *loaded, const struct program *program, unsigned times) {
     double begun = now(engine);
+    engine->run(loaded, program, 0);
+    double before = now(engine);
     engine->run(loaded, program, times);
-    return (now(engine) - begun) / times;
+    return (now(engine) - before - (before - begun)) / times;
 }
 
 /* How often something of this time is to be done for a stretch. */
