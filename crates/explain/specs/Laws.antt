@@ -1,6 +1,6 @@
 -- Laws of explanations.
-use Rattle.std.specs.Prelude.{ℕ, ℤ, ◌≡◌, ◌+◌, ◌<◌, List, Some, None, length, IsSome}
-use Rattle.asm.specs.Helper.{helper_of as number_of}
+use Rattle.std.specs.Prelude.{ℕ, ℤ, pos, ◌≡◌, ◌+◌, ◌<◌, List, Some, None, length, IsSome}
+use Rattle.asm.specs.Helper.{helpers, helper_of as number_of}
 use Rattle.insn.specs.declared.insn.Insn.{Insn}
 use Rattle.insn.specs.Program.{slots_of, instruction_at}
 use Rattle.semantics.specs.Call.{helper_of}
@@ -35,8 +35,9 @@ abbrev pub HelpsMend : Type 0
 HelpsMend = (program : List Insn) (place unit : ℕ) (edits : List Edit) (edit : Edit) (trial : Trial) →
     best program place unit edits ≡ Some (edit, trial) → Mends program place unit edit trial
 
--- the assembler takes a helper's name for the number of that helper
-abbrev pub NamesAreRead : Type 0
-NamesAreRead =
-    (helper : Helper)
-    → (number : ℤ) × (helper_of number ≡ Some helper) × (number_of (helper_name helper) ≡ Some number)
+-- the assembler takes a helper's name for the number of that helper, and has as many names as there are helpers
+pub record NamesAreRead : Type 0 where
+  pub read : (helper : Helper) →
+      (number : ℤ) × (helper_of number ≡ Some helper) × (number_of (helper_name helper) ≡ Some number)
+  pub all : IsSome (helper_of (pos (length helpers)))
+  pub behind : helper_of (pos (length helpers + 1)) ≡ None

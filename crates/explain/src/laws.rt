@@ -11,7 +11,7 @@ pub fn helps_mend()
     ensures { HelpsMend }
 {}
 
-/// By the name of a helper the assembler knows it.
+/// By the name of a helper the assembler knows it, and it has as many names as there are helpers.
 pub fn names_are_read()
     ensures { NamesAreRead }
 {}

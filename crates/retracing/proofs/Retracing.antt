@@ -1,5 +1,5 @@
 -- The schedule of a chronicle's accesses.
-use Rattle.std.proofs.Common.{◌≡◌, ◌<◌, ◌≤◌, ℕ, zero, suc, List, length, refl, sym, ap, subst, arith}
+use Rattle.std.proofs.Common.{◌≡◌, ◌<◌, ◌≤◌, ℕ, zero, suc, List, length, refl, sym, ap, ◌∙◌, subst, arith}
 use Rattle.std.specs.Prelude.{All}
 use Rattle.board.specs.Board.{Access}
 use Rattle.roster.specs.Scenario.{Scenario, IsScenario}
@@ -11,6 +11,7 @@ use Rattle.world.specs.World.{oral_kind}
 use Rattle.world.proofs.Campaigns.{oral_campaigns}
 use Rattle.world.proofs.Lasting.{replayed_complete}
 use Rattle.world.proofs.Replaying.{runs_are_replays}
+use Rattle.explore.specs.Schedules.{schedule_from}
 use Rattle.explore.specs.Text.{schedule_text}
 use Rattle.trace.specs.Names.{chronicle_told, names_of}
 use Rattle.retracing.specs.Reading.{IsReadAs}
@@ -35,10 +36,12 @@ few s accesses is h =
     let most = is.few in
     subst (λ (accesses : List Access). All (λ a. a.general < 256) accesses) h.2 (λ k d lt. let e = own k d lt in omega arith)
 
-pub retraced_by : (s : Scenario) (t : List ℕ) (accesses : List Access) (schedule : List (List Repeat)) → {lines : List ℕ} → IsScenario s → accesses ≡ (chronicle_told s t).accesses → ComesAgain s accesses schedule → IsReadAs (schedule_text schedule) schedule → lines ≡ schedule_text schedule → IsRetraced s t lines
+pub retraced_by : (s : Scenario) (t : List ℕ) (accesses : List Access) (schedule : List (List Repeat)) → {lines : List ℕ} → IsScenario s → accesses ≡ (chronicle_told s t).accesses → ComesAgain s accesses schedule
+    → schedule ≡ schedule_from oral_kind (opening_of oral_kind s) (names_in 1 accesses (suc s.bound)) → IsReadAs (schedule_text schedule) schedule → lines ≡ schedule_text schedule → IsRetraced s t lines
 unfolding chronicle_told
-retraced_by s t accesses schedule is e comes read written = record {
+retraced_by s t accesses schedule is e comes entries read written = record {
   schedule = schedule;
+  entries = entries ∙ ap (λ (accesses : List Access). schedule_from oral_kind (opening_of oral_kind s) (names_in 1 accesses (suc s.bound))) e;
   written = written;
   read = subst (λ (l : List ℕ). IsReadAs l schedule) (sym written) read;
   again = ap chronicle_of (comes (replayed s (names_of t)) (replayed_complete oral_kind s (oral_campaigns s is) (names_of t)) (sym e));

@@ -17,7 +17,7 @@ use Rattle.world.proofs.Campaigns.{oral_campaigns}
 use Rattle.explore.specs.Orders.{past, behind, IsRoundFrom, IsFrom}
 use Rattle.explore.specs.Text.{schedule_text}
 use Rattle.explore.specs.Walks.{IsWalk, AreWalks, IsStuckAt, IsStuckIn}
-use Rattle.explore.specs.Planning.{IsPlan}
+use Rattle.explore.specs.Planning.{IsPlan, IsScheduleOf}
 use Rattle.explore.specs.declared.scheduled.Scheduled.TheVariants.{By}
 use Rattle.explore.proofs.Deciding.{to_steps}
 use Rattle.explore.proofs.Leading.{replay_completes}
@@ -88,8 +88,8 @@ first_that_cannot s rows round place is h = record {
 }
 
 pub arranged_by : (s : Scenario) (text : List ℕ) (rows : List (List ℕ)) (schedule : List (List Repeat)) (lines : List ℕ) → accesses_told text ≡ Ok rows
-    → AreWalks oral_kind (opening oral_kind s) rows → IsPlan oral_kind s rows (By schedule) → IsReadAs (schedule_text schedule) schedule → lines ≡ schedule_text schedule → IsArranged s text lines
-arranged_by s text rows schedule lines told walks plan read written = (rows, told, record { walks = walks; schedule = schedule; written = written; read = subst (λ (l : List ℕ). IsReadAs l schedule) (sym written) read; comes = plan.1 })
+    → IsScheduleOf oral_kind (opening oral_kind s) rows (By schedule) → IsPlan oral_kind s rows (By schedule) → IsReadAs (schedule_text schedule) schedule → lines ≡ schedule_text schedule → IsArranged s text lines
+arranged_by s text rows schedule lines told made plan read written = (rows, told, record { walks = made.0; schedule = schedule; entries = made.1; written = written; read = subst (λ (l : List ℕ). IsReadAs l schedule) (sym written) read; comes = plan.1 })
 
 pub unarranged_by : (s : Scenario) (text : List ℕ) (rows : List (List ℕ)) (round place : ℕ) (fault : AccessFault) → IsScenario s → accesses_told text ≡ Ok rows
     → IsStuckIn oral_kind (opening oral_kind s) rows round place → IsNever rows round place fault → IsUnarranged s text fault

@@ -7,6 +7,7 @@ use Rattle.world.specs.KindLists.{listed, replayed}
 use Rattle.world.specs.Schedules.{lines_by}
 use Rattle.world.specs.World.{oral_kind}
 use Rattle.explore.specs.Orders.{IsOrder, order_of}
+use Rattle.explore.specs.Schedules.{schedule_from}
 use Rattle.explore.specs.Text.{schedule_text}
 use Rattle.explore.specs.Walks.{AreWalks, Continues, IsCompletion, IsStuckIn}
 use Rattle.retracing.specs.Reading.{IsReadAs}
@@ -42,10 +43,11 @@ pub record IsFirstThatCannot (s : Scenario) (rows : List (List ℕ)) (round plac
   pub never : (order : List (List ℕ)) → IsOrder oral_kind s order → BeginsSo rows round place order → ⊥
 
 -- the accesses can come, so none is listed past the last round; and the lines are the text of a schedule by which they
--- come in this order in each round, and behind them the others' by number
+-- come in this order in each round, and behind them the others' by number: it has one entry for each that is listed
 pub record IsArrangement (s : Scenario) (rows : List (List ℕ)) (lines : List ℕ) : Type 0 where
   pub walks : AreWalks oral_kind (opening oral_kind s) rows
   pub schedule : List (List Repeat)
+  pub entries : schedule ≡ schedule_from oral_kind (opening oral_kind s) rows
   pub written : lines ≡ schedule_text schedule
   pub read : IsReadAs lines schedule
   pub comes : IsCompletion rows (order_of oral_kind s (listed s (lines_by schedule)))

@@ -1,13 +1,14 @@
 -- Schedules by which a campaign comes again (own).
-use Rattle.std.specs.Prelude.{ℕ, ◌≡◌, List}
+use Rattle.std.specs.Prelude.{ℕ, suc, ◌≡◌, List}
 use Rattle.board.specs.Board.{Access}
 use Rattle.roster.specs.Scenario.{Scenario}
 use Rattle.world.specs.declared.event.Event.{Event}
 use Rattle.world.specs.declared.schedule.Repeat.{Repeat}
 use Rattle.world.specs.Chronicle.{chronicle_of}
-use Rattle.world.specs.Lists.{IsComplete, listed}
+use Rattle.world.specs.Lists.{IsComplete, listed, names_in}
 use Rattle.world.specs.Schedules.{lines_by}
-use Rattle.world.specs.World.{opening, run}
+use Rattle.world.specs.World.{oral_kind, opening, run}
+use Rattle.explore.specs.Schedules.{schedule_from}
 use Rattle.explore.specs.Text.{schedule_text}
 use Rattle.trace.specs.Names.{chronicle_told}
 use Rattle.retracing.specs.Reading.{IsReadAs}
@@ -22,9 +23,12 @@ ComesAgain s accesses schedule =
     (events : List Event) → IsComplete s events → (run (opening s) events).ledger ≡ accesses →
     run (opening s) (listed s (lines_by schedule)) ≡ run (opening s) events
 
--- the lines are the text of a schedule by which the campaign has the chronicle that a text tells
+-- the lines are the text of a schedule by which the campaign has the chronicle that a text tells: it has one entry for
+-- each access, in their order
 pub record IsRetraced (s : Scenario) (text lines : List ℕ) : Type 0 where
   pub schedule : List (List Repeat)
+  pub entries : schedule ≡ schedule_from oral_kind (opening s)
+      (names_in 1 (chronicle_told s text).accesses (suc s.bound))
   pub written : lines ≡ schedule_text schedule
   pub read : IsReadAs lines schedule
   pub again : chronicle_of (run (opening s) (listed s (lines_by schedule))) ≡ chronicle_told s text

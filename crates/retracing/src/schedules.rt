@@ -1,11 +1,15 @@
 //! Schedules by which campaigns come again.
-ghost use Rattle.std.specs.Prelude.{◌≡◌, ◌≢◌, IfOk, IfErr, string_bytes};
+ghost use Rattle.std.specs.Prelude.{◌≡◌, ◌≢◌, suc, IfOk, IfErr, string_bytes};
+ghost use Rattle.explore.specs.Schedules.{schedule_from};
 ghost use Rattle.explore.specs.Text.{schedule_text};
 ghost use Rattle.retracing.specs.Reading.{IsReadAs};
 ghost use Rattle.retracing.specs.Retraced.{ComesAgain, IsLedgerOfRun, IsRetraced};
 ghost use Rattle.trace.specs.Audit.{IsFaultOf};
 ghost use Rattle.trace.specs.Laws.{IsSoundText};
 ghost use Rattle.trace.specs.declared.fault.TraceError.TheVariants.{Memory};
+ghost use Rattle.world.specs.Kind.{opening};
+ghost use Rattle.world.specs.KindLists.{names_in};
+ghost use Rattle.world.specs.World.{oral_kind};
 
 use board::Access;
 use explore::{Scheduled, order_in, recall_short, schedule_names, schedule_text};
@@ -45,6 +49,8 @@ pub fn schedule_of(
 ) -> Result<Schedule, AllocError>
     requires { IsLedgerOfRun scenario.now accesses.now }
     ensures again { IfOk result (λ schedule. ComesAgain scenario.now accesses.now schedule) }
+    ensures entries { IfOk result (λ schedule. schedule ≡ schedule_from oral_kind (opening oral_kind scenario.now)
+        (names_in 1 accesses.now (suc scenario.now.bound))) }
     ensures read { IfOk result (λ schedule. IsReadAs (schedule_text schedule) schedule) }
 {
     scenario.recall();

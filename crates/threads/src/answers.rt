@@ -1,5 +1,6 @@
 //! What the answers of others come to: which error stands for them.
-ghost use Rattle.std.specs.Prelude.{◌≡◌, ◌≤◌, ◌+◌, ◌++◌, ◌∷◌, [], length, Ok, Err, IsSomeAnd, MatchBool, MatchOption, MatchResult};
+ghost use Rattle.std.specs.Prelude.{◌≡◌, ◌≤◌, ◌+◌, ◌++◌, ◌∷◌, [], find, is_some, length, Ok, Err, IsSomeAnd, MatchBool, MatchOption, MatchResult};
+ghost use Rattle.threads.specs.Answers.{ended_as, first_failure};
 ghost use Rattle.threads.specs.declared.error.MusterError.TheVariants.{Memory, Unaccounted, Spawn, Post};
 
 use crate::error::MusterError;
@@ -67,4 +68,26 @@ pub(crate) fn kept<H: Drop, E: Drop>(handles: &mut Vec<H>, started: Result<H, E>
         },
     };
     Some(Refused { error })
+}
+
+/// What a muster ends with: why a thread was not started, where one was not; else by what the lowest general has failed
+/// who has; else what was conducted. These have failed by general, ascending.
+pub fn ended<T: Drop>(
+    refused: Option<MusterError>,
+    failures: &[Option<MusterError>],
+    outcome: Result<T, MusterError>,
+) -> Result<T, MusterError>
+    ensures { result ≡ ended_as refused (first_failure failures.now) outcome }
+{
+    match refused.or(first_failed(failures).flatten()) {
+        Some(error) => Err(error),
+        None => outcome,
+    }
+}
+
+/// The first of these that is a failure.
+fn first_failed(failures: &[Option<MusterError>]) -> Option<Option<MusterError>>
+    ensures { result ≡ find (λ failure. is_some failure) failures.now }
+{
+    failures.iter().copied().find(|failure| failure.is_some())
 }

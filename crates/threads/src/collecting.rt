@@ -75,6 +75,7 @@ fn through_residents<R: Threads + Wait + Sync, G: Gate + Sync, J: Room + Send + 
     requires own { AreOwn camp.now.inboxes.items }
     requires collector { collector.table ≡ camp.now.post.table }
     ensures all { IfOk result (λ ending. ending.refused ≡ None → length ending.answers.items ≡ length posters.items) }
+    ensures few { IfOk result (λ ending. length ending.answers.items ≤ 13) }
     ensures ascending { IfOk result (λ ending. AreAscending ending.answers.items) }
     ensures rounds { IfOk result
         (λ ending. IfOk ending.outcome (λ r. length r.0.items ≡ suc scenario.now.bound)) }
@@ -98,6 +99,7 @@ fn through_residents<R: Threads + Wait + Sync, G: Gate + Sync, J: Room + Send + 
             requires own { AreOwn camp.now.inboxes.items }
             requires collector { collector.table ≡ camp.now.post.table }
             ensures all { result.refused ≡ None → length result.answers.items ≡ length posters.entry.items }
+            ensures few { length result.answers.items ≤ 13 }
             ensures ascending { AreAscending result.answers.items }
             ensures rounds { IfOk result.outcome (λ r. length r.0.items ≡ suc scenario.entry.now.bound) }
             ensures told { IfOk result.outcome (λ r. WasTold scenario.entry.now r.0.items r.1) }

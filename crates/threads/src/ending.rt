@@ -1,10 +1,11 @@
 //! What a campaign by threads has come to.
-ghost use Rattle.std.specs.Prelude.{◌≡◌, find, is_some, map};
+ghost use Rattle.std.specs.Prelude.{◌≡◌, ◌≤◌, length, map, option_map};
 ghost use Rattle.threads.specs.Answers.{ended_as, failure_of, first_failure};
 
-use crate::answers::Refused;
+use crate::answers::{Refused, ended};
 use crate::error::MusterError;
 use crate::resident::Answer;
+use arrayvec::ArrayVec;
 use delivery::Told;
 use letter::Round;
 
@@ -36,30 +37,24 @@ impl Ending {
 
     /// What was conducted, unless not all threads were started, or a general has failed.
     pub(crate) fn told(self) -> Result<(Vec<Round>, Told), MusterError>
-        ensures { result ≡ ended_as self.refused (first_failure self.answers.items) self.outcome }
+        requires { length self.answers.items ≤ 13 }
+        ensures { result ≡ ended_as (option_map (λ r. r.error) self.refused)
+            (first_failure (map failure_of self.answers.items)) self.outcome }
     {
-        let failed = first_failure(self.answers.as_slice());
-        match (self.refused, failed) {
-            (Some(refused), _) => Err(refused.error()),
-            (None, Some(error)) => Err(error),
-            (None, None) => self.outcome,
-        }
+        let failures = failures(self.answers.as_slice());
+        let refused = self.refused.map(|refused| refused.error());
+        ended(refused, failures.as_slice(), self.outcome)
     }
 }
 
-/// By what the lowest general has failed who has, where these are by general, ascending.
-fn first_failure(answers: &[Answer]) -> Option<MusterError>
-    ensures { result ≡ first_failure answers.now }
+/// By what each has failed, if he has.
+fn failures(answers: &[Answer]) -> ArrayVec<Option<MusterError>, 13>
+    requires { length answers.now ≤ 13 }
+    ensures { result.items ≡ map failure_of answers.now }
 {
-    first_failed(answers).flatten()
-}
-
-/// The first of their failures.
-fn first_failed(answers: &[Answer]) -> Option<Option<MusterError>>
-    ensures { result ≡ find (λ failure. is_some failure) (map failure_of answers.now) }
-{
-    answers
-        .iter()
-        .map(|answer| answer.failure())
-        .find(|failure| failure.is_some())
+    let mut failures = ArrayVec::new();
+    for answer in answers {
+        failures.push(answer.failure());
+    }
+    failures
 }

@@ -19,6 +19,7 @@ mod taking;
 mod tally;
 mod task;
 
+pub use answers::ended;
 pub use error::MusterError;
 pub use gate::{Gate, Open};
 pub use gathering::gather;

@@ -9,7 +9,7 @@ use board::Access;
 use std::alloc::Global;
 use std::sync::Wait;
 use std::thread::Threads;
-use threads::{MusterError, Open, muster_with};
+use threads::{MusterError, Open, ended, muster_with};
 use world::Chronicle;
 
 /// The keys of seven generals, the first reply, how many accesses there are, and how often the campaign is mustered.
@@ -18,6 +18,31 @@ const COLLUSIONS: &[(&str, u64, usize, u32)] = &[
     (SEVEN_AND_THREE_STEPS, 0, 6, 1),
     (SEVEN_AND_TWO_STEPS, 0, 0, 1),
     (SEVEN_ON_A_BOARD, 5, 6, 1),
+];
+
+/// Why a thread was not started, by what each general has failed, and what is told where the letters are not all there.
+const FAILURES: &[(Option<MusterError>, &[Option<MusterError>], MusterError)] = &[
+    (
+        None,
+        &[
+            None,
+            Some(MusterError::Post),
+            None,
+            Some(MusterError::Memory),
+        ],
+        MusterError::Post,
+    ),
+    (
+        None,
+        &[None, Some(MusterError::Memory), Some(MusterError::Post)],
+        MusterError::Memory,
+    ),
+    (
+        Some(MusterError::Spawn),
+        &[None, Some(MusterError::Post)],
+        MusterError::Spawn,
+    ),
+    (None, &[None, None], MusterError::Unaccounted),
 ];
 
 /// Whether two of the accesses are in each round.
@@ -99,4 +124,13 @@ fn a_thread_that_cannot_start(rt: HostRuntime) {
     let alloc = rt.alloc();
     assert!(rt; cannot_start(&rt, alloc, FOUR, SWAYING));
     assert!(rt; is_told_as_played(&rt, alloc, FOUR, SWAYING));
+}
+
+#[test]
+fn the_failure_of_the_lowest_general(rt: HostRuntime) {
+    for &(refused, failures, error) in FAILURES {
+        let told = ended::<()>(refused, failures, Err(MusterError::Unaccounted));
+        assert!(rt; told == Err(error));
+    }
+    assert!(rt; ended(None, &[None, None], Ok(())).is_ok());
 }

@@ -46,5 +46,5 @@ returns-in-By-clause-arranged c =
     (subst (λ (t : Scenario). IsPlan oral_kind t (lists_in c.as_slice.result.now) (By c.in-By.schedule)) c.in_ok-copy.ensures
     (rw c.in-By.is at c.in_ok-schedule.ensures.plan)) in
     let few : length rows ≤ 5 = (let long = length-map c.in_ok-rows.rows.items (λ (v : Vec ℕ Global). v.items) in let most = c.in_ok-rows.ensures.few in omega arith) in
-    arranged_by s c.args.text.now rows c.in-By.schedule (string_bytes c.in_ok-schedule_text-in-By.field-0) c.in_ok-rows.ensures.told made.0 plan
+    arranged_by s c.args.text.now rows c.in-By.schedule (string_bytes c.in_ok-schedule_text-in-By.field-0) c.in_ok-rows.ensures.told made plan
     (read_of s rows c.in-By.schedule c.recall.ensures c.recall_short.ensures few made) c.in_ok-schedule_text-in-By.ensures

@@ -1,4 +1,4 @@
-use Rattle.std.proofs.Common.{◌≡◌, List, ℕ, [], Ok, suc, length}
+use Rattle.std.proofs.Common.{◌≡◌, List, ℕ, Ok, suc, length}
 use Rattle.text.specs.Parts.{left, left_len}
 use Rattle.world.specs.Playing.{lists_in}
 use Rattle.retracing.specs.Accesses.{accesses_told, rows_told, slash}

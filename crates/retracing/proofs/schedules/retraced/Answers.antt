@@ -9,4 +9,4 @@ schedule_of-requires c =
 pub returns-clause-retraced : goal.returns-clause-retraced
 returns-clause-retraced c =
     retraced_by c.args.scenario.now c.args.text.now c.accesses.result.now c.in_ok-schedule.schedule c.recall.ensures (c.accesses.ensures ∙ ap (λ chronicle. chronicle.accesses) c.in_ok-chronicle.ensures.chronicle)
-    c.in_ok-schedule.ensures.again c.in_ok-schedule.ensures.read c.in_ok-schedule_text.ensures
+    c.in_ok-schedule.ensures.again c.in_ok-schedule.ensures.entries c.in_ok-schedule.ensures.read c.in_ok-schedule_text.ensures
