@@ -44,7 +44,7 @@ impl Name {
 }
 
 /// A place in a scenario.
-#[derive(Clone, Copy, Debug, PartialEq, Eq)]
+#[derive(Clone, Copy, Debug)]
 pub enum Place {
     /// A key at the top.
     Key(Name),

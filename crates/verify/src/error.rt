@@ -5,7 +5,7 @@ use std::error::Error;
 use std::fmt;
 
 /// Why a program is refused.
-#[derive(Clone, Copy, Debug, PartialEq, Eq, Drop)]
+#[derive(Clone, Copy, Debug, Drop)]
 pub enum VerifyError {
     /// The reason, and the unit of the instruction that is at fault.
     At(Reason, usize),
@@ -41,7 +41,7 @@ impl From<AllocError> for VerifyError {
 }
 
 /// A refusal, which hands the program back.
-#[derive(Debug, Drop)]
+#[derive(Drop)]
 pub struct Refused {
     /// The program that was refused.
     pub program: Program,
