@@ -49,7 +49,7 @@ impl fmt::Display for Fault {
 impl Error for Fault {}
 
 /// The first fault with its line, counted from 1, or want of memory.
-#[derive(Clone, Copy, Debug, Drop)]
+#[derive(Clone, Copy, Debug, PartialEq, Eq, Drop)]
 pub enum AsmError {
     /// A fault at a line; for a count it is the number of lines, at least 1.
     At(Fault, u64),

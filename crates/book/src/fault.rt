@@ -37,7 +37,7 @@ impl fmt::Display for Fault {
 impl Error for Fault {}
 
 /// Why a text tells no message table: the first fault with its line, or want of memory.
-#[derive(Clone, Copy, Debug, Drop)]
+#[derive(Clone, Copy, Debug, PartialEq, Eq, Drop)]
 pub enum TableError {
     /// A fault at a line, counted from 1.
     At(Fault, u64),

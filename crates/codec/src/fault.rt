@@ -49,7 +49,7 @@ impl fmt::Display for Fault {
 impl Error for Fault {}
 
 /// The first fault with its unit, or want of memory.
-#[derive(Clone, Copy, Debug, Drop)]
+#[derive(Clone, Copy, Debug, PartialEq, Eq, Drop)]
 pub enum CodecError {
     /// A fault at an instruction's first unit; for a length it is the unit that is cut, for a count 0.
     At(Fault, usize),

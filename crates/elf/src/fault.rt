@@ -5,7 +5,7 @@ use std::error::Error;
 use std::fmt;
 
 /// What of an object does not lie within the file, or within what it is a part of.
-#[derive(Clone, Copy, Debug, Drop)]
+#[derive(Clone, Copy, Debug, PartialEq, Eq, Drop)]
 pub enum Damage {
     /// The header, or the table of the sections.
     Sections,
@@ -18,7 +18,7 @@ pub enum Damage {
 }
 
 /// Why an object has no code to be run.
-#[derive(Clone, Copy, Debug, Drop)]
+#[derive(Clone, Copy, Debug, PartialEq, Eq, Drop)]
 pub enum Fault {
     /// O1: no relocatable ELF object of 64 bits, little-endian, for BPF.
     NoObject,

@@ -6,7 +6,7 @@ use std::error::Error;
 use std::fmt;
 
 /// What is wrong with a text that lists accesses.
-#[derive(Clone, Copy, Debug, Drop)]
+#[derive(Clone, Copy, Debug, PartialEq, Eq, Drop)]
 pub enum AccessFault {
     /// In this round the part at this place is no number of a general, 0 to 12; or it is a sixth round. Both count from
     /// 1.
@@ -34,7 +34,7 @@ impl fmt::Display for AccessFault {
 impl Error for AccessFault {}
 
 /// Why there is no schedule of listed accesses.
-#[derive(Clone, Copy, Debug, Drop)]
+#[derive(Clone, Copy, Debug, PartialEq, Eq, Drop)]
 pub enum AccessesError {
     /// The first fault.
     At(AccessFault),

@@ -41,7 +41,7 @@ impl fmt::Display for Fault {
 }
 
 /// What is wrong with a traitor's program, and where in it.
-#[derive(Clone, Copy, Debug)]
+#[derive(Clone, Copy, Debug, PartialEq, Eq)]
 pub enum ProgramFault {
     /// The assembler's fault and its line.
     Asm(asm::Fault, u64),

@@ -44,7 +44,7 @@ impl Name {
 }
 
 /// A place in a scenario.
-#[derive(Clone, Copy, Debug)]
+#[derive(Clone, Copy, Debug, PartialEq, Eq)]
 pub enum Place {
     /// A key at the top.
     Key(Name),

@@ -34,7 +34,7 @@ impl fmt::Display for Fault {
 impl Error for Fault {}
 
 /// Why a text is no schedule or no chronicle of a scenario: the first fault with its line; or why one was not written.
-#[derive(Clone, Copy, Debug, Drop)]
+#[derive(Clone, Copy, Debug, PartialEq, Eq, Drop)]
 pub enum TraceError {
     /// A fault at a line, counted from 1.
     At(Fault, u64),

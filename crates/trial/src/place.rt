@@ -34,7 +34,7 @@ impl Name {
 }
 
 /// A place in a setting.
-#[derive(Clone, Copy, Debug)]
+#[derive(Clone, Copy, Debug, PartialEq, Eq)]
 pub enum Place {
     /// A key.
     Key(Name),

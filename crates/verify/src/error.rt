@@ -5,7 +5,7 @@ use std::error::Error;
 use std::fmt;
 
 /// Why a program is refused.
-#[derive(Clone, Copy, Debug, Drop)]
+#[derive(Clone, Copy, Debug, PartialEq, Eq, Drop)]
 pub enum VerifyError {
     /// The reason, and the unit of the instruction that is at fault.
     At(Reason, usize),

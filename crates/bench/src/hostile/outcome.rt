@@ -36,7 +36,7 @@ impl fmt::Display for Outcome {
 }
 
 /// How what a call was asked again answers differs from what it is to answer.
-#[derive(Clone, Copy, Debug, Error)]
+#[derive(Clone, Copy, Debug, PartialEq, Eq, Error)]
 pub enum Difference {
     #[error("asked again, the call does not answer")]
     NoAnswer,
