@@ -15,12 +15,14 @@ fn is_wide(found: Option<Insn>, register: Reg) -> bool {
 /// Whether it is the instruction that takes one.
 fn is_narrow(found: Option<Insn>, register: Reg) -> bool {
     match found {
-        Some(Insn::Arithmetic {
-            width: Width::W64,
-            operation: Operation::Move,
-            dst,
-            operand,
-        }) => dst == register && operand == Operand::Immediate(42),
+        Some(
+            Insn::Arithmetic {
+                width: Width::W64,
+                operation: Operation::Move,
+                dst,
+                operand,
+            },
+        ) => dst == register && operand == Operand::Immediate(42),
         _ => false,
     }
 }
