@@ -49,10 +49,6 @@ part p rest i n all before after =
     let all_of : take i all ++ drop i all ≡ all = take-append-drop i all in
     sym (within p rest (take n (drop i all)) (drop n (drop i all)) after) ∙ ap (first_named (p ++ rest)) whole ∙ sym (behind p rest (take i all) (drop i all) before) ∙ ap (first_named (p ++ rest)) all_of
 
-one_letter : (c : ℕ) (word : List ℕ) → 0 < length word → get_or word 0 0 ≡ c → word ≡ (c ∷ []) ++ drop 1 word
-one_letter c [] some is = absurd (omega (arith, some))
-one_letter c (x ∷ rest) some is = ap (λ y. y ∷ rest) is
-
 two_letters : (c d : ℕ) (word : List ℕ) → 1 < length word → get_or word 0 0 ≡ c → get_or word 1 0 ≡ d → word ≡ (c ∷ d ∷ []) ++ drop 2 word
 two_letters c d [] some is next = absurd (omega (arith, some))
 two_letters c d (x ∷ []) some is next = absurd (omega (arith, some))
