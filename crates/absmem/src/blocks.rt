@@ -7,7 +7,7 @@ use crate::spill::Spill;
 use std::marker::Model;
 
 /// Where whole pointers stand, by blocks of eight cells, with a word that tells which of the 64 blocks hold one.
-#[derive(Debug, Drop)]
+#[derive(Drop)]
 pub(crate) struct Blocks {
     holding: u64,
     spills: [Spill; 64],

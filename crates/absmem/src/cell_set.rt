@@ -5,7 +5,7 @@ use crate::mask;
 use std::marker::Model;
 
 /// A set of cells of the stack: a bit for each of the 512.
-#[derive(Clone, Copy, Debug)]
+#[derive(Clone, Copy)]
 pub(crate) struct CellSet {
     words: [u64; 8],
 }

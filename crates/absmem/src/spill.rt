@@ -1,7 +1,7 @@
 use semantics::Region;
 
 /// What is known of the stored pointers that begin in a block of eight cells: at most one stands whole there.
-#[derive(Clone, Copy, Debug, PartialEq, Eq)]
+#[derive(Clone, Copy)]
 pub enum Spill {
     /// None is known to.
     Free,

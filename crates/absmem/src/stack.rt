@@ -14,7 +14,7 @@ use semantics::Region;
 use std::marker::Model;
 
 /// What is known of a stack of 512 cells.
-#[derive(Debug, Drop)]
+#[derive(Drop)]
 pub struct AbsStack {
     bytes: CellSet,
     spills: Blocks,

@@ -13,7 +13,7 @@ use std::marker::Model;
 use word::{ByteOrder, Condition, Narrow, Operation, SwapSize, Width};
 
 /// The numbers of a range that have these bits.
-#[derive(Clone, Copy, Debug, PartialEq, Eq)]
+#[derive(Clone, Copy)]
 pub struct NumberSet {
     range: Range,
     bits: Bits,

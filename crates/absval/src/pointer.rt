@@ -9,7 +9,7 @@ use range::Range;
 use std::marker::Model;
 
 /// A range of numbers read as signed.
-#[derive(Clone, Copy, Debug, PartialEq, Eq)]
+#[derive(Clone, Copy)]
 pub(crate) struct SignedRange {
     pub(crate) low: i64,
     pub(crate) high: i64,

@@ -10,7 +10,7 @@ use std::marker::Model;
 pub(crate) const LIMIT: i32 = 65_536;
 
 /// An offset that a pointer may have: within the limit.
-#[derive(Clone, Copy, Debug, PartialEq, Eq)]
+#[derive(Clone, Copy)]
 pub struct Offset {
     pub at: i32,
 }
@@ -29,7 +29,7 @@ impl Model for Offset {
 }
 
 /// From which to which offset a pointer may point, both among them and within the limit.
-#[derive(Clone, Copy, Debug, PartialEq, Eq)]
+#[derive(Clone, Copy, PartialEq, Eq)]
 pub struct Offsets {
     pub low: i32,
     pub high: i32,
@@ -76,7 +76,7 @@ impl Offsets {
 }
 
 /// What is known of a value.
-#[derive(Clone, Copy, Debug, PartialEq, Eq)]
+#[derive(Clone, Copy)]
 pub enum AbsVal {
     /// Nothing: it may be unset, a number or a pointer.
     Unset,

@@ -7,7 +7,7 @@ use crate::value::Offsets;
 use semantics::Region;
 
 /// The cells that an access may touch.
-#[derive(Clone, Copy, Debug, PartialEq, Eq)]
+#[derive(Clone, Copy)]
 pub struct Window {
     /// The place of the first.
     pub place: usize,

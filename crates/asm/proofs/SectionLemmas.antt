@@ -49,10 +49,6 @@ part p rest i n all before after =
     let all_of : take i all ++ drop i all ≡ all = take-append-drop i all in
     sym (within p rest (take n (drop i all)) (drop n (drop i all)) after) ∙ ap (first_named (p ++ rest)) whole ∙ sym (behind p rest (take i all) (drop i all) before) ∙ ap (first_named (p ++ rest)) all_of
 
-one_letter : (c : ℕ) (word : List ℕ) → 0 < length word → get_or word 0 0 ≡ c → word ≡ (c ∷ []) ++ drop 1 word
-one_letter c [] some is = absurd (omega (arith, some))
-one_letter c (x ∷ rest) some is = ap (λ y. y ∷ rest) is
-
 two_letters : (c d : ℕ) (word : List ℕ) → 1 < length word → get_or word 0 0 ≡ c → get_or word 1 0 ≡ d → word ≡ (c ∷ d ∷ []) ++ drop 2 word
 two_letters c d [] some is next = absurd (omega (arith, some))
 two_letters c d (x ∷ []) some is next = absurd (omega (arith, some))
@@ -61,11 +57,11 @@ two_letters c d (x ∷ y ∷ rest) some is next = cc (is, next)
 at : (p rest word : List ℕ) (ms : List Mnemonic) → word ≡ p ++ rest → first_named (p ++ rest) ms ≡ mnemonic_of (p ++ rest) → first_named word ms ≡ mnemonic_of word
 at p rest word ms e h = subst (λ w. first_named w ms ≡ mnemonic_of w) (sym e) h
 
-pub by_letter : (c i n : ℕ) (word : List ℕ) → 0 < length word → get_or word 0 0 ≡ c
+pub by_letter : (c i n letter : ℕ) (rest : List ℕ) → letter ≡ c
     → all_otherwise (c ∷ []) (take i mnemonics) ≡ true → all_otherwise (c ∷ []) (drop n (drop i mnemonics)) ≡ true
-    → first_named word (take n (drop i mnemonics)) ≡ mnemonic_of word
+    → first_named (letter ∷ rest) (take n (drop i mnemonics)) ≡ mnemonic_of (letter ∷ rest)
 unfolding mnemonic_of
-by_letter c i n word some is before after = at (c ∷ []) (drop 1 word) word _ (one_letter c word some is) (part (c ∷ []) (drop 1 word) i n mnemonics before after)
+by_letter c i n letter rest is before after = at (c ∷ []) rest (letter ∷ rest) _ (ap (λ y. y ∷ rest) is) (part (c ∷ []) rest i n mnemonics before after)
 
 pub by_letters : (c d i n : ℕ) (word : List ℕ) → 1 < length word → get_or word 0 0 ≡ c → get_or word 1 0 ≡ d
     → all_otherwise (c ∷ d ∷ []) (take i mnemonics) ≡ true → all_otherwise (c ∷ d ∷ []) (drop n (drop i mnemonics)) ≡ true

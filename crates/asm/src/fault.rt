@@ -86,7 +86,7 @@ impl fmt::Display for AsmError {
 impl Error for AsmError {}
 
 /// A fault in a line, or want of memory.
-#[derive(Clone, Copy, Debug, PartialEq, Eq, Drop)]
+#[derive(Clone, Copy, Drop)]
 pub enum LineError {
     Memory,
     Fault(Fault),

@@ -1,7 +1,7 @@
 //! The table of mnemonics.
 
-ghost use Rattle.std.specs.Prelude.{◌≡◌};
-ghost use Rattle.asm.specs.Table.{name_of, first_named, mnemonic_of};
+ghost use Rattle.std.specs.Prelude.{◌≡◌, ◌≤◌, ◌-◌, ◌∷◌, ℕ, List, take, drop};
+ghost use Rattle.asm.specs.Table.{name_of, first_named, mnemonic_of, mnemonics};
 
 use insn::Size;
 use word::{ByteOrder, Condition, Narrow, Operation, SwapSize, Width};
@@ -258,31 +258,53 @@ fn search(all: &[Mnemonic], word: &[u8]) -> Option<Mnemonic>
     None
 }
 
+/// From where to where those stand in the table that begin with this letter; all of it where none does.
+fn bounds_by_letter(letter: u8) -> (usize, usize)
+    ensures order { result.0 ≤ result.1 }
+    ensures end { result.1 ≤ 86 }
+    ensures found { (rest : List ℕ) →
+        first_named (letter ∷ rest) (take (result.1 - result.0) (drop result.0 mnemonics)) ≡ mnemonic_of (letter ∷ rest) }
+{
+    match letter {
+        b'a' => (0, 6),
+        b'b' => (6, 9),
+        b'c' => (9, 10),
+        b'd' => (10, 12),
+        b'e' => (12, 13),
+        b'j' => (13, 37),
+        b'l' => (37, 50),
+        b'm' => (50, 61),
+        b'n' => (61, 63),
+        b'o' => (63, 65),
+        b'r' => (65, 67),
+        b's' => (67, 84),
+        b'x' => (84, 86),
+        _ => (0, 86),
+    }
+}
+
+/// From where to where those stand in the table that begin as this word does; all of it where none begins so.
+fn bounds(word: &[u8]) -> (usize, usize)
+    ensures order { result.0 ≤ result.1 }
+    ensures end { result.1 ≤ 86 }
+    ensures found { first_named word.now (take (result.1 - result.0) (drop result.0 mnemonics)) ≡ mnemonic_of word.now }
+{
+    match word {
+        [b'j', b's', ..] => (21, 37),
+        [b'l', b'd', ..] => (42, 50),
+        [b's', b't', ..] => (69, 77),
+        [letter, ..] => bounds_by_letter(*letter),
+        [] => (0, 86),
+    }
+}
+
 /// The mnemonics of the table that begin as this word does; all of them where none begins so, and then none is the
 /// word.
-#[tactic(auto)]
 fn section(word: &[u8]) -> &'static [Mnemonic]
     ensures { first_named word.now result.now ≡ mnemonic_of word.now }
 {
-    match word {
-        [b'a', ..] => &MNEMONICS[..6],
-        [b'b', ..] => &MNEMONICS[6..9],
-        [b'c', ..] => &MNEMONICS[9..10],
-        [b'd', ..] => &MNEMONICS[10..12],
-        [b'e', ..] => &MNEMONICS[12..13],
-        [b'j', b's', ..] => &MNEMONICS[21..37],
-        [b'j', ..] => &MNEMONICS[13..37],
-        [b'l', b'd', ..] => &MNEMONICS[42..50],
-        [b'l', ..] => &MNEMONICS[37..50],
-        [b'm', ..] => &MNEMONICS[50..61],
-        [b'n', ..] => &MNEMONICS[61..63],
-        [b'o', ..] => &MNEMONICS[63..65],
-        [b'r', ..] => &MNEMONICS[65..67],
-        [b's', b't', ..] => &MNEMONICS[69..77],
-        [b's', ..] => &MNEMONICS[67..84],
-        [b'x', ..] => &MNEMONICS[84..],
-        _ => &MNEMONICS,
-    }
+    let (start, end) = bounds(word);
+    &MNEMONICS[start..end]
 }
 
 /// The mnemonic of a word.

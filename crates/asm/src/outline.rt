@@ -70,7 +70,9 @@ fn push_operands<'a>(words: &mut Vec<&'a [u8]>, text: &'a [u8]) -> Result<(), Li
     let mut rest = Some(text);
     while let Some(text) = rest {
         let (front, after) = piece(Stop::Byte(b','), text);
-        let word = token(front).ok_or(Fault::Line)?;
+        let Some(word) = token(front) else {
+            return Err(LineError::Fault(Fault::Line));
+        };
         words.push(word)?;
         rest = after;
     }

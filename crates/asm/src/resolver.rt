@@ -60,18 +60,30 @@ fn resolve(
     match &statement.draft {
         Draft::Plain(insn) => Ok(*insn),
         Draft::Jump(aim) => {
-            let n = distance(names, unit, aim, statement.name).ok_or(Fault::Label)?;
-            let distance = fit16(n).ok_or(Fault::Range)?;
+            let Some(n) = distance(names, unit, aim, statement.name) else {
+                return Err(Fault::Label);
+            };
+            let Some(distance) = fit16(n) else {
+                return Err(Fault::Range);
+            };
             Ok(Insn::Jump { distance })
         }
         Draft::LongJump(aim) => {
-            let n = distance(names, unit, aim, statement.name).ok_or(Fault::Label)?;
-            let distance = fit32(n).ok_or(Fault::Range)?;
+            let Some(n) = distance(names, unit, aim, statement.name) else {
+                return Err(Fault::Label);
+            };
+            let Some(distance) = fit32(n) else {
+                return Err(Fault::Range);
+            };
             Ok(Insn::LongJump { distance })
         }
         Draft::Branch(width, condition, dst, operand, aim) => {
-            let n = distance(names, unit, aim, statement.name).ok_or(Fault::Label)?;
-            let distance = fit16(n).ok_or(Fault::Range)?;
+            let Some(n) = distance(names, unit, aim, statement.name) else {
+                return Err(Fault::Label);
+            };
+            let Some(distance) = fit16(n) else {
+                return Err(Fault::Range);
+            };
             Ok(Insn::Branch {
                 width: *width,
                 condition: *condition,

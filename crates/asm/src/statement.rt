@@ -80,10 +80,18 @@ fn arithmetic<'a>(
     ensures { GivesResult source_view result
         (source_of (words.Arithmetic width operation) (map (λ r. r.now) operands.now)) }
 {
-    let (a, b) = two_operands(operands).ok_or(Fault::Operand)?;
-    let dst = register(a).ok_or(Fault::Operand)?;
-    let raw = read_raw(b).ok_or(Fault::Operand)?;
-    let operand = fit(raw).ok_or(Fault::Range)?;
+    let Some((a, b)) = two_operands(operands) else {
+        return Err(Fault::Operand);
+    };
+    let Some(dst) = register(a) else {
+        return Err(Fault::Operand);
+    };
+    let Some(raw) = read_raw(b) else {
+        return Err(Fault::Operand);
+    };
+    let Some(operand) = fit(raw) else {
+        return Err(Fault::Range);
+    };
     Ok(plain(Insn::Arithmetic {
         width,
         operation,
@@ -96,8 +104,12 @@ fn arithmetic<'a>(
 fn negate<'a>(width: Width, operands: &[&'a [u8]]) -> Result<Statement<'a>, Fault>
     ensures { GivesResult source_view result (source_of (words.Negate width) (map (λ r. r.now) operands.now)) }
 {
-    let a = one_operand(operands).ok_or(Fault::Operand)?;
-    let dst = register(a).ok_or(Fault::Operand)?;
+    let Some(a) = one_operand(operands) else {
+        return Err(Fault::Operand);
+    };
+    let Some(dst) = register(a) else {
+        return Err(Fault::Operand);
+    };
     Ok(plain(Insn::Negate { width, dst }))
 }
 
@@ -109,9 +121,15 @@ fn sign_extend<'a>(
 ) -> Result<Statement<'a>, Fault>
     ensures { GivesResult source_view result (source_of (words.SignExtend width part) (map (λ r. r.now) operands.now)) }
 {
-    let (first, second) = two_operands(operands).ok_or(Fault::Operand)?;
-    let dst = register(first).ok_or(Fault::Operand)?;
-    let src = register(second).ok_or(Fault::Operand)?;
+    let Some((first, second)) = two_operands(operands) else {
+        return Err(Fault::Operand);
+    };
+    let Some(dst) = register(first) else {
+        return Err(Fault::Operand);
+    };
+    let Some(src) = register(second) else {
+        return Err(Fault::Operand);
+    };
     Ok(plain(Insn::SignExtend {
         width,
         part,
@@ -124,8 +142,12 @@ fn sign_extend<'a>(
 fn swap<'a>(order: ByteOrder, size: SwapSize, operands: &[&'a [u8]]) -> Result<Statement<'a>, Fault>
     ensures { GivesResult source_view result (source_of (words.Swap order size) (map (λ r. r.now) operands.now)) }
 {
-    let a = one_operand(operands).ok_or(Fault::Operand)?;
-    let dst = register(a).ok_or(Fault::Operand)?;
+    let Some(a) = one_operand(operands) else {
+        return Err(Fault::Operand);
+    };
+    let Some(dst) = register(a) else {
+        return Err(Fault::Operand);
+    };
     Ok(plain(Insn::Swap { order, size, dst }))
 }
 
@@ -133,10 +155,18 @@ fn swap<'a>(order: ByteOrder, size: SwapSize, operands: &[&'a [u8]]) -> Result<S
 fn load_immediate<'a>(operands: &[&'a [u8]]) -> Result<Statement<'a>, Fault>
     ensures { GivesResult source_view result (source_of words.LoadImmediate (map (λ r. r.now) operands.now)) }
 {
-    let (a, b) = two_operands(operands).ok_or(Fault::Operand)?;
-    let dst = register(a).ok_or(Fault::Operand)?;
-    let n = read_number(b).ok_or(Fault::Operand)?;
-    let number = fit64(n).ok_or(Fault::Range)?;
+    let Some((a, b)) = two_operands(operands) else {
+        return Err(Fault::Operand);
+    };
+    let Some(dst) = register(a) else {
+        return Err(Fault::Operand);
+    };
+    let Some(n) = read_number(b) else {
+        return Err(Fault::Operand);
+    };
+    let Some(number) = fit64(n) else {
+        return Err(Fault::Range);
+    };
     Ok(plain(Insn::LoadImmediate { dst, number }))
 }
 
@@ -144,8 +174,12 @@ fn load_immediate<'a>(operands: &[&'a [u8]]) -> Result<Statement<'a>, Fault>
 fn jump<'a>(operands: &[&'a [u8]]) -> Result<Statement<'a>, Fault>
     ensures { GivesResult source_view result (source_of words.Jump (map (λ r. r.now) operands.now)) }
 {
-    let a = one_operand(operands).ok_or(Fault::Operand)?;
-    let (aim, name) = target(a).ok_or(Fault::Operand)?;
+    let Some(a) = one_operand(operands) else {
+        return Err(Fault::Operand);
+    };
+    let Some((aim, name)) = target(a) else {
+        return Err(Fault::Operand);
+    };
     Ok(Statement {
         draft: Draft::Jump(aim),
         name,
@@ -156,8 +190,12 @@ fn jump<'a>(operands: &[&'a [u8]]) -> Result<Statement<'a>, Fault>
 fn long_jump<'a>(operands: &[&'a [u8]]) -> Result<Statement<'a>, Fault>
     ensures { GivesResult source_view result (source_of words.LongJump (map (λ r. r.now) operands.now)) }
 {
-    let a = one_operand(operands).ok_or(Fault::Operand)?;
-    let (aim, name) = target(a).ok_or(Fault::Operand)?;
+    let Some(a) = one_operand(operands) else {
+        return Err(Fault::Operand);
+    };
+    let Some((aim, name)) = target(a) else {
+        return Err(Fault::Operand);
+    };
     Ok(Statement {
         draft: Draft::LongJump(aim),
         name,
@@ -173,11 +211,21 @@ fn branch<'a>(
     ensures { GivesResult source_view result
         (source_of (words.Branch width condition) (map (λ r. r.now) operands.now)) }
 {
-    let (a, b, c) = three_operands(operands).ok_or(Fault::Operand)?;
-    let dst = register(a).ok_or(Fault::Operand)?;
-    let raw = read_raw(b).ok_or(Fault::Operand)?;
-    let (aim, name) = target(c).ok_or(Fault::Operand)?;
-    let operand = fit(raw).ok_or(Fault::Range)?;
+    let Some((a, b, c)) = three_operands(operands) else {
+        return Err(Fault::Operand);
+    };
+    let Some(dst) = register(a) else {
+        return Err(Fault::Operand);
+    };
+    let Some(raw) = read_raw(b) else {
+        return Err(Fault::Operand);
+    };
+    let Some((aim, name)) = target(c) else {
+        return Err(Fault::Operand);
+    };
+    let Some(operand) = fit(raw) else {
+        return Err(Fault::Range);
+    };
     Ok(Statement {
         draft: Draft::Branch(width, condition, dst, operand, aim),
         name,
@@ -188,10 +236,18 @@ fn branch<'a>(
 fn load<'a>(size: Size, operands: &[&'a [u8]]) -> Result<Statement<'a>, Fault>
     ensures { GivesResult source_view result (source_of (words.Load size) (map (λ r. r.now) operands.now)) }
 {
-    let (a, b) = two_operands(operands).ok_or(Fault::Operand)?;
-    let dst = register(a).ok_or(Fault::Operand)?;
-    let (base, n) = place(b).ok_or(Fault::Operand)?;
-    let offset = fit16(n).ok_or(Fault::Range)?;
+    let Some((a, b)) = two_operands(operands) else {
+        return Err(Fault::Operand);
+    };
+    let Some(dst) = register(a) else {
+        return Err(Fault::Operand);
+    };
+    let Some((base, n)) = place(b) else {
+        return Err(Fault::Operand);
+    };
+    let Some(offset) = fit16(n) else {
+        return Err(Fault::Range);
+    };
     Ok(plain(Insn::Load {
         size,
         dst,
@@ -204,10 +260,18 @@ fn load<'a>(size: Size, operands: &[&'a [u8]]) -> Result<Statement<'a>, Fault>
 fn load_signed<'a>(part: Narrow, operands: &[&'a [u8]]) -> Result<Statement<'a>, Fault>
     ensures { GivesResult source_view result (source_of (words.LoadSigned part) (map (λ r. r.now) operands.now)) }
 {
-    let (a, b) = two_operands(operands).ok_or(Fault::Operand)?;
-    let dst = register(a).ok_or(Fault::Operand)?;
-    let (base, n) = place(b).ok_or(Fault::Operand)?;
-    let offset = fit16(n).ok_or(Fault::Range)?;
+    let Some((a, b)) = two_operands(operands) else {
+        return Err(Fault::Operand);
+    };
+    let Some(dst) = register(a) else {
+        return Err(Fault::Operand);
+    };
+    let Some((base, n)) = place(b) else {
+        return Err(Fault::Operand);
+    };
+    let Some(offset) = fit16(n) else {
+        return Err(Fault::Range);
+    };
     Ok(plain(Insn::LoadSigned {
         part,
         dst,
@@ -220,10 +284,18 @@ fn load_signed<'a>(part: Narrow, operands: &[&'a [u8]]) -> Result<Statement<'a>,
 fn store_register<'a>(size: Size, operands: &[&'a [u8]]) -> Result<Statement<'a>, Fault>
     ensures { GivesResult source_view result (source_of (words.StoreRegister size) (map (λ r. r.now) operands.now)) }
 {
-    let (a, b) = two_operands(operands).ok_or(Fault::Operand)?;
-    let (base, n) = place(a).ok_or(Fault::Operand)?;
-    let src = register(b).ok_or(Fault::Operand)?;
-    let offset = fit16(n).ok_or(Fault::Range)?;
+    let Some((a, b)) = two_operands(operands) else {
+        return Err(Fault::Operand);
+    };
+    let Some((base, n)) = place(a) else {
+        return Err(Fault::Operand);
+    };
+    let Some(src) = register(b) else {
+        return Err(Fault::Operand);
+    };
+    let Some(offset) = fit16(n) else {
+        return Err(Fault::Range);
+    };
     Ok(plain(Insn::Store {
         size,
         base,
@@ -236,11 +308,21 @@ fn store_register<'a>(size: Size, operands: &[&'a [u8]]) -> Result<Statement<'a>
 fn store_number<'a>(size: Size, operands: &[&'a [u8]]) -> Result<Statement<'a>, Fault>
     ensures { GivesResult source_view result (source_of (words.StoreNumber size) (map (λ r. r.now) operands.now)) }
 {
-    let (a, b) = two_operands(operands).ok_or(Fault::Operand)?;
-    let (base, n) = place(a).ok_or(Fault::Operand)?;
-    let imm = read_number(b).ok_or(Fault::Operand)?;
-    let offset = fit16(n).ok_or(Fault::Range)?;
-    let number = fit32(imm).ok_or(Fault::Range)?;
+    let Some((a, b)) = two_operands(operands) else {
+        return Err(Fault::Operand);
+    };
+    let Some((base, n)) = place(a) else {
+        return Err(Fault::Operand);
+    };
+    let Some(imm) = read_number(b) else {
+        return Err(Fault::Operand);
+    };
+    let Some(offset) = fit16(n) else {
+        return Err(Fault::Range);
+    };
+    let Some(number) = fit32(imm) else {
+        return Err(Fault::Range);
+    };
     Ok(plain(Insn::Store {
         size,
         base,
@@ -253,13 +335,21 @@ fn store_number<'a>(size: Size, operands: &[&'a [u8]]) -> Result<Statement<'a>, 
 fn call<'a>(operands: &[&'a [u8]]) -> Result<Statement<'a>, Fault>
     ensures { GivesResult source_view result (source_of words.Call (map (λ r. r.now) operands.now)) }
 {
-    let a = one_operand(operands).ok_or(Fault::Operand)?;
+    let Some(a) = one_operand(operands) else {
+        return Err(Fault::Operand);
+    };
     if a.len() >= 1 && letter(a[0]) {
-        let helper = helper_named(a).ok_or(Fault::Operand)?;
+        let Some(helper) = helper_named(a) else {
+            return Err(Fault::Operand);
+        };
         return Ok(plain(Insn::Call { helper }));
     }
-    let n = read_number(a).ok_or(Fault::Operand)?;
-    let helper = fit32(n).ok_or(Fault::Range)?;
+    let Some(n) = read_number(a) else {
+        return Err(Fault::Operand);
+    };
+    let Some(helper) = fit32(n) else {
+        return Err(Fault::Range);
+    };
     Ok(plain(Insn::Call { helper }))
 }
 
@@ -267,8 +357,10 @@ fn call<'a>(operands: &[&'a [u8]]) -> Result<Statement<'a>, Fault>
 fn exit<'a>(operands: &[&'a [u8]]) -> Result<Statement<'a>, Fault>
     ensures { GivesResult source_view result (source_of words.Exit (map (λ r. r.now) operands.now)) }
 {
-    no_operand(operands).ok_or(Fault::Operand)?;
-    Ok(plain(Insn::Exit))
+    match no_operand(operands) {
+        Some(()) => Ok(plain(Insn::Exit)),
+        None => Err(Fault::Operand),
+    }
 }
 
 /// The instruction of a mnemonic and its operands.
@@ -300,7 +392,9 @@ pub fn read_statement<'a>(words: &[&'a [u8]]) -> Result<Option<Statement<'a>>, F
     match words {
         [] => Ok(None),
         [word, operands @ ..] => {
-            let mnemonic = read_mnemonic(word).ok_or(Fault::Mnemonic)?;
+            let Some(mnemonic) = read_mnemonic(word) else {
+                return Err(Fault::Mnemonic);
+            };
             match read_source(mnemonic, operands) {
                 Ok(statement) => Ok(Some(statement)),
                 Err(fault) => Err(fault),

@@ -8,7 +8,7 @@ use std::marker::Model;
 use word::Width;
 
 /// The words whose known bits are these: a bit of the mask is unknown, any other is as in the value.
-#[derive(Clone, Copy, Debug, PartialEq, Eq)]
+#[derive(Clone, Copy)]
 pub struct Bits {
     /// The bits that are unknown.
     pub mask: u64,

@@ -9,7 +9,7 @@ use std::marker::Model;
 
 /// One access: who asked what in which round, and what the board answered. The reply has the form that the request
 /// fixes.
-#[derive(Debug, Drop)]
+#[derive(Drop)]
 pub struct Access {
     /// The general's number.
     pub general: u32,

@@ -12,7 +12,7 @@ use std::alloc::{AllocError, Global};
 use std::marker::Model;
 
 /// A board of 64 words of 64 bits, with the ledger of all its accesses.
-#[derive(Debug, Drop)]
+#[derive(Drop)]
 pub struct Board {
     opening: [u64; 64],
     words: [u64; 64],

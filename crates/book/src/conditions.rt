@@ -1,5 +1,5 @@
 /// The order of the commander, and whether the loyal lieutenants follow it (TOPLAS 1982, IC2).
-#[derive(Clone, Copy, Debug, PartialEq, Eq)]
+#[derive(Clone, Copy)]
 pub enum Obedience {
     /// The commander is named as a traitor.
     Traitor,
@@ -12,7 +12,7 @@ pub enum Obedience {
 }
 
 /// What a table shows of interactive consistency, where some generals are named as traitors.
-#[derive(Clone, Copy, Debug, PartialEq, Eq)]
+#[derive(Clone, Copy)]
 pub struct Conditions {
     /// How many generals are named.
     pub named: u8,

@@ -8,7 +8,7 @@ use absval::Offset;
 use semantics::Region;
 
 /// What is known of a cell.
-#[derive(Clone, Copy, Debug, PartialEq, Eq)]
+#[derive(Clone, Copy)]
 pub enum Content {
     /// Nothing: it may be unset, or hold different things on different ways.
     Unset,

@@ -14,7 +14,7 @@ use std::alloc::{AllocError, Global};
 use verify::AbsState;
 
 /// Of a cell of the stack, for each unit whether its instruction sets it.
-#[derive(Debug, Drop)]
+#[derive(Drop)]
 pub struct Column {
     pub changed: Vec<bool>,
 }

@@ -1,7 +1,7 @@
 //! Marks of units.
 
 /// What a unit is to the one that is asked about.
-#[derive(Clone, Copy, Debug, PartialEq, Eq)]
+#[derive(Clone, Copy, PartialEq, Eq)]
 pub enum Mark {
     /// No way leads from it there on which what is asked about stays as it is.
     Closed,

@@ -10,7 +10,7 @@ use verify::{VerifyError, verify};
 use word::{Operation, Width};
 
 /// What is changed of a program at one instruction.
-#[derive(Clone, Copy, Debug, PartialEq, Eq)]
+#[derive(Clone, Copy)]
 pub enum Edit {
     /// An operation of 64 bits is put before it.
     Before(Operation, Reg, Operand),
@@ -22,7 +22,7 @@ pub enum Edit {
 }
 
 /// How far the verifier comes in a program.
-#[derive(Clone, Copy, Debug, PartialEq, Eq)]
+#[derive(Clone, Copy, PartialEq, Eq)]
 pub enum Trial {
     /// Not past the unit that is asked about.
     Refused,

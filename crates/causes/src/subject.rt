@@ -9,7 +9,7 @@ use insn::{Insn, Reg};
 use verify::AbsState;
 
 /// A register, or a cell of the stack, counted from its lowest.
-#[derive(Clone, Copy, Debug, PartialEq, Eq)]
+#[derive(Clone, Copy)]
 pub enum Subject {
     Register(Reg),
     Cell(u16),

@@ -14,7 +14,7 @@ pub(crate) use majority::most;
 pub use median::Median;
 
 /// The rule of a campaign.
-#[derive(Clone, Copy, Debug, PartialEq, Eq)]
+#[derive(Clone, Copy, PartialEq, Eq)]
 pub enum Rule {
     /// The order in more than half of the places, else RETREAT.
     Majority,

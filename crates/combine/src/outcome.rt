@@ -6,7 +6,7 @@ ghost use Rattle.combine.specs.Rule.{is_most};
 use crate::chosen::most;
 
 /// What a list of orders comes to: its order, and how.
-#[derive(Clone, Copy, Debug, PartialEq, Eq, Drop)]
+#[derive(Clone, Copy, Drop)]
 pub enum Outcome {
     /// This order stands in more than half of the places.
     Agreed(u32),

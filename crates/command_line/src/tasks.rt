@@ -116,7 +116,7 @@ pub enum Task {
 }
 
 /// How a program is written.
-#[derive(Debug, Drop)]
+#[derive(Drop)]
 pub enum Notation {
     /// As raw bytecode.
     Bytecode,
@@ -127,7 +127,7 @@ pub enum Notation {
 }
 
 /// How bytecode is written.
-#[derive(Clone, Copy, Debug, PartialEq, Eq)]
+#[derive(Clone, Copy, PartialEq, Eq)]
 pub enum Spelling {
     /// In hex, on a line.
     Hex,
@@ -136,7 +136,7 @@ pub enum Spelling {
 }
 
 /// How a message table is filled in: as loyal generals would, behind this order of the commander.
-#[derive(Clone, Copy, Debug, PartialEq, Eq)]
+#[derive(Clone, Copy)]
 pub struct Filling {
     pub order: u32,
     /// The general whose lines are left to be edited.
@@ -144,7 +144,7 @@ pub struct Filling {
 }
 
 /// How a tree is drawn.
-#[derive(Clone, Copy, Debug, PartialEq, Eq)]
+#[derive(Clone, Copy, PartialEq, Eq)]
 pub enum Drawing {
     /// As lines of text, by box-drawing characters.
     Boxes,
@@ -157,7 +157,7 @@ pub enum Drawing {
 }
 
 /// Which course a campaign takes.
-#[derive(Debug, Drop)]
+#[derive(Drop)]
 pub enum Course {
     /// That of the schedule of this file or, where none is named, of the empty one.
     Scheduled(Option<String>),
@@ -166,7 +166,7 @@ pub enum Course {
 }
 
 /// By which schedule a campaign is played.
-#[derive(Debug, Drop)]
+#[derive(Drop)]
 pub enum Turns {
     /// By that of this file or, where none is named, by the empty one.
     OfFile(Option<String>),
@@ -175,7 +175,7 @@ pub enum Turns {
 }
 
 /// Which generals come to the board, and in which order.
-#[derive(Debug, Drop)]
+#[derive(Drop)]
 pub enum Accesses {
     /// Those of the chronicle of this file.
     OfChronicle(String),
@@ -184,7 +184,7 @@ pub enum Accesses {
 }
 
 /// How a campaign that is played is told.
-#[derive(Clone, Copy, Debug, PartialEq, Eq)]
+#[derive(Clone, Copy, PartialEq, Eq)]
 pub enum Account {
     /// By its chronicle.
     Chronicle,
@@ -193,7 +193,7 @@ pub enum Account {
 }
 
 /// Whose decisions of a campaign are explained.
-#[derive(Clone, Copy, Debug, PartialEq, Eq)]
+#[derive(Clone, Copy)]
 pub enum Lieutenants {
     /// Those of all lieutenants.
     All,

@@ -1,7 +1,7 @@
 //! The marks of a picture.
 
 /// Which marks stand in a picture.
-#[derive(Clone, Copy, Debug, PartialEq, Eq, Drop)]
+#[derive(Clone, Copy, Drop)]
 pub struct Marks {
     /// A circle and a plain line: of what was told as it should be.
     pub circle: bool,

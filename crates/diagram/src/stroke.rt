@@ -1,7 +1,7 @@
 //! What a picture says of the messages of a round.
 
 /// What one general told another in a round of some labels: of all of which he told him the same.
-#[derive(Clone, Copy, Debug, PartialEq, Eq, Drop)]
+#[derive(Clone, Copy, Drop)]
 pub struct Stroke {
     /// The round, from 1.
     pub round: usize,

@@ -1,7 +1,7 @@
 //! What a lieutenant was told.
 
 /// What one general told another of a label, by which the next label has him behind it.
-#[derive(Clone, Copy, Debug, PartialEq, Eq, Hash, Drop)]
+#[derive(Clone, Copy, PartialEq, Eq, Hash, Drop)]
 pub struct Telling {
     /// The round, from 1.
     pub round: usize,

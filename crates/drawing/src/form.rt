@@ -1,7 +1,7 @@
 use crate::node::Style;
 
 /// In which form a lieutenant's tree is drawn.
-#[derive(Clone, Copy, Debug, PartialEq, Eq, Drop)]
+#[derive(Clone, Copy, Drop)]
 pub enum Form {
     /// As lines of text.
     Lines(Style),

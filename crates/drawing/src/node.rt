@@ -3,7 +3,7 @@ use combine::Outcome;
 use label::Label;
 
 /// Which marks stand in a picture.
-#[derive(Clone, Copy, Debug, PartialEq, Eq, Drop)]
+#[derive(Clone, Copy, Drop)]
 pub struct Marks {
     /// A circle: of a label no lie is known.
     pub circle: bool,
@@ -16,7 +16,7 @@ pub struct Marks {
 }
 
 /// How far the word of a label's last general is to be trusted.
-#[derive(Clone, Copy, Debug, PartialEq, Eq, Drop)]
+#[derive(Clone, Copy, Drop)]
 pub enum Mark {
     /// He is not named as a traitor, or told what he took: the commander, his order.
     Honest,
@@ -27,7 +27,7 @@ pub enum Mark {
 }
 
 /// Whether labels below a label are shown.
-#[derive(Clone, Copy, Debug, PartialEq, Eq, Drop)]
+#[derive(Clone, Copy, Drop)]
 pub enum Extent {
     /// There are none.
     Last,
@@ -40,7 +40,7 @@ pub enum Extent {
 }
 
 /// How much of a tree is shown, and what is known of the commander.
-#[derive(Clone, Copy, Debug, PartialEq, Eq, Drop)]
+#[derive(Clone, Copy, Drop)]
 pub struct View {
     /// How many levels below the commander's, of 0 to 4.
     pub depth: u8,
@@ -51,7 +51,7 @@ pub struct View {
 }
 
 /// How the lines between labels are drawn in a text.
-#[derive(Clone, Copy, Debug, PartialEq, Eq, Drop)]
+#[derive(Clone, Copy, PartialEq, Eq, Drop)]
 pub enum Style {
     /// By characters of ASCII.
     Ascii,
@@ -60,7 +60,7 @@ pub enum Style {
 }
 
 /// The line between labels that a row has below one of its label's generals.
-#[derive(Clone, Copy, Debug, PartialEq, Eq, Drop)]
+#[derive(Clone, Copy, PartialEq, Eq, Drop)]
 pub enum Branch {
     /// To this row, and on.
     Tee,

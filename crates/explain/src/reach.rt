@@ -12,7 +12,7 @@ use verify::AbsState;
 use word::Narrow;
 
 /// Through which register, how far from it and how many bytes are accessed.
-#[derive(Clone, Copy, Debug, PartialEq, Eq)]
+#[derive(Clone, Copy)]
 pub(crate) struct Reach {
     pub base: Reg,
     pub distance: i16,

@@ -122,7 +122,7 @@ fn is_past(width: Width, signed: bool, value: AbsVal) -> bool
 }
 
 /// An instruction that tells nothing of a register.
-#[derive(Clone, Copy, Debug, PartialEq, Eq)]
+#[derive(Clone, Copy)]
 pub(crate) enum Passing {
     /// A test, which tells of numbers that are known to be below 2 to so many.
     Test(u8),

@@ -7,7 +7,7 @@ use insn::Reg;
 use semantics::Region;
 
 /// Which register or cell a refusal is about, what was known of it, and what it misses.
-#[derive(Clone, Copy, Debug, PartialEq, Eq)]
+#[derive(Clone, Copy)]
 pub enum Sentence {
     Structure(Structure),
     Register(Misuse),
@@ -16,7 +16,7 @@ pub enum Sentence {
 }
 
 /// Where a jump leads that is at fault, in units.
-#[derive(Clone, Copy, Debug, PartialEq, Eq)]
+#[derive(Clone, Copy)]
 pub enum Structure {
     /// To its own unit or one before.
     Back(i64),
@@ -29,7 +29,7 @@ pub enum Structure {
 }
 
 /// A register that is used as it may not be, with what is known of it.
-#[derive(Clone, Copy, Debug, PartialEq, Eq)]
+#[derive(Clone, Copy)]
 pub enum Misuse {
     /// Nothing is known of it: it may be unset, or of different kinds on different ways.
     Unset(Reg),
@@ -52,7 +52,7 @@ pub enum Misuse {
 }
 
 /// What an access through a register may touch.
-#[derive(Clone, Copy, Debug, PartialEq, Eq)]
+#[derive(Clone, Copy)]
 pub enum Access {
     /// Bytes outside the region.
     Outside(Reg, Region, Span),
@@ -63,7 +63,7 @@ pub enum Access {
 }
 
 /// What a call asks that may not be.
-#[derive(Clone, Copy, Debug, PartialEq, Eq)]
+#[derive(Clone, Copy)]
 pub enum Misfit {
     /// No helper has the number.
     Helper(i32),

@@ -7,7 +7,7 @@ use insn::Insn;
 use std::alloc::AllocError;
 
 /// How the units of a program are written in the text that it was made of; what is not there, or empty, is not known.
-#[derive(Clone, Copy, Debug)]
+#[derive(Clone, Copy)]
 pub struct Written<'a> {
     /// The place of each unit, such as `line 7`.
     pub places: &'a [String],

@@ -11,7 +11,7 @@ use semantics::Region;
 use std::alloc::AllocError;
 
 /// From one number to another, both among them.
-#[derive(Clone, Copy, Debug, PartialEq, Eq)]
+#[derive(Clone, Copy)]
 pub struct Span {
     /// The least.
     pub low: i64,

@@ -12,7 +12,7 @@ use insn::{Insn, Operand, Program, Reg};
 use word::{Operation, Width};
 
 /// An edit, or one of several.
-#[derive(Clone, Copy, Debug, PartialEq, Eq)]
+#[derive(Clone, Copy)]
 pub(crate) enum Choice {
     /// A mask of the register, put before an instruction.
     Mask(Reg),

@@ -7,7 +7,7 @@ use std::fmt;
 use streams::FileName;
 
 /// Why a task was not done.
-#[derive(Debug, Drop)]
+#[derive(Drop)]
 pub enum Failure<'a> {
     /// The file of this name could not be read.
     Read(&'a str),

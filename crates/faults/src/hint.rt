@@ -2,7 +2,7 @@ use crate::seeming::{Likeness, seems};
 use std::fmt;
 
 /// What is said behind the line of a refusal.
-#[derive(Debug, Drop)]
+#[derive(Drop)]
 pub enum Hint {
     /// What the bytes seem to be.
     Seems(Likeness),

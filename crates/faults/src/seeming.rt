@@ -6,7 +6,7 @@ use insn::Program;
 use std::fmt;
 
 /// What bytes that spell no program seem to be in its place.
-#[derive(Clone, Copy, Debug, PartialEq, Eq)]
+#[derive(Clone, Copy, PartialEq, Eq)]
 pub enum Likeness {
     /// Digits of a program in hex, as `asm` prints them.
     Hex,

@@ -17,7 +17,7 @@ pub const MOST_HELD: u64 = 384;
 pub const RECEIVER_SETS: u64 = 8192;
 
 /// What a helper takes in a register.
-#[derive(Clone, Copy, Debug, PartialEq, Eq)]
+#[derive(Clone, Copy, PartialEq, Eq)]
 pub enum Argument {
     /// The number of a word of the board, 0 to 63.
     Slot,

@@ -2,14 +2,14 @@ use crate::reg::Reg;
 use word::{ByteOrder, Condition, Narrow, Operation, SwapSize, Width};
 
 /// The second operand of an instruction.
-#[derive(Clone, Copy, Debug, PartialEq, Eq)]
+#[derive(Clone, Copy, PartialEq, Eq)]
 pub enum Operand {
     Register(Reg),
     Immediate(i32),
 }
 
 /// How much is loaded or stored: 1, 2, 4 or 8 bytes.
-#[derive(Clone, Copy, Debug, PartialEq, Eq)]
+#[derive(Clone, Copy, PartialEq, Eq)]
 pub enum Size {
     Byte,
     Half,
@@ -18,7 +18,7 @@ pub enum Size {
 }
 
 /// An instruction.
-#[derive(Clone, Copy, Debug, PartialEq, Eq)]
+#[derive(Clone, Copy)]
 pub enum Insn {
     /// dst becomes the operation's result.
     Arithmetic {

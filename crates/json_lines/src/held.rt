@@ -8,7 +8,7 @@ use serde_json::{Map, Value};
 
 /// What is known of the campaign and of the letter in which a line stands, by the lines before: each 0 until one has
 /// told it.
-#[derive(Clone, Copy, Debug, PartialEq, Eq)]
+#[derive(Clone, Copy)]
 pub(crate) struct Held {
     pub generals: u64,
     pub commander: u64,

@@ -6,7 +6,7 @@ ghost use Rattle.json_lines.specs.Shapes.{access_row, row_of, shapes};
 use asking::Wording;
 
 /// Where a line stands in a chronicle, which is told with it.
-#[derive(Clone, Copy, Debug, PartialEq, Eq)]
+#[derive(Clone, Copy, PartialEq, Eq)]
 pub(crate) enum Within {
     /// Nowhere.
     Nothing,

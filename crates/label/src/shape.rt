@@ -1,5 +1,5 @@
 /// Whose relay it is: the general's, in this round, among so many generals under this commander.
-#[derive(Clone, Copy, Debug, PartialEq, Eq)]
+#[derive(Clone, Copy, PartialEq, Eq)]
 pub struct Shape {
     /// How many generals there are, at most 13.
     pub generals: u32,

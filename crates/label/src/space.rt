@@ -2,7 +2,7 @@ use std::error::Error;
 use std::fmt;
 
 /// Which labels are ranked: those of a campaign that lack one lieutenant.
-#[derive(Clone, Copy, Debug, PartialEq, Eq)]
+#[derive(Clone, Copy)]
 pub struct Space {
     /// How many generals there are, 2 to 13.
     pub generals: u8,

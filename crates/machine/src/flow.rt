@@ -1,7 +1,7 @@
 use semantics::Request;
 
 /// How a program goes on after a call.
-#[derive(Clone, Copy, Debug, PartialEq, Eq)]
+#[derive(Clone, Copy)]
 pub(crate) enum Flow {
     /// It goes on at its unit.
     Onward,
@@ -10,7 +10,7 @@ pub(crate) enum Flow {
 }
 
 /// How a program goes on after an instruction, or a pair of them.
-#[derive(Clone, Copy, Debug, PartialEq, Eq)]
+#[derive(Clone, Copy)]
 pub(crate) enum Stride {
     /// It goes on at the unit.
     Onward(usize),

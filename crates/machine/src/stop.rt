@@ -1,7 +1,7 @@
 use semantics::Request;
 
 /// Why a running program stands still.
-#[derive(Clone, Copy, Debug, PartialEq, Eq)]
+#[derive(Clone, Copy)]
 pub enum Stop {
     /// It asks the board.
     Asked(Request),

@@ -9,7 +9,7 @@ use insn::Size;
 use std::marker::Model;
 
 /// The 4,096 bytes that a program is given to read, borrowed, seen as their list.
-#[derive(Debug, Drop)]
+#[derive(Drop)]
 pub struct Context<'a> {
     bytes: &'a [u8],
 }

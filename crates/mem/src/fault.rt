@@ -1,5 +1,5 @@
 /// Why a load or a store is refused.
-#[derive(Clone, Copy, Debug, PartialEq, Eq)]
+#[derive(Clone, Copy, PartialEq, Eq)]
 pub enum MemoryFault {
     /// The register is not set.
     UnsetRegister,

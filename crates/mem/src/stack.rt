@@ -14,7 +14,7 @@ use semantics::{Cell, Region, Value};
 use std::marker::Model;
 
 /// The 512 cells that a program reads and writes, seen as their list.
-#[derive(Debug, Drop)]
+#[derive(Drop)]
 pub struct Stack {
     /// For each cell what it is: 0 nothing, 1 a byte, 2 to 9 the pieces of a pointer into the stack,
     /// 10 to 17 those of one into the context.

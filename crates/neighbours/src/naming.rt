@@ -16,7 +16,7 @@ use std::io::{self, ErrorKind};
 use streams::FileName;
 
 /// Why a file that a scenario names is not taken.
-#[derive(Debug, Drop)]
+#[derive(Drop)]
 pub enum Untaken {
     /// It is not read, or has a fault.
     Told {

@@ -11,7 +11,7 @@ use std::alloc::{AllocError, Global};
 use streams::FileName;
 
 /// Which campaigns are taken.
-#[derive(Clone, Copy, Debug)]
+#[derive(Clone, Copy)]
 pub enum Taken {
     /// Oral ones alone.
     Oral,

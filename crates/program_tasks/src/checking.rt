@@ -21,7 +21,7 @@ use trial::{Setting, first_lines, run_in};
 use verify::{Refused, Verified, verify};
 
 /// An accepted program and its run on the bench.
-#[derive(Clone, Copy, Debug, PartialEq, Eq)]
+#[derive(Clone, Copy)]
 pub struct Checked {
     pub instructions: usize,
     /// How many units of 64 bits the program takes.

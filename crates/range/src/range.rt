@@ -8,7 +8,7 @@ use std::marker::Model;
 use word::Width;
 
 /// The words from `lo` to `hi`, both among them.
-#[derive(Clone, Copy, Debug, PartialEq, Eq)]
+#[derive(Clone, Copy)]
 pub struct Range {
     pub lo: u64,
     pub hi: u64,

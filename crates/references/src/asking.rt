@@ -12,7 +12,7 @@ use std::marker::Model;
 use toml::{Table, Value};
 
 /// A file that a traitor's table names.
-#[derive(Debug, Drop)]
+#[derive(Drop)]
 pub struct Reference {
     /// The number of the table, counted from 0.
     pub index: usize,

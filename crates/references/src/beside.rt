@@ -11,7 +11,7 @@ use std::marker::Model;
 
 /// A file that was read beside a scenario: by which key it is named, its name, which function of an object, and the
 /// text that stands in its place.
-#[derive(Debug, Drop)]
+#[derive(Drop)]
 pub struct Beside {
     key: Key,
     name: String,

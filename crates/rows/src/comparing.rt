@@ -6,7 +6,7 @@ ghost use Rattle.rows.specs.Comparing.{parting, outcome_by};
 use std::fmt;
 
 /// What the comparison of a text with the stored one gives.
-#[derive(Clone, Copy, Debug, PartialEq, Eq)]
+#[derive(Clone, Copy)]
 pub enum Outcome {
     /// They are the same.
     AsStored,

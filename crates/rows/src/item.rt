@@ -2,7 +2,7 @@
 use std::alloc::{AllocError, Global};
 
 /// What an item says.
-#[derive(Clone, Copy, Debug, PartialEq, Eq)]
+#[derive(Clone, Copy, PartialEq, Eq)]
 pub enum Key {
     /// A row of this name begins.
     Row,

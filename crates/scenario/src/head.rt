@@ -4,7 +4,7 @@ use combine::Rule;
 use std::marker::Model;
 
 /// A campaign's numbers and rule, without its traitors.
-#[derive(Debug, Drop)]
+#[derive(Drop)]
 pub struct Head {
     pub generals: u8,
     pub bound: u8,

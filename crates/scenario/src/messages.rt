@@ -2,7 +2,7 @@
 use roster::Scenario;
 
 /// How orders are sent.
-#[derive(Clone, Copy, Debug, PartialEq, Eq)]
+#[derive(Clone, Copy, PartialEq, Eq)]
 pub enum Messages {
     /// By word of mouth: OM(m).
     Oral,
@@ -11,7 +11,7 @@ pub enum Messages {
 }
 
 /// Which campaigns a reader takes.
-#[derive(Clone, Copy, Debug, PartialEq, Eq)]
+#[derive(Clone, Copy, PartialEq, Eq)]
 pub enum Kinds {
     /// Oral ones alone.
     OralAlone,

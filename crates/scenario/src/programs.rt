@@ -13,7 +13,7 @@ use std::alloc::Global;
 use verify::{Refused, Verified, VerifyError, verify};
 
 /// A program as a table has it.
-#[derive(Clone, Copy, Debug)]
+#[derive(Clone, Copy)]
 pub enum Written<'a> {
     /// Assembly.
     Asm(&'a str),

@@ -1,7 +1,7 @@
 ghost use Rattle.std.specs.Prelude.{◌≡◌};
 
 /// What a program enters where orders are signed; in the receivers' number bit g stands for general g.
-#[derive(Clone, Copy, Debug, PartialEq, Eq)]
+#[derive(Clone, Copy)]
 pub enum Entry {
     /// An order, signed by its general, for these receivers.
     Sign { order: u32, receivers: u16 },

@@ -3,7 +3,7 @@ ghost use Rattle.std.specs.Prelude.{◌≡◌, ◌≤◌, ◌↔◌, IfSome, IsS
 use std::marker::Model;
 
 /// The words of a copy, at most 64, seen as their list.
-#[derive(Debug, Drop)]
+#[derive(Drop)]
 pub struct Copied {
     words: Vec<u64>,
 }
@@ -40,7 +40,7 @@ impl Copied {
 }
 
 /// What the board answers.
-#[derive(Debug, Drop)]
+#[derive(Drop)]
 pub enum Reply {
     /// A word as it was.
     Word(u64),

@@ -2,7 +2,7 @@
 use survey::Plot;
 
 /// What is left of a seed's campaign of which nothing more can be taken out while agreement stays broken.
-#[derive(Debug, Drop)]
+#[derive(Drop)]
 pub struct Breach {
     /// The seed.
     pub seed: u64,
@@ -11,7 +11,7 @@ pub struct Breach {
 }
 
 /// The least number of traitors by whom agreement is broken, and a campaign in which they break it.
-#[derive(Debug, Drop)]
+#[derive(Drop)]
 pub struct Breaking {
     /// How many traitors the seed's campaign had.
     pub traitors: u8,

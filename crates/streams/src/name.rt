@@ -5,7 +5,7 @@ use std::fmt;
 
 /// A file's name as it is told, on one line: as it stands or, where a character of it is a control character (a line
 /// feed, an escape), in quotation marks, with such characters written as in a text of Rust.
-#[derive(Clone, Copy, Debug)]
+#[derive(Clone, Copy)]
 pub struct FileName<'a>(pub &'a str);
 
 impl fmt::Display for FileName<'_> {

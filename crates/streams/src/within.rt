@@ -1,5 +1,5 @@
 /// What was read of a file of which at most so many bytes are wanted.
-#[derive(Debug, Drop)]
+#[derive(Drop)]
 pub enum Within {
     /// All its bytes.
     Whole(Vec<u8>),

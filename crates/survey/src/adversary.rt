@@ -1,7 +1,7 @@
 //! What traitors do.
 
 /// What the traitors of a family do.
-#[derive(Debug, Drop)]
+#[derive(Drop)]
 pub enum Adversary {
     /// Each tells the others by chance the truth, an order or nothing.
     Lies,

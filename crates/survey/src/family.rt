@@ -7,7 +7,7 @@ use crate::span::Span;
 use std::marker::Model;
 
 /// Which campaigns a survey plays.
-#[derive(Debug, Drop)]
+#[derive(Drop)]
 pub struct Family {
     generals: Span,
     bound: Span,

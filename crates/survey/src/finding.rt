@@ -2,7 +2,7 @@
 use world::Verdict;
 
 /// What the campaign of a seed comes to.
-#[derive(Clone, Copy, Debug, PartialEq, Eq)]
+#[derive(Clone, Copy)]
 pub struct Finding {
     /// The seed that gives the campaign.
     pub seed: u64,

@@ -1,7 +1,7 @@
 //! What a traitor says: the statements of the grammar.
 
 /// The order that a lie tells, or the place of the chain that it passes on.
-#[derive(Clone, Copy, Debug, PartialEq, Eq)]
+#[derive(Clone, Copy)]
 pub enum Said {
     /// This number.
     Number(u8),
@@ -10,7 +10,7 @@ pub enum Said {
 }
 
 /// One statement of a traitor's program.
-#[derive(Clone, Copy, Debug, PartialEq, Eq)]
+#[derive(Clone, Copy)]
 pub enum Lie {
     /// What he took for each label is told to this receiver.
     Honest(u8),

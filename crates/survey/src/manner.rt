@@ -2,7 +2,7 @@
 use combine::Rule;
 
 /// How the generals of a campaign send orders.
-#[derive(Clone, Copy, Debug, PartialEq, Eq)]
+#[derive(Clone, Copy)]
 pub enum Manner {
     /// By word of mouth, combined by this rule: OM(m).
     Oral(Rule),

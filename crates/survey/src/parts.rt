@@ -6,7 +6,7 @@ use crate::finding::Finding;
 use std::alloc::{AllocError, AllocFailed};
 
 /// What parts of a survey tell, one behind the other.
-#[derive(Debug, Drop)]
+#[derive(Drop)]
 pub struct Parts {
     /// The head of them all, with its line feed; empty where there is none yet.
     pub head: Vec<u8>,
@@ -15,7 +15,7 @@ pub struct Parts {
 }
 
 /// Why a text is no further part of a survey. Lines count from 1.
-#[derive(Clone, Copy, Debug, PartialEq, Eq, Drop)]
+#[derive(Clone, Copy, Drop)]
 pub enum PartError {
     /// This line is cut off, or is neither a head nor that of a campaign; or it is the first, and no head.
     Line(u64),

@@ -4,7 +4,7 @@ use crate::manner::Manner;
 use std::marker::Model;
 
 /// A traitor and what he says.
-#[derive(Debug, Drop)]
+#[derive(Drop)]
 pub struct Traitor {
     /// His number.
     pub general: u8,
@@ -23,7 +23,7 @@ impl Model for Traitor {
 }
 
 /// A campaign of generals whom general 0 commands.
-#[derive(Debug, Drop)]
+#[derive(Drop)]
 pub struct Plot {
     /// How many generals there are.
     pub generals: u8,

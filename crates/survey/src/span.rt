@@ -1,7 +1,7 @@
 //! Spans of small numbers.
 
 /// The numbers from `low` to `high`, both of them within.
-#[derive(Clone, Copy, Debug, PartialEq, Eq)]
+#[derive(Clone, Copy)]
 pub struct Span {
     pub low: u8,
     pub high: u8,

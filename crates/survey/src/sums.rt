@@ -1,7 +1,7 @@
 //! Sums of what campaigns come to.
 
 /// What is counted of campaigns.
-#[derive(Clone, Copy, Debug, PartialEq, Eq)]
+#[derive(Clone, Copy, PartialEq, Eq)]
 pub enum Outcome {
     /// The bound holds.
     Kept,
@@ -12,14 +12,14 @@ pub enum Outcome {
 }
 
 /// How many campaigns have an outcome, and the least seed that gives one.
-#[derive(Clone, Copy, Debug, PartialEq, Eq)]
+#[derive(Clone, Copy)]
 pub struct Tally {
     pub count: u64,
     pub first: Option<u64>,
 }
 
 /// How many campaigns there are, and how many of them have each outcome.
-#[derive(Clone, Copy, Debug, PartialEq, Eq)]
+#[derive(Clone, Copy)]
 pub struct Sums {
     pub campaigns: u64,
     pub kept: Tally,

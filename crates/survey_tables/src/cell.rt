@@ -1,7 +1,7 @@
 //! Numbers in a table.
 
 /// A number, or none, in a column of this width.
-#[derive(Clone, Copy, Debug, PartialEq, Eq)]
+#[derive(Clone, Copy)]
 pub struct Cell {
     pub width: usize,
     pub number: Option<u64>,

@@ -2,7 +2,7 @@
 use survey::Sums;
 
 /// What the campaigns of so many generals come to who provide for so many traitors and have so many.
-#[derive(Clone, Copy, Debug, PartialEq, Eq)]
+#[derive(Clone, Copy)]
 pub struct Group {
     pub generals: u8,
     pub bound: u8,

@@ -3,7 +3,7 @@
 use label::Label;
 
 /// What stands at a place.
-#[derive(Clone, Copy, Debug, PartialEq, Eq)]
+#[derive(Clone, Copy)]
 pub enum Mark {
     /// An order, 0 for RETREAT.
     Order(u32),

@@ -7,7 +7,7 @@ use crate::error::MusterError;
 use letter::Letter;
 
 /// Why not all threads were started, as `kept` alone tells.
-#[derive(Clone, Copy, Debug)]
+#[derive(Clone, Copy)]
 pub(crate) struct Refused {
     error: MusterError,
 }

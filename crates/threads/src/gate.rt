@@ -24,7 +24,7 @@ pub trait Gate {
 }
 
 /// Lets everyone pass at once.
-#[derive(Clone, Copy, Debug)]
+#[derive(Clone, Copy)]
 pub struct Open;
 
 impl Gate for Open {

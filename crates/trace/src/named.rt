@@ -12,7 +12,7 @@ use std::alloc::{AllocError, Global};
 use text::{SPACE, piece};
 
 /// What a line says of rounds and accesses.
-#[derive(Clone, Copy, Debug, PartialEq, Eq)]
+#[derive(Clone, Copy)]
 enum Mark {
     /// A round begins.
     Round,

@@ -4,7 +4,7 @@ ghost use Rattle.trace.specs.Text.{version_by};
 use combine::Rule;
 
 /// The versions of a chronicle.
-#[derive(Clone, Copy, Debug, PartialEq, Eq)]
+#[derive(Clone, Copy, PartialEq, Eq)]
 pub enum Version {
     /// Without the patience and the rule.
     First,

@@ -9,7 +9,7 @@ use std::marker::Model;
 
 /// What a program is tried in: whose relay it is, the campaign's bound, the order that the general took for each label
 /// that he relays, by rank, and the words of the board at first.
-#[derive(Debug, Drop)]
+#[derive(Drop)]
 pub struct Setting {
     shape: Shape,
     bound: u32,

@@ -13,7 +13,7 @@ use insn::{Operand, Reg};
 use word::{Condition, Width};
 
 /// Which edges of a conditional jump may be taken.
-#[derive(Clone, Copy, Debug)]
+#[derive(Clone, Copy)]
 pub struct Followed {
     pub taken: bool,
     pub not_taken: bool,

@@ -2,7 +2,7 @@ use insn::{Operand, Reg};
 use word::{Condition, Width};
 
 /// What a conditional jump compares, and how.
-#[derive(Clone, Copy, Debug)]
+#[derive(Clone, Copy)]
 pub struct Comparison {
     pub width: Width,
     pub condition: Condition,

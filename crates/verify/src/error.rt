@@ -41,7 +41,7 @@ impl From<AllocError> for VerifyError {
 }
 
 /// A refusal, which hands the program back.
-#[derive(Debug, Drop)]
+#[derive(Drop)]
 pub struct Refused {
     /// The program that was refused.
     pub program: Program,

@@ -13,7 +13,7 @@ use insn::Program;
 use std::alloc::{AllocError, Global};
 
 /// What the pass knows of a program as it comes to each unit, up to the first fault.
-#[derive(Debug, Drop)]
+#[derive(Drop)]
 pub struct Survey {
     /// What is known at each unit to which the pass comes, that of the fault the last; None where no path leads there.
     pub states: Vec<Option<AbsState>>,

@@ -8,7 +8,7 @@ use absval::AbsVal;
 use insn::{Operand, Reg};
 
 /// What is known of a program's state: of each of its eleven registers, and of its stack.
-#[derive(Debug, Drop)]
+#[derive(Drop)]
 pub struct AbsState {
     pub registers: [AbsVal; 11],
     pub stack: AbsStack,

@@ -3,7 +3,7 @@ use std::error::Error;
 use std::fmt;
 
 /// What happens in a campaign.
-#[derive(Clone, Copy, Debug, PartialEq, Eq)]
+#[derive(Clone, Copy)]
 pub enum Event {
     /// One instruction of this traitor's program.
     Tick(u32),

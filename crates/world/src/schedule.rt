@@ -2,7 +2,7 @@
 use std::marker::Model;
 
 /// Entries of one general, one behind the other.
-#[derive(Clone, Copy, Debug, PartialEq, Eq)]
+#[derive(Clone, Copy)]
 pub struct Repeat {
     /// The general's number.
     pub general: u8,
@@ -11,7 +11,7 @@ pub struct Repeat {
 }
 
 /// The entries for one round, in their order.
-#[derive(Debug, Drop)]
+#[derive(Drop)]
 pub struct Entries {
     pub repeats: Vec<Repeat>,
 }
@@ -26,7 +26,7 @@ impl Model for Entries {
 }
 
 /// A line of entries for each round from the first on; rounds without a line have no entries.
-#[derive(Debug, Drop)]
+#[derive(Drop)]
 pub struct Schedule {
     pub lines: Vec<Entries>,
 }

@@ -1,5 +1,5 @@
 /// Whether the loyal lieutenants of a campaign agree (TOPLAS 1982, IC1 and IC2), and whether they had to.
-#[derive(Clone, Copy, Debug, PartialEq, Eq)]
+#[derive(Clone, Copy, PartialEq, Eq)]
 pub struct Verdict {
     /// All loyal lieutenants decide alike.
     pub alike: bool,

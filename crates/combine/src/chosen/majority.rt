@@ -7,7 +7,7 @@ use crate::orders::orders_of;
 use crate::rule::Combine;
 
 /// The order in more than half of the places, else RETREAT, which is 0 (TOPLAS 1982, section 3).
-#[derive(Clone, Copy, Debug, PartialEq, Eq)]
+#[derive(Clone, Copy, PartialEq, Eq)]
 pub struct Majority;
 
 impl Combine for Majority {

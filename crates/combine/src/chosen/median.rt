@@ -5,7 +5,7 @@ ghost use Rattle.combine.specs.Laws.{median_is_rule};
 use crate::rule::Combine;
 
 /// The middle of the sorted list, at half of its length from 0; RETREAT of the empty one.
-#[derive(Clone, Copy, Debug, PartialEq, Eq)]
+#[derive(Clone, Copy, PartialEq, Eq)]
 pub struct Median;
 
 impl Combine for Median {
