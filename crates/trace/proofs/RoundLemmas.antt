@@ -5,7 +5,7 @@ use Rattle.std.proofs.lemmas.List.{take_more, length-take-le}
 use Rattle.std.proofs.lemmas.Grind.{flat_map-append}
 use Rattle.board.specs.Board.{Access}
 use Rattle.letter.specs.Letters.{Letter}
-use Rattle.trace.specs.Sinks.{Wrote}
+use Rattle.trace.specs.Sinks.{Wrote, WroteBut}
 use Rattle.trace.specs.Text.{Word, Line, further, text, access_line, row_lines, author_line, letter_lines, steps_of, rounds_told}
 use Rattle.trace.specs.Lines.{round_line, round_told, row_line}
 use Rattle.trace.proofs.WrittenLemmas.{further-append, then_wrote, wrote-same}
@@ -14,6 +14,14 @@ use Rattle.trace.proofs.LineLemmas.{text-append}
 -- lines, and others behind them
 pub then_lines : {a b c : Option (List ℕ)} {f g h : Bool} (ls ks all : List Line) → all ≡ ls ++ ks → Wrote a f (text ls) b g → Wrote b g (text ks) c h → Wrote a f (text all) c h
 then_lines ls ks all e v w = wrote-same _ _ (sym (ap text e ∙ text-append ls ks)) (then_wrote v w)
+
+-- lines of which an end is not written yet, and others behind them
+pub then_kept : {a b c : Option (List ℕ)} {f g h : Bool} {kept left : List ℕ} (ls ks all : List Line) → all ≡ ls ++ ks → WroteBut a f (text ls) b g kept → WroteBut b g (kept ++ text ks) c h left → WroteBut a f (text all) c h left
+then_kept {a} {b} {c} {f} {g} {h} {kept} {left} ls ks all e v w = (
+      v.0 ++ w.0,
+      then_wrote v.1 w.1,
+      append_assoc v.0 w.0 left ∙ ap (λ t. v.0 ++ t) w.2 ∙ sym (append_assoc v.0 kept (text ks)) ∙ ap (λ t. t ++ text ks) v.2 ∙ sym (ap text e ∙ text-append ls ks),
+    )
 
 -- one row more
 more_rows : (rank : ℕ) (rows : List (List (Option ℕ))) (row : List (Option ℕ)) → row_lines rank (rows ++ row ∷ []) ≡ row_lines rank rows ++ row_line (rank + length rows) row ∷ []

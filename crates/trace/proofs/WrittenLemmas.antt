@@ -6,7 +6,7 @@ use Rattle.std.proofs.lemmas.List.{take-append-drop, take_all, drop-set, drop_al
 use Rattle.std.specs.Io.KnownBytes.{Appends, Keeps}
 use Rattle.std.proofs.KnownBytes.{Appends-nil, Appends-trans, Appends-kept}
 use Rattle.mem.proofs.Parts.{take-split}
-use Rattle.trace.specs.Sinks.{Wrote}
+use Rattle.trace.specs.Sinks.{Wrote, WroteBut}
 use Rattle.trace.specs.Text.{Word, further}
 
 either : (b : Bool) (A : Type 0) → (b ≡ true → A) → (b ≡ false → A) → A
@@ -52,6 +52,10 @@ wrote_none {a} {f} x e = subst (λ t. Wrote a f t a f) (sym e) wrote-nothing
 -- the same text in other words
 pub wrote-same : {a b : Option (List ℕ)} {f g : Bool} (x y : List ℕ) → x ≡ y → Wrote a f x b g → Wrote a f y b g
 wrote-same {a} {b} {f} {g} x y e w = subst (λ t. Wrote a f t b g) e w
+
+-- what was left is written too
+pub then_rest : {a b c : Option (List ℕ)} {x left : List ℕ} {f g h : Bool} → WroteBut a f x b g left → Wrote b g left c h → Wrote a f x c h
+then_rest {a} {b} {c} {x} {left} {f} {g} {h} v w = wrote-same _ _ v.2 (then_wrote v.1 w)
 
 pub drop-length : (n : ℕ) (xs : List ℕ) → n ≤ length xs → length (drop n xs) + n ≡ length xs
 drop-length zero xs le = omega arith

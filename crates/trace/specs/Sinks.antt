@@ -13,3 +13,7 @@ pub record Wrote (old : Option (List ℕ)) (before : Bool) (text : List ℕ) (ne
   pub whole : after ≡ false → rest ≡ []
   pub sound : after ≡ false → before ≡ false
   pub nothing : before ≡ true → front ≡ []
+
+-- the same, but for the end of the text, which is not written yet
+abbrev pub WroteBut : Option (List ℕ) → Bool → List ℕ → Option (List ℕ) → Bool → List ℕ → Type 0
+WroteBut old before text new after left = (told : List ℕ) × Wrote old before told new after × (told ++ left ≡ text)

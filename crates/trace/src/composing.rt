@@ -1,5 +1,5 @@
 //! Lines that are put together before they are written.
-ghost use Rattle.std.specs.Prelude.{◌≡◌, ◌+◌, ◌*◌, ◌≤◌, ◌++◌, ◌∷◌, [], length, map, take, decimal};
+ghost use Rattle.std.specs.Prelude.{◌≡◌, IsFalse, ◌+◌, ◌*◌, ◌≤◌, ◌++◌, ◌∷◌, [], length, map, take, decimal};
 ghost use Rattle.outbox.specs.Rows.{order_in};
 ghost use Rattle.trace.specs.Text.{further, place};
 
@@ -7,11 +7,11 @@ use itoa::write_digits;
 use outbox::Row;
 use std::marker::Model;
 
-/// The bytes of a line so far, at most 160. A label's row has fewer: its rank and each of at most 13 orders take 11
-/// bytes at most.
+/// The bytes of lines so far, at most 1,024. A label's row has at most 158: its rank and each of at most 13 orders take
+/// 11 bytes at most.
 #[derive(Drop)]
 pub struct LineBuffer {
-    bytes: [u8; 160],
+    bytes: [u8; 1024],
     /// How many they are.
     count: usize,
 }
@@ -23,21 +23,21 @@ impl Model for LineBuffer {
 
     ghost view = { λ l. take l.count l.bytes };
 
-    ghost invariant = { λ l. (length l.bytes ≡ 160) × (l.count ≤ 160) };
+    ghost invariant = { λ l. (length l.bytes ≡ 1024) × (l.count ≤ 1024) };
 }
 
 impl LineBuffer {
-    /// A line of no bytes.
+    /// Lines of no bytes.
     pub fn new() -> LineBuffer
         ensures { result ≡ [] }
     {
         LineBuffer {
-            bytes: [0; 160],
+            bytes: [0; 1024],
             count: 0,
         }
     }
 
-    /// Begins a line anew.
+    /// Begins anew.
     pub fn clear(&mut self)
         ensures { self.new ≡ [] }
     {
@@ -46,7 +46,7 @@ impl LineBuffer {
 
     /// Adds a piece.
     pub fn add(&mut self, piece: &[u8])
-        requires { length self.old + length piece.now ≤ 160 }
+        requires { length self.old + length piece.now ≤ 1024 }
         ensures { self.new ≡ self.old ++ piece.now }
     {
         self.count = with_piece(&mut self.bytes, self.count, piece);
@@ -54,7 +54,7 @@ impl LineBuffer {
 
     /// Adds a space and a number.
     pub fn add_number(&mut self, number: u32)
-        requires { length self.old + 11 ≤ 160 }
+        requires { length self.old + 11 ≤ 1024 }
         ensures added { self.new ≡ self.old ++ 32 ∷ decimal number }
         ensures short { length self.new ≤ length self.old + 11 }
     {
@@ -63,7 +63,7 @@ impl LineBuffer {
 
     /// Adds what the receivers were told: orders, or dashes for nothing, each behind a space.
     pub fn add_orders(&mut self, orders: &Row, receivers: &[u8])
-        requires { length self.old + 11 * length receivers.now ≤ 160 }
+        requires { length self.old + 11 * length receivers.now ≤ 1024 }
         ensures added { self.new ≡ self.old ++ further (map (λ r. place (order_in r orders.now)) receivers.now) }
         ensures short { length self.new ≤ length self.old + 11 * length receivers.now }
     {
@@ -73,6 +73,13 @@ impl LineBuffer {
             count = with_place(&mut self.bytes, count, order);
         }
         self.count = count;
+    }
+
+    /// Whether there may be no room for a row more.
+    pub fn is_full(&self) -> bool
+        ensures { IsFalse result → length self.now + 158 ≤ 1024 }
+    {
+        self.count > 1024 - 158
     }
 
     /// The bytes so far.

@@ -9,6 +9,7 @@ ghost use Rattle.trace.specs.Lines.{decided_lines, one_round};
 use crate::composing::LineBuffer;
 use crate::lines::{put_accesses, put_author, put_decision, put_round, put_row};
 use crate::sink::Sink;
+use crate::writing::put_all;
 use board::Access;
 use letter::{Letter, Round};
 use outbox::Outbox;
@@ -19,10 +20,11 @@ fn put_rows<S: Sink>(sink: &mut S, outbox: &Outbox)
     ensures { Wrote (S.contents sink.old) (S.has_failed sink.old) (text (row_lines 0 outbox.now.rows))
         (S.contents sink.new) (S.has_failed sink.new) }
 {
-    let mut line = LineBuffer::new();
+    let mut lines = LineBuffer::new();
     for rank in 0..outbox.labels() {
-        put_row(sink, &mut line, outbox, rank);
+        put_row(sink, &mut lines, outbox, rank);
     }
+    put_all(sink, lines.as_slice());
 }
 
 /// Whose letter it is.

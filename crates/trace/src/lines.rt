@@ -1,7 +1,7 @@
 //! The lines of a chronicle, written to a sink.
 ghost use Rattle.std.specs.Prelude.{◌≡◌, ◌==◌, ◌<◌, ◌≤◌, ◌+◌, ◌++◌, ◌∷◌, [], ℕ, decimal, codes, length, map, filter, Option, slice_index_or};
 ghost use Rattle.semantics.specs.Replies.{words_in};
-ghost use Rattle.trace.specs.Sinks.{Wrote};
+ghost use Rattle.trace.specs.Sinks.{Wrote, WroteBut};
 ghost use Rattle.trace.specs.Text.{author_line, further, text, access_line, place, question, yes_no, yes_no_none, verdict_line, decision_line};
 ghost use Rattle.trace.specs.Lines.{mark, round_line, row_line};
 
@@ -112,7 +112,7 @@ pub fn put_order<S: Sink>(sink: &mut S, order: Option<u32>)
 /// are 13 at most, of 11 bytes each: 143 bytes.
 fn add_orders(line: &mut LineBuffer, outbox: &Outbox, rank: u32)
     requires rank { rank < length outbox.now.rows }
-    requires room { length line.old + 143 ≤ 160 }
+    requires room { length line.old + 143 ≤ 1024 }
     ensures orders { line.new ≡ line.old ++ further (map place (slice_index_or outbox.now.rows rank [])) }
     ensures short { length line.new ≤ length line.old + 143 }
 {
@@ -123,27 +123,41 @@ fn add_orders(line: &mut LineBuffer, outbox: &Outbox, rank: u32)
     line.add_orders(orders, outbox.receivers(rank));
 }
 
-/// Puts together the line of a label's row: its rank, and what its receivers were told.
-fn compose_row(line: &mut LineBuffer, outbox: &Outbox, rank: u32)
-    requires { rank < length outbox.now.rows }
-    ensures { line.new ≡ text (row_line rank (slice_index_or outbox.now.rows rank []) ∷ []) }
+/// Adds the line of a label's row: its rank, and what its receivers were told.
+fn add_row(lines: &mut LineBuffer, outbox: &Outbox, rank: u32)
+    requires rank { rank < length outbox.now.rows }
+    requires room { length lines.old + 158 ≤ 1024 }
+    ensures { lines.new ≡ lines.old ++ text (row_line rank (slice_index_or outbox.now.rows rank []) ∷ []) }
 {
-    line.clear();
-    line.add(b"row");
-    line.add_number(rank);
-    add_orders(line, outbox, rank);
-    line.add(b"\n");
+    lines.add(b"row");
+    lines.add_number(rank);
+    add_orders(lines, outbox, rank);
+    lines.add(b"\n");
 }
 
-/// The line of a label's row, put together in this one.
-pub fn put_row<S: Sink>(sink: &mut S, line: &mut LineBuffer, outbox: &Outbox, rank: u32)
-    requires { rank < length outbox.now.rows }
-    ensures { Wrote (S.contents sink.old) (S.has_failed sink.old)
-        (text (row_line rank (slice_index_or outbox.now.rows rank []) ∷ [])) (S.contents sink.new)
-        (S.has_failed sink.new) }
+/// Writes the lines, and begins them anew, where there may be no room for a row more.
+fn put_full<S: Sink>(sink: &mut S, lines: &mut LineBuffer)
+    ensures put { WroteBut (S.contents sink.old) (S.has_failed sink.old) lines.old (S.contents sink.new)
+        (S.has_failed sink.new) lines.new }
+    ensures room { length lines.new + 158 ≤ 1024 }
 {
-    compose_row(line, outbox, rank);
-    put_all(sink, line.as_slice());
+    if lines.is_full() {
+        put_all(sink, lines.as_slice());
+        lines.clear();
+    }
+}
+
+/// The line of a label's row behind these lines: what is not written yet is kept in them.
+pub fn put_row<S: Sink>(sink: &mut S, lines: &mut LineBuffer, outbox: &Outbox, rank: u32)
+    requires rank { rank < length outbox.now.rows }
+    requires room { length lines.old + 158 ≤ 1024 }
+    ensures put { WroteBut (S.contents sink.old) (S.has_failed sink.old)
+        (lines.old ++ text (row_line rank (slice_index_or outbox.now.rows rank []) ∷ [])) (S.contents sink.new)
+        (S.has_failed sink.new) lines.new }
+    ensures room { length lines.new + 158 ≤ 1024 }
+{
+    add_row(lines, outbox, rank);
+    put_full(sink, lines);
 }
 
 /// The first line of a letter: a loyal general's, or a traitor's with the steps that he took.

@@ -7,4 +7,4 @@ abbrev pub invariant-loop-receiver : goal.invariant-loop-receiver
 invariant-loop-receiver l =
     (take l.count l.self-inside.bytes ≡ l.fn.self ++ further (map (λ r. place (order_in r l.orders)) (take l.receiver-index l.receivers)))
     × (l.count ≤ length l.fn.self + 11 * l.receiver-index)
-    × (length l.self-inside.bytes ≡ 160)
+    × (length l.self-inside.bytes ≡ 1024)
