@@ -1,5 +1,5 @@
 -- Lines behind lines: rows, letters and rounds, one more of each.
-use Rattle.std.proofs.Common.{◌≡◌, ℕ, suc, ◌+◌, ◌<◌, Bool, List, [], ◌∷◌, ◌++◌, refl, sym, ap, ◌∙◌, append_assoc, append-nil, map, flat_map, length, take, get_or, arith, Option, None, Some}
+use Rattle.std.proofs.Common.{◌≡◌, ℕ, suc, ◌+◌, ◌<◌, Bool, List, [], ◌∷◌, ◌++◌, sym, ap, ◌∙◌, append_assoc, append-nil, map, flat_map, length, take, get_or, arith, Option}
 use Rattle.std.specs.Prelude.{filter, ◌==◌}
 use Rattle.std.proofs.lemmas.List.{take_more, length-take-le}
 use Rattle.std.proofs.lemmas.Grind.{flat_map-append}
@@ -18,10 +18,10 @@ then_lines ls ks all e v w = wrote-same _ _ (sym (ap text e ∙ text-append ls k
 -- lines of which an end is not written yet, and others behind them
 pub then_kept : {a b c : Option (List ℕ)} {f g h : Bool} {kept left : List ℕ} (ls ks all : List Line) → all ≡ ls ++ ks → WroteBut a f (text ls) b g kept → WroteBut b g (kept ++ text ks) c h left → WroteBut a f (text all) c h left
 then_kept {a} {b} {c} {f} {g} {h} {kept} {left} ls ks all e v w = (
-      v.0 ++ w.0,
-      then_wrote v.1 w.1,
-      append_assoc v.0 w.0 left ∙ ap (λ t. v.0 ++ t) w.2 ∙ sym (append_assoc v.0 kept (text ks)) ∙ ap (λ t. t ++ text ks) v.2 ∙ sym (ap text e ∙ text-append ls ks),
-    )
+  v.0 ++ w.0,
+  then_wrote v.1 w.1,
+  append_assoc v.0 w.0 left ∙ ap (λ t. v.0 ++ t) w.2 ∙ sym (append_assoc v.0 kept (text ks)) ∙ ap (λ t. t ++ text ks) v.2 ∙ sym (ap text e ∙ text-append ls ks),
+)
 
 -- one row more
 more_rows : (rank : ℕ) (rows : List (List (Option ℕ))) (row : List (Option ℕ)) → row_lines rank (rows ++ row ∷ []) ≡ row_lines rank rows ++ row_line (rank + length rows) row ∷ []
