@@ -1,17 +1,16 @@
 -- The lines of signed chains, part by part and one more.
-use Rattle.std.proofs.Common.{◌≡◌, ℕ, zero, suc, ◌+◌, ◌-◌, ◌<◌, ◌≤◌, Bool, true, false, cond, List, [], ◌∷◌, ◌++◌, map, flat_map, take, drop, length, get_or, refl, sym, ap, ◌∙◌, arith, append_assoc, append-nil}
+use Rattle.std.proofs.Common.{◌≡◌, ℕ, zero, suc, ◌+◌, ◌-◌, ◌<◌, ◌≤◌, true, false, List, [], ◌∷◌, ◌++◌, map, flat_map, take, drop, length, get_or, refl, sym, ap, ◌∙◌, arith, append-nil}
 use Rattle.std.specs.Prelude.{◌==◌, codes, decimal, filter}
 use Rattle.std.specs.Int.{bit_at}
 use Rattle.std.specs.List.{range_with_len}
 use Rattle.std.proofs.lemmas.List.{take_all, take_more, map-append}
 use Rattle.std.proofs.lemmas.List.Elements.{filter-append}
-use Rattle.std.proofs.lemmas.Grind.{flat_map-append}
 use Rattle.signed.specs.Chains.{Chain}
 use Rattle.signed.specs.Sending.{dispatch_of, named}
 use Rattle.trace.specs.SignedText.{chain_line, dotted}
-use Rattle.trace.specs.Text.{Word, Line, further, text}
+use Rattle.trace.specs.Text.{further, text}
 use Rattle.trace.proofs.WrittenLemmas.{further-one}
-use Rattle.trace.proofs.LineLemmas.{said, text-append}
+use Rattle.trace.proofs.LineLemmas.{said}
 
 -- a general behind a dot
 abbrev pub behind_dot : ℕ → List ℕ

@@ -1,6 +1,7 @@
 pub mod EntryLemmas
 pub mod WrittenLemmas
 pub mod LineLemmas
+pub mod WordsAlike
 pub mod RoundLemmas
 pub mod ChainLemmas
 pub mod SignedLines

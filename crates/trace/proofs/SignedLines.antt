@@ -1,5 +1,5 @@
 -- The lines of signed letters and of the first lines, part by part.
-use Rattle.std.proofs.Common.{◌≡◌, ℕ, List, [], ◌∷◌, ◌++◌, map, refl, sym, ap, ◌∙◌, append_assoc, Option}
+use Rattle.std.proofs.Common.{◌≡◌, ℕ, List, [], ◌∷◌, ◌++◌, map, sym, ap, ◌∙◌, append_assoc, Option}
 use Rattle.std.specs.Prelude.{codes, decimal}
 use Rattle.letter.specs.Letters.{Letter}
 use Rattle.roster.specs.Scenario.{Scenario}

@@ -9,8 +9,8 @@ use Rattle.world.specs.Chronicle.{Chronicle}
 use Rattle.world.specs.KindLists.{names_in}
 use Rattle.trace.specs.Names.{names_of}
 use Rattle.trace.specs.SignedText.{chain_line, dotted, head_lines, letter_lines, signed_lines, signed_text}
-use Rattle.trace.specs.Text.{Line, Word, place, steps_of}
-use Rattle.trace.proofs.Naming.{AreKnown, AreSilent, IsSilent, author_silent, known_all, lines_named}
+use Rattle.trace.specs.Text.{Word, place, steps_of}
+use Rattle.trace.proofs.Naming.{AreKnown, AreSilent, author_silent, known_all, lines_named}
 use Rattle.trace.proofs.Plain.{author_plain, by_test, campaign_plain, lines_plain, place_plain}
 use Rattle.trace.proofs.Splitting.{AreLines, IsLine, IsPlain, decimal_plain}
 

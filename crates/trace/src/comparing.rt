@@ -1,5 +1,7 @@
 //! Two texts, compared as the one is written.
-ghost use Rattle.std.specs.Prelude.{◌≡◌, ◌≢◌, ◌<◌, ◌≤◌, true, false, IfNone, IfSome, None, is_some, length, slice_get, take};
+ghost use Rattle.std.specs.Prelude.{◌≡◌, ◌≢◌, ◌<◌, ◌≤◌, ◌+◌, true, false, IfNone, IfSome, None, is_some, length, slice_get, take};
+ghost use Rattle.std.specs.Int.{to_le_bytes, w64};
+ghost use Rattle.trace.specs.Compared.{eight};
 
 use crate::sink::Sink;
 
@@ -83,25 +85,44 @@ fn alike(text: &[u8], piece: &[u8]) -> usize
     ensures alike { take result text.now ≡ take result piece.now }
     ensures none { result ≡ 0 → 0 < length piece.now → slice_get text.now 0 ≢ slice_get piece.now 0 }
 {
-    if text.starts_with(piece) {
-        piece.len()
-    } else {
-        alike_front(text, piece)
-    }
-}
-
-/// How many bytes are alike at the front of a text and of a piece, byte by byte.
-fn alike_front(text: &[u8], piece: &[u8]) -> usize
-    ensures text { result ≤ length text.now }
-    ensures piece { result ≤ length piece.now }
-    ensures alike { take result text.now ≡ take result piece.now }
-    ensures none { result ≡ 0 → 0 < length piece.now → slice_get text.now 0 ≢ slice_get piece.now 0 }
-{
     let most = text.len().min(piece.len());
-    for count in 0..most {
+    for count in alike_words(text, piece)..most {
         if text[count] != piece[count] {
             return count;
         }
     }
     most
+}
+
+/// How many bytes at the front are alike, eight by eight.
+fn alike_words(text: &[u8], piece: &[u8]) -> usize
+    ensures text { result ≤ length text.now }
+    ensures piece { result ≤ length piece.now }
+    ensures alike { take result text.now ≡ take result piece.now }
+{
+    let words = text.len().min(piece.len()) / 8;
+    for word in 0..words {
+        let place = 8 * word;
+        if word_at(text, place) != word_at(piece, place) {
+            return place;
+        }
+    }
+    8 * words
+}
+
+/// The eight bytes from a place on, as a number.
+fn word_at(bytes: &[u8], place: usize) -> u64
+    requires { place + 8 ≤ length bytes.now }
+    ensures { to_le_bytes w64 result ≡ eight place bytes.now }
+{
+    u64::from_le_bytes([
+        bytes[place],
+        bytes[place + 1],
+        bytes[place + 2],
+        bytes[place + 3],
+        bytes[place + 4],
+        bytes[place + 5],
+        bytes[place + 6],
+        bytes[place + 7],
+    ])
 }

@@ -1,5 +1,5 @@
 -- One general more.
-use Rattle.std.proofs.Common.{◌≡◌, ◌∷◌, ◌++◌, [], List, ℕ, length, length-append, sym, ap, ◌∙◌, arith}
+use Rattle.std.proofs.Common.{◌∷◌, ◌++◌, [], List, ℕ, length, length-append, sym, ap, ◌∙◌, arith}
 use Rattle.trace.proofs.ChainLemmas.{named_else, named_then}
 use Rattle.trace.proofs.receivers.named.Goals as goal
 use Rattle.trace.proofs.receivers.named.Goals.{then-has, else-has}
