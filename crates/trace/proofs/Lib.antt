@@ -1,7 +1,6 @@
 pub mod EntryLemmas
 pub mod WrittenLemmas
 pub mod LineLemmas
-pub mod WordsAlike
 pub mod RoundLemmas
 pub mod ChainLemmas
 pub mod SignedLines
