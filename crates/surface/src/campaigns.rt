@@ -76,6 +76,11 @@ pub fn written<S: Sink>(chronicle: &Chronicle, sink: &mut S) -> Result<(), Trace
     write_chronicle(chronicle, sink)
 }
 
+/// Whether what a text is written to has failed.
+pub fn has_failed<S: Sink>(sink: &S) -> bool {
+    sink.failed()
+}
+
 /// The schedule that a text says.
 pub fn schedule(alloc: Global, text: &str) -> Result<Schedule, TraceError> {
     read_schedule(alloc, text)

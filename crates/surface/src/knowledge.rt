@@ -47,6 +47,11 @@ pub fn known_bits(width: Width, operation: Operation, a: Bits, b: Bits) -> (Bits
     (bits::operate::operate(width, operation, a, b), a.join(b))
 }
 
+/// The least and the greatest number of a range; of words the bits that are unknown, and those known to be 1.
+pub fn ends(range: Range, bits: Bits) -> (u64, u64, u64, u64) {
+    (range.lo, range.hi, bits.mask, bits.value)
+}
+
 /// What an operation on two values gives.
 pub fn made(width: Width, operation: Operation, a: AbsVal, b: AbsVal) -> Option<AbsVal> {
     absval::arithmetic(width, operation, a, b)

@@ -47,6 +47,15 @@ pub fn cancelled(waiting: Waiting) -> Activation {
     waiting.cancel()
 }
 
+/// A program that stands still, to be run on: as before its request, or where its steps were cut.
+pub fn resumed(pause: Pause) -> Option<Activation> {
+    match pause {
+        Pause::Board(_, waiting) => Some(waiting.cancel()),
+        Pause::Done(_) => None,
+        Pause::Cut(activation) => Some(activation),
+    }
+}
+
 /// What a program leaves that is run no further.
 pub fn ended(activation: Activation) -> Ended {
     activation.end()

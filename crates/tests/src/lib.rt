@@ -1,5 +1,5 @@
-//! Tests of words, ranges, labels, trees, tables, cells, the board, orders and programs, by values from outside: a
-//! crate with tests of its own is proved twice.
+//! Tests of words, ranges, labels, trees, tables, cells, the board, orders, programs and where a text may be cut, by
+//! values from outside: a crate with tests of its own is proved twice.
 #![tactic(auto)]
 
 #[cfg(test)]
@@ -10,6 +10,8 @@ mod boards;
 mod bytecode;
 #[cfg(test)]
 mod cells;
+#[cfg(test)]
+mod cuts;
 #[cfg(test)]
 mod edges;
 #[cfg(test)]

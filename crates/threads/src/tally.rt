@@ -45,7 +45,7 @@ impl Count {
     }
 }
 
-/// What the generals tell the one who waits for their letters. Nothing is promised of it.
+/// What the generals tell the one who waits for their letters.
 #[derive(Drop)]
 pub(crate) struct Tally {
     generals: usize,

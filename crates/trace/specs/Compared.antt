@@ -12,6 +12,6 @@ compared text bytes = Some (length text ∷ text ++ bytes)
 -- the eight bytes from a place on
 abbrev pub eight : ℕ → List ℕ → List ℕ
 eight place bytes =
-    slice_index bytes place ∷ slice_index bytes (place + 1) ∷ slice_index bytes (place + 2) ∷ slice_index bytes (place + 3)
-    ∷ slice_index bytes (place + 4) ∷ slice_index bytes (place + 5) ∷ slice_index bytes (place + 6)
-    ∷ slice_index bytes (place + 7) ∷ []
+    slice_index bytes place ∷ slice_index bytes (place + 1) ∷ slice_index bytes (place + 2)
+    ∷ slice_index bytes (place + 3) ∷ slice_index bytes (place + 4) ∷ slice_index bytes (place + 5)
+    ∷ slice_index bytes (place + 6) ∷ slice_index bytes (place + 7) ∷ []
