@@ -5,26 +5,21 @@ use std::alloc::{AllocError, Global};
 use word::{Operation, Width};
 
 /// Whether it is the instruction that takes two units.
-fn is_wide(found: Option<Insn>, register: Reg) -> bool {
-    match found {
-        Some(Insn::LoadImmediate { dst, number }) => dst == register && number == 7,
-        _ => false,
-    }
+fn is_wide(found: &Option<Insn>, register: Reg) -> bool {
+    matches!(found, Some(Insn::LoadImmediate { dst, number: 7 }) if *dst == register)
 }
 
 /// Whether it is the instruction that takes one.
-fn is_narrow(found: Option<Insn>, register: Reg) -> bool {
-    match found {
-        Some(
-            Insn::Arithmetic {
-                width: Width::W64,
-                operation: Operation::Move,
-                dst,
-                operand,
-            },
-        ) => dst == register && operand == Operand::Immediate(42),
-        _ => false,
-    }
+fn is_narrow(found: &Option<Insn>, register: Reg) -> bool {
+    matches!(
+        found,
+        Some(Insn::Arithmetic {
+            width: Width::W64,
+            operation: Operation::Move,
+            dst,
+            operand: Operand::Immediate(42),
+        }) if *dst == register
+    )
 }
 
 /// Whether the wide instruction, the narrow one and the exit take the program's 4 units, of which the second starts
@@ -33,9 +28,9 @@ fn is_laid_out(program: &Program, dst: Reg) -> bool {
     program.len() == 3
         && program.units() == 4
         && program.instructions().len() == 3
-        && is_wide(program.at(0), dst)
+        && is_wide(&program.at(0), dst)
         && program.at(1).is_none()
-        && is_narrow(program.at(2), dst)
+        && is_narrow(&program.at(2), dst)
         && matches!(program.at(3), Some(Insn::Exit))
         && program.at(4).is_none()
 }
