@@ -39,11 +39,6 @@ register_of-text r le =
       | inr ge ↦ let ten : r ≡ 10 = omega arith in rw (ten, ten_text) register_ten
     ]
 
--- operands of arithmetic
-raw_for : Operand → Raw
-raw_for (Register r) = raws.Register r
-raw_for (Immediate z) = raws.Number (number_for z)
-
 -- digits do not begin with a greater byte
 first_is_not : (ds : List ℕ) (other : ℕ) → AreDigits ds → 57 < other → (0 == other) ≡ false → (get_or ds 0 0 == other) ≡ false
 first_is_not [] other h lt zero_is = zero_is
@@ -96,10 +91,6 @@ inside-brackets : (text : List ℕ) → inside (91 ∷ (text ++ 93 ∷ [])) ≡ 
 inside-brackets text =
     let len : length (text ++ 93 ∷ []) ≡ length text + 1 = length_push text 93 in
     inside_is (91 ∷ (text ++ 93 ∷ [])) text (length text) (omega arith) refl (rw add-one (get_or_push text 93 0 (length text) refl)) (take_front text (93 ∷ []))
-
-sign_of : ℤ → ℕ
-sign_of (pos n) = 43
-sign_of (negsuc n) = 45
 
 no_sign : (c : ℕ) → is_within 48 57 c ≡ true → not (is_stop Sign c) ≡ true
 no_sign c h = grind (arith, nat_tests)

@@ -1,8 +1,8 @@
 -- Statements in the words of their lines.
-use Rattle.std.proofs.Common.{◌≡◌, ◌≢◌, ◌∙◌, ℕ, zero, suc, ◌<◌, List, [], ◌∷◌, ◌++◌, true, IsUtf8, ap, append_assoc, append-nil, arith, lit<, refl, subst, sym}
+use Rattle.std.proofs.Common.{◌≡◌, ◌≢◌, ◌∙◌, ℕ, zero, suc, ◌<◌, List, [], ◌∷◌, ◌++◌, true, IsUtf8, ap, append-nil, arith, lit<, refl, sym}
 use Rattle.std.specs.Prelude.{Option, None, Some, slice_index, nat_le, nat_lt}
 use Rattle.std.specs.Option.{ok_or}
-use Rattle.std.specs.List.{flat_map, list_all}
+use Rattle.std.specs.List.{list_all}
 use Rattle.std.proofs.lemmas.Bool.{and_parts}
 use Rattle.std.proofs.lemmas.Str.{IsUtf8-from_ascii}
 use Rattle.std.proofs.lemmas.Grind.{common_steps}
@@ -37,16 +37,3 @@ pub nothing_added : (old : List (List ℕ)) (line : List ℕ) (error : LineError
     error ≢ failures.Memory → old ≡ old ++ line_statements line
 nothing_added old line error given apart =
     sym (append-nil old) ∙ ap (λ (s : List (List ℕ)). old ++ s) (sym (of_fault error (outline_of line) given apart))
-
--- one more line
-pub statements_next : (old new all : List (List ℕ)) (line : List ℕ) (lines more : List (List ℕ)) → lines ≡ line ∷ more →
-    old ++ flat_map line_statements lines ≡ all → new ≡ old ++ line_statements line → new ++ flat_map line_statements more ≡ all
-statements_next old new all line lines more e so_far next =
-    let front : old ++ flat_map line_statements (line ∷ more) ≡ all = subst (λ (ls : List (List ℕ)). old ++ flat_map line_statements ls ≡ all) e so_far in
-    ap (λ (s : List (List ℕ)). s ++ flat_map line_statements more) next ∙ (append_assoc old (line_statements line) (flat_map line_statements more) ∙ front)
-
--- no more
-pub statements_all : (done all : List (List ℕ)) (lines : List (List ℕ)) → lines ≡ [] → done ++ flat_map line_statements lines ≡ all → done ≡ all
-statements_all done all lines e so_far =
-    let whole : done ++ [] ≡ all = subst (λ (ls : List (List ℕ)). done ++ flat_map line_statements ls ≡ all) e so_far in
-    sym (append-nil done) ∙ whole
