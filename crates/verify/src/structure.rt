@@ -67,10 +67,10 @@ fn jump_fault(program: &Program, end: usize, unit: usize, insn: &Insn) -> Option
 fn is_jump(insn: &Insn) -> bool
     ensures { result ≡ false → (program : List InsnValue) (unit : ℕ) → jump_checks program unit insn.now ≡ [] }
 {
-    match insn {
-        Insn::Jump { .. } | Insn::LongJump { .. } | Insn::Branch { .. } => true,
-        _ => false,
-    }
+    matches!(
+        insn,
+        Insn::Jump { .. } | Insn::LongJump { .. } | Insn::Branch { .. }
+    )
 }
 
 /// Whether the instruction at a unit is a jump with a fault. Most instructions are none, and are not looked at further.
