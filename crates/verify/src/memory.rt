@@ -175,6 +175,7 @@ fn store_pointer(
 }
 
 /// What a store leaves.
+#[inline(always)]
 pub fn store(
     stack: &mut AbsStack,
     size: Size,

@@ -47,7 +47,6 @@ fn target_fault(program: &Program, end: usize, unit: usize, distance: i32) -> Op
 }
 
 /// The fault of the instruction at a unit, if it is a jump.
-#[inline(never)]
 fn jump_fault(program: &Program, end: usize, unit: usize, insn: &Insn) -> Option<VerifyError>
     requires end { end ≡ length (slots_of program.now) }
     requires bound { end ≤ 4096 }
@@ -73,6 +72,17 @@ fn is_jump(insn: &Insn) -> bool
     )
 }
 
+/// Whether the instruction at a unit has a fault, if it is a jump.
+#[inline(never)]
+fn is_faulty(program: &Program, end: usize, unit: usize, insn: &Insn) -> bool
+    requires end { end ≡ length (slots_of program.now) }
+    requires bound { end ≤ 4096 }
+    requires inside { unit < end }
+    ensures { result ≡ is_some (first_fault (jump_checks program.now unit insn.now)) }
+{
+    jump_fault(program, end, unit, insn).is_some()
+}
+
 /// Whether the instruction at a unit is a jump with a fault. Most instructions are none, and are not looked at further.
 #[inline(always)]
 fn has_fault(program: &Program, end: usize, unit: usize, insn: &Insn) -> bool
@@ -81,7 +91,7 @@ fn has_fault(program: &Program, end: usize, unit: usize, insn: &Insn) -> bool
     requires inside { unit < end }
     ensures { result ≡ is_some (first_fault (jump_checks program.now unit insn.now)) }
 {
-    is_jump(insn) && jump_fault(program, end, unit, insn).is_some()
+    is_jump(insn) && is_faulty(program, end, unit, insn)
 }
 
 /// The first fault of the jumps.
