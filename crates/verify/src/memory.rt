@@ -17,7 +17,7 @@ use semantics::Region;
 use word::Narrow;
 
 /// The pointer that a base is.
-fn pointer_of(base: &AbsVal) -> Result<(Region, Offsets), Reason>
+pub(crate) fn pointer_of(base: &AbsVal) -> Result<(Region, Offsets), Reason>
     ensures { result ≡ pointer_in base.now }
 {
     match base {
@@ -132,7 +132,7 @@ fn stack_window(
 
 /// A number is stored.
 #[inline(always)]
-fn store_number(
+pub(crate) fn store_number(
     stack: &mut AbsStack,
     size: Size,
     base: (Region, Offsets),
@@ -175,7 +175,6 @@ fn store_pointer(
 }
 
 /// What a store leaves.
-#[inline(always)]
 pub fn store(
     stack: &mut AbsStack,
     size: Size,

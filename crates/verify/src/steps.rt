@@ -292,10 +292,11 @@ fn store(
     ensures { outcome result state.new ≡ stepped (Insn.Store size base offset source) state.old }
 {
     let pointer = registers::at(&state.registers, base);
+    check_set(pointer)?;
     match source {
-        Operand::Immediate(number) => {
-            let value = absval::immediate(number);
-            store_value(&mut state.stack, size, pointer, offset, &value)
+        Operand::Immediate(_) => {
+            let pointer = memory::pointer_of(pointer)?;
+            memory::store_number(&mut state.stack, size, pointer, offset)
         }
         Operand::Register(src) => {
             let value = registers::at(&state.registers, src);
