@@ -27,12 +27,20 @@ pub set_passes : (a b : AbsVal) (next : Option Reason) → a ≡ b → None ≡ 
 set_passes a b next same h = set_next a next h ∙ ap (λ (x : AbsVal). unset_or x next) same
 
 -- what is stored, or why it is not
+pub value_left : (size : Size) (base value : AbsVal) (x offset : ℤ) (known new : Known) (r : Result (Unit {0}) Reason) → x ≡ offset →
+    None ≡ first_reason (unset_check base) → None ≡ first_reason (unset_check value) → outcome r new ≡ unless (store_refused size base x value) (stored size base x value known) →
+    outcome r new ≡ unless (unset_or base (unset_or value (store_refused size base offset value))) (stored size base offset value known)
+value_left size base value x offset known new r f set also h =
+    let why : Option Reason = store_refused size base offset value in
+    h ∙ ((λ i. unless (store_refused size base (f i) value) (stored size base (f i) value known))
+    ∙ ap (λ (o : Option Reason). unless o (stored size base offset value known))
+    (set_passes value value why refl also ∙ set_passes base base (unset_or value why) refl set))
+
+-- the same of all that is known
 pub store_left : (size : Size) (base pointer value operand : AbsVal) (x offset : ℤ) (a : AbsState) (r : Result (Unit {0}) Reason) (new : Known) → base ≡ pointer → value ≡ operand → x ≡ offset →
-    None ≡ first_reason (unset_check base) → None ≡ first_reason (unset_check value) → outcome r new ≡ unless (store_refused size base x value) (stored size base x value a.stack) →
+    outcome r new ≡ unless (unset_or base (unset_or value (store_refused size base x value))) (stored size base x value a.stack) →
     outcome r (record a { stack = new }) ≡ unless (unset_or pointer (unset_or operand (store_refused size pointer offset operand))) (record a { stack = stored size pointer offset operand a.stack })
-store_left size base pointer value operand x offset a r new e f g set also h =
-    let why : Option Reason = store_refused size pointer offset operand in
+store_left size base pointer value operand x offset a r new e g f h =
+    let why : Option Reason = unset_or pointer (unset_or operand (store_refused size pointer offset operand)) in
     lifted (λ (known : Known). record a { stack = known }) r why new (stored size pointer offset operand a.stack)
-    (h ∙ (λ i. unless (store_refused size (e i) (g i) (f i)) (stored size (e i) (g i) (f i) a.stack)))
-    ∙ ap (λ (o : Option Reason). unless o (record a { stack = stored size pointer offset operand a.stack }))
-    (set_passes value operand why f also ∙ set_passes base pointer (unset_or operand why) e set)
+    (h ∙ (λ i. unless (unset_or (e i) (unset_or (g i) (store_refused size (e i) (f i) (g i)))) (stored size (e i) (f i) (g i) a.stack)))

@@ -17,11 +17,11 @@ use semantics::Region;
 use word::Narrow;
 
 /// The pointer that a base is.
-fn pointer_of(base: AbsVal) -> Result<(Region, Offsets), Reason>
-    ensures { result ≡ pointer_in base }
+pub(crate) fn pointer_of(base: &AbsVal) -> Result<(Region, Offsets), Reason>
+    ensures { result ≡ pointer_in base.now }
 {
     match base {
-        AbsVal::Pointer(region, offsets) => Ok((region, offsets)),
+        AbsVal::Pointer(region, offsets) => Ok((*region, *offsets)),
         AbsVal::Unset | AbsVal::Number(_) => Err(Reason::PointerUse),
     }
 }
@@ -72,7 +72,7 @@ fn load_stack(stack: &AbsStack, size: Size, window: Window) -> Result<AbsVal, Re
 pub fn load(stack: &AbsStack, size: Size, base: AbsVal, distance: i16) -> Result<AbsVal, Reason>
     ensures { result ≡ load_given stack.now size base distance }
 {
-    let (region, offsets) = pointer_of(base)?;
+    let (region, offsets) = pointer_of(&base)?;
     let window = window(region, offsets, distance, size.bytes())?;
     match region {
         Region::Context => Ok(loaded(size)),
@@ -105,7 +105,7 @@ pub fn load_signed(
 ) -> Result<AbsVal, Reason>
     ensures { result ≡ signed_load_given stack.now part base distance }
 {
-    let (region, offsets) = pointer_of(base)?;
+    let (region, offsets) = pointer_of(&base)?;
     let window = window(region, offsets, distance, bytes_of_part(part))?;
     check_bytes(stack, region, window)?;
     Ok(AbsVal::Number(NumberSet::any()))
@@ -131,7 +131,8 @@ fn stack_window(
 }
 
 /// A number is stored.
-fn store_number(
+#[inline(always)]
+pub(crate) fn store_number(
     stack: &mut AbsStack,
     size: Size,
     base: (Region, Offsets),
@@ -177,19 +178,19 @@ fn store_pointer(
 pub fn store(
     stack: &mut AbsStack,
     size: Size,
-    base: AbsVal,
+    base: &AbsVal,
     distance: i16,
-    value: AbsVal,
+    value: &AbsVal,
 ) -> Result<(), Reason>
     ensures { outcome result stack.new
-        ≡ unless (store_refused size base distance value) (stored size base distance value stack.old) }
+        ≡ unless (store_refused size base.now distance value.now) (stored size base.now distance value.now stack.old) }
 {
     let base = pointer_of(base)?;
     match value {
         AbsVal::Unset => Err(Reason::Unset),
         AbsVal::Number(_) => store_number(stack, size, base, distance),
         AbsVal::Pointer(region, offsets) => {
-            store_pointer(stack, size, base, distance, (region, offsets))
+            store_pointer(stack, size, base, distance, (*region, *offsets))
         }
     }
 }
