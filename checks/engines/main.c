@@ -16,6 +16,7 @@
  */
 #define _GNU_SOURCE
 #include "engine.h"
+#include <math.h>
 #include <inttypes.h>
 #include <signal.h>
 #include <stdio.h>
@@ -170,13 +171,16 @@ static double loads(const struct engine *engine, const struct program *program, 
     return (now(engine) - begun) / times;
 }
 
-/* The time of one of so many runs, without what a call does before the first. */
-static double runs(const struct engine *engine, void *loaded, const struct program *program, unsigned times) {
+/* The time of one of so many runs, without what a call does before the first: that is the least of all that were seen,
+ * since the machine's pace may change between two calls. */
+static double runs(const struct engine *engine, void *loaded, const struct program *program, unsigned times,
+                   double *least) {
     double begun = now(engine);
     engine->run(loaded, program, 0);
     double before = now(engine);
+    if (before - begun < *least) *least = before - begun;
     engine->run(loaded, program, times);
-    return (now(engine) - before - (before - begun)) / times;
+    return (now(engine) - before - *least) / times;
 }
 
 /* How often something of this time is to be done for a stretch. */
@@ -188,15 +192,16 @@ static unsigned often(double once, double stretch) {
 static void timed(unsigned number, uint32_t mask, const struct program *program, unsigned rounds) {
     static double load[ENGINES][ROUNDS], run[ENGINES][ROUNDS];
     unsigned load_times[ENGINES], run_times[ENGINES], taken[ENGINES] = {0};
-    double spent[ENGINES] = {0};
+    double spent[ENGINES] = {0}, least[ENGINES];
     for (unsigned e = 0; e < ENGINES; e++) {
         if (!(mask >> e & 1)) continue;
         engines[e]->begin(program);
         double once = loads(engines[e], program, 1);
         load_times[e] = often(once, STRETCH);
         void *loaded = engines[e]->load(program);
-        runs(engines[e], loaded, program, 1);
-        run_times[e] = often(runs(engines[e], loaded, program, MOST_RUNS / 4), SHARE * once);
+        least[e] = HUGE_VAL;
+        runs(engines[e], loaded, program, 1, &least[e]);
+        run_times[e] = often(runs(engines[e], loaded, program, MOST_RUNS / 4, &least[e]), SHARE * once);
         engines[e]->unload(loaded);
         engines[e]->end();
     }
@@ -207,7 +212,7 @@ static void timed(unsigned number, uint32_t mask, const struct program *program,
             double begun = clocked(CLOCK_MONOTONIC);
             load[e][round] = loads(engines[e], program, load_times[e]);
             void *loaded = engines[e]->load(program);
-            run[e][round] = runs(engines[e], loaded, program, run_times[e]);
+            run[e][round] = runs(engines[e], loaded, program, run_times[e], &least[e]);
             engines[e]->unload(loaded);
             spent[e] += clocked(CLOCK_MONOTONIC) - begun;
             taken[e]++;
