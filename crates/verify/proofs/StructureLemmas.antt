@@ -1,5 +1,6 @@
 -- The structural pass against the lists of checks.
 use Rattle.std.proofs.Common.{◌<◌, get_or, drop, drop-cons, add-one, ◌≡◌, ℕ, zero, suc, ◌+◌, List, [], ◌∷◌, ◌++◌, Option, Some, None, Bool, true, false, refl, sym, ap, ◌∙◌, length, slice_get, if◌then◌else◌, arith}
+use Rattle.std.specs.Prelude.{is_some}
 use Rattle.insn.specs.declared.insn.Insn.{Insn}
 use Rattle.insn.specs.Insn.{units_of}
 use Rattle.insn.specs.Program.{starts_of}
@@ -83,3 +84,22 @@ pub fault_here : (program xs : List Insn) (k unit : ℕ) (i : Insn) (answer whol
 fault_here program xs k unit i answer whole fault lt at same e some =
     sym (same ∙ (ap first_fault (checks_step program xs k unit i lt at)
     ∙ first_fault-append_some (jump_checks program unit i) (checks_from program (unit + units_of i) (drop (k + 1) xs)) fault (sym e ∙ some)))
+
+-- the same where it is known that there is one
+pub fault_found : (program xs : List Insn) (k unit : ℕ) (i : Insn) (answer whole : Option VerifyError) → k < length xs → i ≡ get_or xs k i →
+    whole ≡ first_fault (checks_from program unit (drop k xs)) → answer ≡ first_fault (jump_checks program unit i) → is_some answer ≡ true → answer ≡ whole
+fault_found program xs k unit i None whole lt at same e some = absurd cc
+fault_found program xs k unit i (Some fault) whole lt at same e some =
+    fault_here program xs k unit i (Some fault) whole fault lt at same e refl
+
+-- behind an instruction without one the first fault is that of those further on
+pub fault_further : (program xs : List Insn) (k unit : ℕ) (i : Insn) (whole : Option VerifyError) → k < length xs → i ≡ get_or xs k i →
+    whole ≡ first_fault (checks_from program unit (drop k xs)) → is_some (first_fault (jump_checks program unit i)) ≡ false →
+    whole ≡ first_fault (checks_from program (unit + units_of i) (drop (k + 1) xs))
+fault_further program xs k unit i whole lt at same none =
+    same ∙ (ap first_fault (checks_step program xs k unit i lt at)
+    ∙ first_fault-append_none (jump_checks program unit i) (checks_from program (unit + units_of i) (drop (k + 1) xs)) (is_none_at (first_fault (jump_checks program unit i)) none))
+  where
+    is_none_at : (o : Option VerifyError) → is_some o ≡ false → o ≡ None
+    is_none_at None e = refl
+    is_none_at (Some fault) e = absurd cc

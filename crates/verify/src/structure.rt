@@ -1,5 +1,6 @@
 //! Where the jumps of a program lead, and how it ends.
-ghost use Rattle.std.specs.Prelude.{◌≡◌, ◌<◌, ◌≤◌, ◌+◌, ◌+ℤ◌, ◌<ℤ◌, pos, length};
+ghost use Rattle.std.specs.Prelude.{◌≡◌, ◌<◌, ◌≤◌, ◌+◌, ◌+ℤ◌, ◌<ℤ◌, ℕ, List, [], pos, length, false, is_some};
+ghost use Rattle.insn.specs.declared.insn.Insn.{Insn as InsnValue};
 ghost use Rattle.insn.specs.Program.{slots_of};
 ghost use Rattle.verify.specs.Structure.{first_fault, target_checks, jump_checks, checks_from, last_checks, structural_fault, is_exit};
 
@@ -60,6 +61,39 @@ fn jump_fault(program: &Program, end: usize, unit: usize, insn: &Insn) -> Option
     }
 }
 
+/// Whether an instruction is a jump.
+#[inline(always)]
+fn is_jump(insn: &Insn) -> bool
+    ensures { result ≡ false → (program : List InsnValue) (unit : ℕ) → jump_checks program unit insn.now ≡ [] }
+{
+    matches!(
+        insn,
+        Insn::Jump { .. } | Insn::LongJump { .. } | Insn::Branch { .. }
+    )
+}
+
+/// Whether the instruction at a unit has a fault, if it is a jump.
+#[inline(never)]
+fn is_faulty(program: &Program, end: usize, unit: usize, insn: &Insn) -> bool
+    requires end { end ≡ length (slots_of program.now) }
+    requires bound { end ≤ 4096 }
+    requires inside { unit < end }
+    ensures { result ≡ is_some (first_fault (jump_checks program.now unit insn.now)) }
+{
+    jump_fault(program, end, unit, insn).is_some()
+}
+
+/// Whether the instruction at a unit is a jump with a fault. Most instructions are none, and are not looked at further.
+#[inline(always)]
+fn has_fault(program: &Program, end: usize, unit: usize, insn: &Insn) -> bool
+    requires end { end ≡ length (slots_of program.now) }
+    requires bound { end ≤ 4096 }
+    requires inside { unit < end }
+    ensures { result ≡ is_some (first_fault (jump_checks program.now unit insn.now)) }
+{
+    is_jump(insn) && is_faulty(program, end, unit, insn)
+}
+
 /// The first fault of the jumps.
 fn first_jump_fault(program: &Program) -> Option<VerifyError>
     ensures { result ≡ first_fault (checks_from program.now 0 program.now) }
@@ -67,8 +101,8 @@ fn first_jump_fault(program: &Program) -> Option<VerifyError>
     let end = program.units();
     let mut unit = 0;
     for insn in program.instructions() {
-        if let Some(fault) = jump_fault(program, end, unit, insn) {
-            return Some(fault);
+        if has_fault(program, end, unit, insn) {
+            return jump_fault(program, end, unit, insn);
         }
         unit += insn.units() as usize;
     }
