@@ -55,7 +55,6 @@ fn stored_pointer(stack: &AbsStack, size: Size, window: Window) -> Option<AbsVal
 }
 
 /// A register takes what a load from the stack gives.
-#[inline(always)]
 fn load_stack(
     register: &mut AbsVal,
     stack: &AbsStack,
@@ -78,7 +77,6 @@ fn load_stack(
 
 /// A register takes what a load gives. It is written where its region is known, so that no value is brought together
 /// from several ways.
-#[inline(always)]
 pub fn load_into(
     register: &mut AbsVal,
     stack: &AbsStack,
