@@ -2,7 +2,7 @@
 ghost use Rattle.std.specs.Prelude.{◌≡◌, ◌<◌, ◌≤◌, ◌+◌, ◌+ℤ◌, ◌<ℤ◌, ℕ, List, [], pos, length, false, is_some};
 ghost use Rattle.insn.specs.declared.insn.Insn.{Insn as InsnValue};
 ghost use Rattle.insn.specs.Program.{slots_of};
-ghost use Rattle.verify.specs.Structure.{first_fault, target_checks, jump_checks, checks_from, last_checks, structural_fault, is_exit};
+ghost use Rattle.verify.specs.Structure.{first_fault, target_checks, jump_checks, checks_at, checks_from, last_checks, structural_fault, is_exit};
 
 use crate::error::VerifyError;
 use crate::reason::Reason;
@@ -72,26 +72,41 @@ fn is_jump(insn: &Insn) -> bool
     )
 }
 
-/// Whether the instruction at a unit has a fault, if it is a jump.
-#[inline(never)]
-fn is_faulty(program: &Program, end: usize, unit: usize, insn: &Insn) -> bool
+/// The fault of the instruction of an index, if it is a jump.
+fn fault_of(program: &Program, end: usize, index: usize) -> Option<VerifyError>
     requires end { end ≡ length (slots_of program.now) }
     requires bound { end ≤ 4096 }
-    requires inside { unit < end }
-    ensures { result ≡ is_some (first_fault (jump_checks program.now unit insn.now)) }
+    requires inside { index < length program.now }
+    ensures { result ≡ first_fault (checks_at program.now 0 program.now index) }
 {
-    jump_fault(program, end, unit, insn).is_some()
+    let unit = program.unit_of(index);
+    jump_fault(program, end, unit, &program.instructions()[index])
 }
 
-/// Whether the instruction at a unit is a jump with a fault. Most instructions are none, and are not looked at further.
-#[inline(always)]
-fn has_fault(program: &Program, end: usize, unit: usize, insn: &Insn) -> bool
+/// Whether it has one.
+#[inline(never)]
+fn is_faulty(program: &Program, end: usize, index: usize) -> bool
     requires end { end ≡ length (slots_of program.now) }
     requires bound { end ≤ 4096 }
-    requires inside { unit < end }
-    ensures { result ≡ is_some (first_fault (jump_checks program.now unit insn.now)) }
+    requires inside { index < length program.now }
+    ensures { result ≡ is_some (first_fault (checks_at program.now 0 program.now index)) }
 {
-    is_jump(insn) && is_faulty(program, end, unit, insn)
+    fault_of(program, end, index).is_some()
+}
+
+/// Whether the instruction of an index is a jump with a fault. Most instructions are none, and are not looked at
+/// further: so where they start is not asked.
+#[inline(always)]
+fn has_fault(program: &Program, end: usize, index: usize) -> bool
+    requires end { end ≡ length (slots_of program.now) }
+    requires bound { end ≤ 4096 }
+    requires inside { index < length program.now }
+    ensures { result ≡ is_some (first_fault (checks_at program.now 0 program.now index)) }
+{
+    if !is_jump(&program.instructions()[index]) {
+        return false;
+    }
+    is_faulty(program, end, index)
 }
 
 /// The first fault of the jumps.
@@ -99,12 +114,10 @@ fn first_jump_fault(program: &Program) -> Option<VerifyError>
     ensures { result ≡ first_fault (checks_from program.now 0 program.now) }
 {
     let end = program.units();
-    let mut unit = 0;
-    for insn in program.instructions() {
-        if has_fault(program, end, unit, insn) {
-            return jump_fault(program, end, unit, insn);
+    for index in 0..program.len() {
+        if has_fault(program, end, index) {
+            return fault_of(program, end, index);
         }
-        unit += insn.units() as usize;
     }
     None
 }
