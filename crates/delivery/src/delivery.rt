@@ -93,15 +93,7 @@ fn descend(
     ensures { AreEach (IsToldUnder letters.now size front.now) trees.old trees.new }
 {
     if front.size + 1 == size {
-        fill_all_children(
-            letters,
-            indices,
-            tree_indices,
-            size,
-            generals,
-            trees,
-            front,
-        );
+        fill_all_children(letters, indices, tree_indices, size, generals, trees, front);
         return;
     }
     let mut below: u32 = 0;

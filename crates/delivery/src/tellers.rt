@@ -45,7 +45,9 @@ pub(crate) fn list_tellers<'a>(
     for general in 0..generals {
         let number = usize::from(general);
         names[count] = general;
-        rows[count] = row_in(letters, indices, general, front.ranks[number]).unwrap_or(Orders::Nobody);
+        rows[count] = row_in(letters, indices, general, front.ranks[number]).unwrap_or(
+            Orders::Nobody,
+        );
         count += usize::from(!front.on[number]);
     }
     count
@@ -53,7 +55,13 @@ pub(crate) fn list_tellers<'a>(
 
 /// Fills in what the generals off a label tell the tree's lieutenant of it, each with himself behind it. The
 /// lieutenant is the one of number `own` among them.
-pub(crate) fn fill_children(own: usize, rows: &[Orders<'_>], size: u8, tree: &mut Tree, front: &Front)
+pub(crate) fn fill_children(
+    own: usize,
+    rows: &[Orders<'_>],
+    size: u8,
+    tree: &mut Tree,
+    front: &Front,
+)
     requires told { (letters : List LetterSeen) × (indices : List ℕ) × IsWalk tree.old letters indices size front.now
         × AreTellersOf letters tree.old front.now own rows.now }
     requires last { front.now.size + 1 ≡ size }
