@@ -1,5 +1,5 @@
 -- A trial, access by access.
-use Rattle.std.proofs.Common.{◌≡◌, ◌∙◌, ℕ, zero, suc, ◌<◌, List, [], ◌∷◌, Some, None, false, length, ap, refl, sym, subst, arith}
+use Rattle.std.proofs.Common.{◌≡◌, ◌∙◌, ℕ, zero, suc, List, [], ◌∷◌, Some, None, false, length, ap, refl, sym, subst, arith}
 use Rattle.std.specs.Prelude.{IsSome}
 use Rattle.insn.specs.declared.insn.Insn.{Insn}
 use Rattle.semantics.specs.Relay.{Relay, IsRelay, IsContext}
@@ -18,7 +18,7 @@ use Rattle.letter.specs.Activation.{Activation, turned}
 use Rattle.letter.specs.Runs.{Onward, Runs, AreFitting}
 use Rattle.round.specs.Running.{AreAccessesOf}
 use Rattle.round.proofs.Onwards.{all_none}
-use Rattle.trial.specs.Trial.{Ending, accesses, accesses_on, served, ending, trial_on}
+use Rattle.trial.specs.Trial.{Ending, accesses, served, ending, trial_on}
 use Rattle.trial.proofs.Entering.{accesses_asks, accesses_exits, accesses_next}
 use Rattle.trial.specs.Laws.{IsGeneralsRun}
 
