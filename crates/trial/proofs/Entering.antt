@@ -12,12 +12,13 @@ use Rattle.semantics.specs.Whole.{CountsOnce}
 use Rattle.semantics.proofs.StepLaws.{step_counts, resumed_counts}
 use Rattle.board.specs.Board.{Access, reply, next}
 use Rattle.board.specs.Ledger.{RecordedBoard}
+use Rattle.semantics.specs.Reached.{Reached}
 use Rattle.machine.specs.Standing.{Standing, before}
-use Rattle.machine.specs.Advance.{IsOfRun, Leads, Requests, Exits}
+use Rattle.machine.specs.Advance.{IsAskOfRun, IsOfRun, Leads, Requests, Exits}
 use Rattle.trial.specs.Setting.{Setting, context_in}
 use Rattle.trial.specs.Trial.{ServesOne, accesses, accesses_in, accesses_on, entered}
-use Rattle.trial.proofs.Owning.{serves_none}
-use Rattle.trial.proofs.Serving.{IsServing, leads_counts, served_from}
+use Rattle.trial.proofs.Owning.{one_more, serves_none}
+use Rattle.trial.proofs.Serving.{IsServing, leads_counts, served_from, serves_on}
 
 -- the accesses that are entered, and those that are left, are the trial's, behind those of the board that it began with
 abbrev pub Enters : List Insn → List ℕ → Relay → RecordedBoard → Standing → RecordedBoard → Type 0
@@ -102,6 +103,24 @@ enters_on program context shape limit a v t opened b d opening request words s a
     ∙ (ap (λ (l : List Access). (b.ledger ++ x ∷ []) ++ l) same
     ∙ (append_assoc b.ledger (x ∷ []) rest
     ∙ (ap (λ (l : List Access). b.ledger ++ l) whole ∙ all)))
+
+-- one more is served
+pub served_more : (program code : List Insn) (context : List ℕ) (shape : Shape) (limit : ℕ) (a v t : Standing) (opened b d : RecordedBoard) (request : Request) (words : List ℕ) → IsServed program context shape opened a b
+    → ((answers : List (List ℕ)) → Reached program context a.relay answers a.state → Requests program context a.relay answers limit a.state request v)
+    → t.state ≡ resumed request words v.state
+    → d.ledger ≡ b.ledger ++ record { general = shape.general; round = shape.round; request = request; reply = reply b.words request } ∷ []
+    → limit ≡ length code → code ≡ program → t.relay ≡ v.relay
+    → IsAskOfRun program context request v → ((p : List Insn) (bytes : List ℕ) → IsAskOfRun p bytes request v → IsOfRun p bytes t)
+    → words ≡ reply b.words request → d.words ≡ next b.words request → d.opening ≡ b.opening
+    → IsServed program context shape opened t d
+served_more program code context shape limit a v t opened b d request words s on is more long same kept asked run answer left began =
+    let few : limit ≤ length program = (let p = ap length same in omega arith) in
+    let asks = on s.serving.of_run.answers s.serving.of_run.reached in
+    record {
+      serving = serves_on program context (oral shape) opened.words limit a v t b d request words s.serving few asks kept is (run program context asked) answer left;
+      own = one_more shape opened b d (record { general = shape.general; round = shape.round; request = request; reply = reply b.words request }) s.own began more refl refl;
+      entered = enters_on program context shape limit a v t opened b d opened.words request words s.serving s.entered few asks is answer left more;
+    }
 
 -- at the exit none is left
 pub entered_all : (program : List Insn) (context : List ℕ) (shape : Shape) (opening : List ℕ) (limit r0 : ℕ) (a new : Standing) (opened b : RecordedBoard) (s : IsServing program context (oral shape) opening a b)
