@@ -10,13 +10,13 @@ use Rattle.byzlab.specs.declared.filling.Filled.{Filled}
 use Rattle.byzlab.specs.Kept.{IsKeptIn, Tells, file_of, kept_files, scenario_name, schedule_files, schedule_name}
 
 -- these files are written, and behind them come the schedules that are left
-abbrev pub AreKeptTo : List ℕ → List ℕ → List (String Global) → List (String Global) → ℕ → List Filled → Type 0
+abbrev pub AreKeptTo : {O : Type 0} → List ℕ → List ℕ → List (String Global) → List (String Global) → ℕ → List (Filled O) → Type 0
 AreKeptTo folder scenario schedules rest number files =
     map file_of files ++ schedule_files folder number (map string_bytes rest)
     ≡ kept_files folder scenario (map string_bytes schedules)
 
 -- at first the scenario alone is written
-pub scenario_first : (folder scenario name : List ℕ) (schedules : List (String Global)) (old new : List Filled) → old ≡ []
+pub scenario_first : {O : Type 0} (folder scenario name : List ℕ) (schedules : List (String Global)) (old new : List (Filled O)) → old ≡ []
     → name ≡ scenario_name folder → map file_of new ≡ map file_of old ++ (name, scenario) ∷ []
     → AreKeptTo folder scenario schedules schedules 1 new
 scenario_first folder scenario name schedules old new none called more =
@@ -31,8 +31,8 @@ schedules_at schedules i schedule lt e =
     drop-cons schedules i schedule lt ∙ (λ j. sym e j ∷ drop (one j) schedules)
 
 -- one file more
-pub one_more : (folder scenario name text : List ℕ) (schedules : List (String Global)) (i : ℕ) (schedule : String Global)
-    (files new : List Filled) → i < length schedules → schedule ≡ get_or schedules i schedule
+pub one_more : {O : Type 0} (folder scenario name text : List ℕ) (schedules : List (String Global)) (i : ℕ) (schedule : String Global)
+    (files new : List (Filled O)) → i < length schedules → schedule ≡ get_or schedules i schedule
     → AreKeptTo folder scenario schedules (drop i schedules) (i + 1) files → name ≡ schedule_name folder (i + 1)
     → text ≡ string_bytes schedule → map file_of new ≡ map file_of files ++ (name, text) ∷ []
     → AreKeptTo folder scenario schedules (drop (i + 1) schedules) (i + 1 + 1) new
@@ -48,7 +48,7 @@ one_more folder scenario name text schedules i schedule files new lt at here cal
     ∙ (append_assoc (map file_of files) (file ∷ []) later ∙ (ap (λ (l : List (List ℕ × List ℕ)). map file_of files ++ l) right ∙ here))
 
 -- and no schedule is left
-pub all_kept : (folder scenario : List ℕ) (schedules : List (String Global)) (i : ℕ) (files : List Filled) → length schedules ≤ i
+pub all_kept : {O : Type 0} (folder scenario : List ℕ) (schedules : List (String Global)) (i : ℕ) (files : List (Filled O)) → length schedules ≤ i
     → AreKeptTo folder scenario schedules (drop i schedules) (i + 1) files
     → map file_of files ≡ kept_files folder scenario (map string_bytes schedules)
 all_kept folder scenario schedules i files le here =

@@ -1,8 +1,11 @@
 -- Which file stands for a name; what an open file has is not known (own).
-use Rattle.std.specs.Prelude.{ℕ, ◌≡◌, ◌≢◌, List, [], Option, None, Some, codes}
+use Rattle.std.specs.Prelude.{ℕ, ◌≡◌, ◌≢◌, List, [], Option, None, Some, codes, false}
 use Rattle.std.specs.Io.Cursor.{cursor_inner, cursor_position, cursor_remaining}
 use Rattle.chance.specs.Seeded.{seeded}
+use Rattle.command_line.specs.Tasks.{file_of, second_of, seed_of, target_of}
+use Rattle.command_line.specs.declared.tasks.Task.{Task}
 use Rattle.explore.specs.Text.{schedule_text}
+use Rattle.neighbours.specs.Seen.{reads_scenario}
 use Rattle.byzlab.specs.declared.input.Opened.{Opened}
 use Rattle.byzlab.specs.declared.input.Opened.TheVariants as input
 use Rattle.byzlab.specs.declared.target.Named.{Named}
@@ -74,3 +77,8 @@ abbrev pub contents_of : {S U M : Type 0} → (S → Option (List ℕ)) → (U �
 contents_of of_standard of_unmade of_file (place.Standard stdout) = of_standard stdout
 contents_of of_standard of_unmade of_file (place.Unmade unmade) = of_unmade unmade
 contents_of of_standard of_unmade of_file (place.File file) = of_file file
+
+-- a task was served with its own files and target; for a scenario stands what was made of it
+abbrev pub IsServedFor : {F S O M : Type 0} → Task → Opened F S → Option (Opened F S) → Place O Named M → Type 0
+IsServedFor task first second target = (reads_scenario task ≡ false → IsInputIf (file_of task) (Some first))
+    × IsSecondIf (second_of task) (seed_of task) second × IsTargetOf (target_of task) target

@@ -11,14 +11,14 @@ use Rattle.byzlab.specs.declared.keeping.Unkept.{Unkept}
 use Rattle.byzlab.specs.declared.keeping.Unkept.TheVariants.{Memory, Unwritten}
 
 -- a file's name, and the bytes that were written whole
-abbrev pub file_of : Filled → List ℕ × List ℕ
+abbrev pub file_of : {O : Type 0} → Filled O → List ℕ × List ℕ
 file_of filled = (string_bytes filled.name, filled.bytes.now)
 
-abbrev pub IsFilledBy : List ℕ → List ℕ → Filled → Type 0
+abbrev pub IsFilledBy : {O : Type 0} → List ℕ → List ℕ → Filled O → Type 0
 IsFilledBy name bytes filled = file_of filled ≡ (name, bytes)
 
 -- the schedule of the task's seed was written, for the file that the task names
-abbrev pub IsScheduleKept : Task → Filled → Type 0
+abbrev pub IsScheduleKept : {O : Type 0} → Task → Filled O → Type 0
 IsScheduleKept task filled = (seed : ℕ) × (name : List ℕ) × (seed_of task ≡ Some seed)
     × (schedule_target_of task ≡ Some name) × IsFilledBy name (schedule_text (seeded seed)) filled
 

@@ -8,17 +8,22 @@ ghost use Rattle.lab.specs.Serving.{IsFault, Tells, files};
 ghost use Rattle.desk.specs.Printing.{is_shaped};
 ghost use Rattle.desk.specs.Serving.{IsAnswerUnwritten, IsPrevented, IsRefusalShown, IsShown};
 ghost use Rattle.byzlab.specs.Failures.{IsStatus, failure_of};
+ghost use Rattle.byzlab.specs.Files.{IsServedFor};
 ghost use Rattle.byzlab.specs.Kept.{IsScheduleKept};
 
 use crate::filling::Filled;
+use crate::input::Input;
 use crate::keeping::Unkept;
+use crate::target::Target;
 use crate::telling::{Said, tell_unkept, turn_down};
 use crate::watched::Watched;
 use command_line::Request;
 use desk::serve;
 use lab::Failure;
 use std::alloc::{AllocError, Global};
+use std::fs::File;
 use std::io::{ErrorKind, Write};
+use std::snapshot::Snapshot;
 use std::sync::Wait;
 use std::thread::Threads;
 use streams::{Output, Source};
@@ -80,17 +85,21 @@ pub fn settled(rt: &HostRuntime, outcome: Result<Ending, AllocError>) -> Ending
     }
 }
 
-/// A request that was served, with no schedule written behind it yet: `Served::of` alone makes one.
+/// A request that was served, with no schedule written behind it yet: `Served::of` alone makes one. With what it was
+/// served, proofs see: it takes no bytes.
 #[derive(Drop)]
-pub struct Served<'a> {
+pub struct Served<'a, R, W: Write + Drop> {
     request: &'a Request,
+    first: Snapshot<R>,
+    second: Snapshot<Option<R>>,
+    target: Snapshot<Watched<W>>,
     ending: Ending,
 }
 
-impl<'a> Served<'a> {
+impl<'a, R: Source, W: Write + Drop> Served<'a, R, W> {
     /// Does what is asked for on these files, as `desk::serve` does: prints the answer, or what is at fault. The output
     /// shows nothing of a write that failed.
-    pub fn of<T, R, W, F>(
+    pub fn of<T, F>(
         threads: &T,
         alloc: Global,
         request: &'a Request,
@@ -98,13 +107,14 @@ impl<'a> Served<'a> {
         second: Option<R>,
         out: &mut Watched<W>,
         fault: &mut F,
-    ) -> Served<'a>
+    ) -> Served<'a, R, W>
     where
         T: Threads + Wait + Sync,
-        R: Source,
-        W: Write + Drop,
         F: Output,
         ensures request { result.request ≡ request.entry }
+        ensures first { result.first.value ≡ first }
+        ensures second { result.second.value ≡ second }
+        ensures target { result.target.value ≡ out.old }
         ensures status { IsStatus result.ending.status }
         ensures written { result.ending.is_unwritten ≡ is_some out.new.fault }
         ensures done { result.ending.status ≡ 0 →
@@ -131,9 +141,14 @@ impl<'a> Served<'a> {
         ensures memory { result.ending.status ≡ 3 →
             Tells (F.fails fault.old) (F.contents fault.old) (F.contents fault.new) (codes "out of memory") }
     {
+        let (of_first, of_second) = (Snapshot::of(&first), Snapshot::of(&second));
+        let target = Snapshot::of(&*out);
         let status = serve(threads, alloc, request, first, second, out, fault);
         Served {
             request,
+            first: of_first,
+            second: of_second,
+            target,
             ending: Ending {
                 status,
                 is_unwritten: out.fault().is_some(),
@@ -147,10 +162,13 @@ impl<'a> Served<'a> {
     {
         self.ending.status
     }
+}
 
+impl<'a> Served<'a, Input<'a>, Target<'a>> {
     /// How it came out, where no schedule is to be written.
     pub fn alone(self) -> Ending
-        requires { (schedule_target_of self.request.now.task ≡ None)
+        requires its_own { IsServedFor self.request.now.task self.first.value self.second.value self.target.value.stream }
+        requires unscheduled { (schedule_target_of self.request.now.task ≡ None)
             ⊎ ((seed_of self.request.now.task ≡ None) ⊎ (self.ending.status ≢ 0)) }
         ensures { result ≡ self.entry.ending }
     {
@@ -162,13 +180,18 @@ impl<'a> Served<'a> {
     pub fn with_schedule(
         self,
         rt: &HostRuntime,
-        written: Result<Filled<'_>, Unkept>,
+        written: Result<Filled<'_, File>, Unkept>,
     ) -> Result<Ending, AllocError>
-        requires { IfOk written (IsScheduleKept self.request.now.task) }
+        requires its_own { IsServedFor self.request.now.task self.first.value self.second.value self.target.value.stream }
+        requires written { IfOk written (IsScheduleKept self.request.now.task) }
         ensures kept { IfOk written.entry (λ _. result ≡ Ok self.entry.ending) }
         ensures unkept { IfErr written.entry (λ _. IfOk result (λ ending. ending.status ≡ 1)) }
     {
-        let Served { request, ending } = self;
+        let Served {
+            request,
+            ending,
+            ..
+        } = self;
         match written {
             Ok(_filled) => Ok(ending),
             Err(unkept) => Ok(Ending::refused(tell_unkept(rt, request, unkept)?)),
@@ -180,7 +203,7 @@ impl<'a> Served<'a> {
 pub fn kept_and_printed<O: Output>(
     rt: &HostRuntime,
     request: &Request,
-    kept: Result<Vec<Filled<'_>>, Unkept>,
+    kept: Result<Vec<Filled<'_, File>>, Unkept>,
     text: &str,
     out: &mut O,
 ) -> Result<Ending, AllocError>

@@ -5,13 +5,15 @@ ghost use Rattle.byzlab.specs.Kept.{IsFilledBy};
 
 use std::alloc::Global;
 use std::io;
+use std::marker::PhantomData;
 use streams::Output;
 
-/// That bytes were written whole to some stream, for the file of this name: `fill` alone tells it.
+/// That bytes were written whole to an `O`, for the file of this name: `fill` alone tells it.
 #[derive(Drop)]
-pub struct Filled<'a> {
+pub struct Filled<'a, O> {
     name: String,
     bytes: &'a [u8],
+    stream: PhantomData<O>,
 }
 
 /// Writes all of the file of this name.
@@ -24,11 +26,15 @@ pub fn fill<'a, O: Output>(
     file: &mut O,
     name: &str,
     bytes: &'a [u8],
-) -> io::Result<Filled<'a>>
+) -> io::Result<Filled<'a, O>>
     ensures whole { OnOk result (Appends (O.contents file.old) (O.contents file.new) bytes.now) }
     ensures told { IfOk result (IsFilledBy name.now bytes.now) }
 {
     let name = String::from_str(alloc, name)?;
     file.put(bytes)?;
-    Ok(Filled { name, bytes })
+    Ok(Filled {
+        name,
+        bytes,
+        stream: PhantomData,
+    })
 }

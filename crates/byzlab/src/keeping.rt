@@ -34,7 +34,11 @@ impl From<AllocError> for Unkept {
 /// # Errors
 ///
 /// It cannot be written, or the name beside it is taken, or want of memory.
-pub fn write_whole<'a>(rt: &HostRuntime, name: &str, bytes: &'a [u8]) -> Result<Filled<'a>, Unkept>
+pub fn write_whole<'a>(
+    rt: &HostRuntime,
+    name: &str,
+    bytes: &'a [u8],
+) -> Result<Filled<'a, File>, Unkept>
     ensures written { IfOk result (IsFilledBy name.now bytes.now) }
     ensures unwritten { IfErr result (Tells (λ told. told ≡ name.now)) }
 {
@@ -45,7 +49,11 @@ pub fn write_whole<'a>(rt: &HostRuntime, name: &str, bytes: &'a [u8]) -> Result<
 }
 
 /// Writes to what has this name.
-fn write_through<'a>(rt: &HostRuntime, name: &str, bytes: &'a [u8]) -> Result<Filled<'a>, Unkept>
+fn write_through<'a>(
+    rt: &HostRuntime,
+    name: &str,
+    bytes: &'a [u8],
+) -> Result<Filled<'a, File>, Unkept>
     ensures written { IfOk result (IsFilledBy name.now bytes.now) }
     ensures unwritten { IfErr result (Tells (λ told. told ≡ name.now)) }
 {
@@ -60,7 +68,11 @@ fn write_through<'a>(rt: &HostRuntime, name: &str, bytes: &'a [u8]) -> Result<Fi
 }
 
 /// Writes a new file beside this name, and gives it the name.
-fn write_beside<'a>(rt: &HostRuntime, name: &str, bytes: &'a [u8]) -> Result<Filled<'a>, Unkept>
+fn write_beside<'a>(
+    rt: &HostRuntime,
+    name: &str,
+    bytes: &'a [u8],
+) -> Result<Filled<'a, File>, Unkept>
     ensures written { IfOk result (IsFilledBy name.now bytes.now) }
     ensures unwritten { IfErr result (Tells (λ told. told ≡ name.now)) }
 {
@@ -85,7 +97,7 @@ fn named<'a>(
     beside: &str,
     name: &str,
     bytes: &'a [u8],
-) -> io::Result<Filled<'a>>
+) -> io::Result<Filled<'a, File>>
     ensures { IfOk result (IsFilledBy name.now bytes.now) }
 {
     let written = fill(rt.alloc(), &mut file, name, bytes)?;
@@ -141,7 +153,7 @@ fn schedule_name(alloc: Global, folder: &str, number: u64) -> Result<String, All
 /// Writes a file, and enters it behind those that are written.
 fn keep_file<'a>(
     rt: &HostRuntime,
-    files: &mut Vec<Filled<'a>>,
+    files: &mut Vec<Filled<'a, File>>,
     name: &str,
     bytes: &'a [u8],
 ) -> Result<(), Unkept>
@@ -167,7 +179,7 @@ pub fn keep<'a>(
     folder: &str,
     scenario: &'a [u8],
     schedules: &'a [String],
-) -> Result<Vec<Filled<'a>>, Unkept>
+) -> Result<Vec<Filled<'a, File>>, Unkept>
     ensures kept { IfOk result (λ files.
         map file_of files.items ≡ kept_files folder.now scenario.now (map string_bytes schedules.now)) }
     ensures unkept { IfErr result (Tells (IsKeptIn folder.now (length schedules.now))) }

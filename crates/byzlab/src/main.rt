@@ -3,6 +3,7 @@
 #![tactic(auto)]
 
 mod ending;
+mod endings;
 mod failures;
 mod filling;
 mod folder;
@@ -13,18 +14,19 @@ mod target;
 mod telling;
 mod watched;
 
-ghost use Rattle.std.specs.Prelude.{◌≡◌, ◌≢◌, ◌≤◌, ◌↔◌, Any, Ok, IfOk, IfErr, IfSome, IsErr, None, Some, false, max, option_map};
+ghost use Rattle.std.specs.Prelude.{◌≡◌, ◌≢◌, ◌≤◌, ◌⊎◌, ◌↔◌, Any, Ok, IfOk, IfErr, IfSome, IsErr, None, Some, false, length, option_map, true};
 ghost use Rattle.std.specs.Result.{result_ok};
-ghost use Rattle.command_line.specs.Tasks.{file_of, schedule_target_of, second_of, seed_of};
+ghost use Rattle.command_line.specs.Tasks.{file_of, schedule_target_of, second_of, seed_of, target_of};
 ghost use Rattle.neighbours.specs.Seen.{reads_scenario};
 ghost use Rattle.neighbours.specs.Story.{with_story};
 ghost use Rattle.faults.specs.declared.failure.Failure.TheVariants.{Read as unreadable};
-ghost use Rattle.byzlab.specs.Files.{IsInputIf, IsSecondIf, IsSeededIf, IsTextOf};
+ghost use Rattle.byzlab.specs.Files.{IsInputIf, IsSecondIf, IsSeededIf, IsServedFor, IsTargetOf, IsTextOf};
 ghost use Rattle.byzlab.specs.Failures.{AsksNothing, IsStatus, IsUnasked};
 
 use chance::seeded;
 use command_line::{Request, Task, TaskError, each};
 use ending::{Ending, Served, kept_and_printed, lacking, settled};
+use endings::Endings;
 use failures::why_unwritten;
 use folder::FolderOf;
 use input::{Input, Opened};
@@ -39,21 +41,21 @@ use std::io::{self, Cursor, ErrorKind, Read};
 use std::process::ExitCode;
 use std::sync::Wait;
 use std::thread::Threads;
-use target::target_of;
+use target::{Target, target_of};
 use telling::{Said, Unread, tell_unread, tell_untaken, turn_down};
 use watched::Watched;
 
 fn main(rt: HostRuntime) -> ExitCode {
     let status = match called(&rt, &rt) {
-        Ok(status) => status,
+        Ok(endings) => endings.worst(),
         Err(error) => lacking(&rt, error.kind()),
     };
     ExitCode::from(status)
 }
 
-/// Reads the words, and does each request of theirs, up to the first that is none. The result is the worst exit status.
-fn called<T: Threads + Wait + Sync>(rt: &HostRuntime, threads: &T) -> io::Result<u8>
-    ensures { IfOk result (λ status. status ≤ 3) }
+/// Reads the words, and does each request of theirs, up to the first that is none or whose output fails.
+fn called<T: Threads + Wait + Sync>(rt: &HostRuntime, threads: &T) -> io::Result<Endings>
+    ensures { IfOk result (λ endings. endings.worst ≤ 3) }
 {
     let alloc = rt.alloc();
     let words: Vec<String> = env::args(rt)?.skip(1).collect(alloc)?;
@@ -65,52 +67,51 @@ fn called<T: Threads + Wait + Sync>(rt: &HostRuntime, threads: &T) -> io::Result
     in_turn(rt, threads, requests.as_slice())
 }
 
-/// Does each request, up to the first that is none or whose output fails. The result is the worst exit status.
+/// Does each request, up to the first that is none or whose output fails.
 fn in_turn<T: Threads + Wait + Sync>(
     rt: &HostRuntime,
     threads: &T,
     requests: &[Vec<&str>],
-) -> io::Result<u8>
-    ensures status { IfOk result (λ status. status ≤ 3) }
-    ensures unasked { IfOk result (λ status. status ≡ 2 → Any (λ words. AsksNothing words.items) requests.now) }
+) -> io::Result<Endings>
+    ensures status { IfOk result (λ endings. endings.worst ≤ 3) }
+    ensures all { IfOk result (λ endings. (endings.count ≡ length requests.now)
+        ⊎ ((endings.is_unwritten ≡ true) ⊎ Any (λ words. AsksNothing words.items) requests.now)) }
+    ensures unasked { IfOk result
+        (λ endings. endings.worst ≡ 2 → Any (λ words. AsksNothing words.items) requests.now) }
 {
     let progress = Progress::of(rt, requests.len());
-    let mut worst = 0;
-    for (index, words) in requests.iter().enumerate() {
+    let mut endings = Endings::none();
+    for words in requests {
         let request = match command_line::request(rt.alloc(), words.as_slice()) {
             Ok(request) => request,
-            Err(error) => return unasked(rt, error),
+            Err(error) => return Ok(endings.with_unasked(unasked(rt, error)?)),
         };
         let _ = progress.clear();
-        let ending = ended(rt, threads, &request);
-        worst = worse(worst, ending.status());
-        if ending.is_unwritten() {
+        endings.enter(ended(rt, threads, &request));
+        if endings.is_unwritten() {
             break;
         }
-        let _ = progress.tell(index + 1);
+        let _ = progress.tell(endings.count());
     }
-    Ok(worst)
-}
-
-/// The worse of two exit statuses.
-fn worse(first: u8, second: u8) -> u8
-    ensures { result ≡ max first second }
-{
-    if first < second { second } else { first }
+    Ok(endings)
 }
 
 /// Does what is asked for, and says it where there was no memory to open a file.
-fn ended<T: Threads + Wait + Sync>(rt: &HostRuntime, threads: &T, request: &Request) -> Ending
+fn ended<'a, T: Threads + Wait + Sync>(
+    rt: &'a HostRuntime,
+    threads: &T,
+    request: &'a Request,
+) -> Ending
     ensures status { IsStatus result.status }
 {
     settled(rt, answered(rt, threads, request))
 }
 
 /// Does what is asked for.
-fn answered<T: Threads + Wait + Sync>(
-    rt: &HostRuntime,
+fn answered<'a, T: Threads + Wait + Sync>(
+    rt: &'a HostRuntime,
     threads: &T,
-    request: &Request,
+    request: &'a Request,
 ) -> Result<Ending, AllocError>
     ensures status { IfOk result (λ ending. IsStatus ending.status) }
 {
@@ -180,13 +181,16 @@ fn unexplored(refusal: Refusal) -> Result<Option<Ending>, AllocError>
 /// Does what is asked for on these files, and tells behind a fault of its output why, where it explains what it
 /// refuses.
 fn served<'a, T: Threads + Wait + Sync>(
-    rt: &HostRuntime,
+    rt: &'a HostRuntime,
     threads: &T,
     request: &'a Request,
     first: Input<'a>,
     second: Option<Input<'a>>,
-) -> Served<'a>
+) -> Served<'a, Input<'a>, Target<'a>>
     ensures request { result.request ≡ request.entry }
+    ensures first { result.first.value ≡ first.entry }
+    ensures second { result.second.value ≡ second.entry }
+    ensures target { IsTargetOf (target_of request.entry.now.task) result.target.value.stream }
     ensures status { IsStatus result.ending.status }
 {
     let mut target = Watched::new(target_of(rt, request.task.target()));
@@ -207,12 +211,13 @@ fn served<'a, T: Threads + Wait + Sync>(
 }
 
 /// Writes the schedule of the seed behind a campaign that was played by it, where it is to be written.
-fn schedule_written(
+fn schedule_written<'a>(
     rt: &HostRuntime,
     request: &Request,
-    done: Served<'_>,
+    done: Served<'a, Input<'a>, Target<'a>>,
 ) -> Result<Ending, AllocError>
-    requires { done.request.now ≡ request.now }
+    requires request { done.request.now ≡ request.now }
+    requires its_own { IsServedFor request.now.task done.first.value done.second.value done.target.value.stream }
     ensures status { IsStatus done.entry.ending.status → IfOk result (λ ending. IsStatus ending.status) }
     ensures unasked { schedule_target_of request.now.task ≡ None → result ≡ Ok done.entry.ending }
     ensures undone { done.entry.ending.status ≢ 0 → result ≡ Ok done.entry.ending }

@@ -2,6 +2,7 @@ pub mod AskedLemmas
 pub mod CallLemmas
 pub mod CommandLemmas
 pub mod FlagLemmas
+pub mod GeneralLemmas
 pub mod LevelLemmas
 pub mod MeantLemmas
 pub mod MetLemmas

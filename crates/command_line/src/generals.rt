@@ -1,4 +1,4 @@
-ghost use Rattle.std.specs.Prelude.{◌≡◌, ◌≢◌, Ok, Err, IfOk, IfErr, MatchOption, Some, None};
+ghost use Rattle.std.specs.Prelude.{◌≡◌, ◌≢◌, Ok, Err, IfOk, IfErr, Some, None, is_some, true};
 ghost use Rattle.command_line.specs.Generals.{count_in, depth_in, general_in, generals_in, order_in, seed_in};
 ghost use Rattle.command_line.specs.declared.generals.GeneralsError.TheVariants.{NoGeneral, Memory};
 
@@ -24,32 +24,54 @@ impl From<AllocError> for GeneralsError {
 }
 
 /// The generals of `G,H`.
-#[tactic(auto, unfolding(crate::specs::Generals::generals_in))]
+///
+/// # Errors
+///
+/// `NoGeneral` where a part of the word names none, which is told without memory; else `Memory`.
 pub(crate) fn generals(alloc: Global, word: &str) -> Result<Vec<u8>, GeneralsError>
     ensures named { IfOk result (λ generals. generals_in word.now ≡ Some generals.items) }
     ensures none { IfErr result (λ e. e ≢ Memory → generals_in word.now ≡ None) }
+    ensures unnamed { generals_in word.now ≡ None → result ≡ Err NoGeneral }
+{
+    if !names_generals(word) {
+        return Err(GeneralsError::NoGeneral);
+    }
+    Ok(named_in(alloc, word)?)
+}
+
+/// Whether each part of the word names a general.
+#[tactic(auto, unfolding(crate::specs::Generals::generals_in), using(crate::proofs::GeneralLemmas::behind_any))]
+fn names_generals(word: &str) -> bool
+    ensures { result ≡ is_some (generals_in word.now) }
+{
+    let mut rest = Some(word.as_bytes());
+    while let Some(parts) = rest {
+        let (part, behind) = piece(COMMA, parts);
+        if general(part).is_none() {
+            return false;
+        }
+        rest = behind;
+    }
+    true
+}
+
+/// The generals whom the parts of the word name.
+#[tactic(auto, unfolding(crate::specs::Generals::generals_in))]
+fn named_in(alloc: Global, word: &str) -> Result<Vec<u8>, AllocError>
+    requires { is_some (generals_in word.now) ≡ true }
+    ensures { IfOk result (λ generals. generals_in word.now ≡ Some generals.items) }
 {
     let mut generals = Vec::new(alloc);
     let mut rest = Some(word.as_bytes());
     while let Some(parts) = rest {
         let (part, behind) = piece(COMMA, parts);
-        let named = named(part)?;
-        if let Err(error) = generals.push(named) {
-            return Err(GeneralsError::from(AllocError::from(error)));
-        }
+        let Some(general) = general(part) else {
+            unreachable!();
+        };
+        generals.push(general)?;
         rest = behind;
     }
     Ok(generals)
-}
-
-/// The general whom a part of the word names.
-fn named(part: &[u8]) -> Result<u8, GeneralsError>
-    ensures { MatchOption (general_in part.now) (result ≡ Err NoGeneral) (λ general. result ≡ Ok general) }
-{
-    match general(part) {
-        Some(general) => Ok(general),
-        None => Err(GeneralsError::NoGeneral),
-    }
 }
 
 /// The number of a general.

@@ -1,6 +1,7 @@
 //! Writing whole texts.
-ghost use Rattle.std.specs.Prelude.{OnErr, OnOk};
+ghost use Rattle.std.specs.Prelude.{◌≢◌, IfErr, OnErr, OnOk};
 ghost use Rattle.std.specs.Io.KnownBytes.{Appends};
+ghost use Rattle.std.specs.IoError.{error_kind};
 ghost use Rattle.streams.specs.Writing.{AppendsFront};
 
 use crate::flushing::Unflushed;
@@ -16,6 +17,7 @@ use std::io::{self, ErrorKind, Write};
 pub(crate) fn write_whole<W: Write>(writer: &mut W, text: &[u8]) -> io::Result<Unflushed>
     ensures whole { OnOk result (Appends (W.contents writer.old) (W.contents writer.new) text.now) }
     ensures begun { OnErr result (AppendsFront (W.contents writer.old) (W.contents writer.new) text.now) }
+    ensures again { IfErr result (λ error. error_kind error ≢ ErrorKind.Interrupted) }
 {
     let mut written = 0;
     for _ in 0..u64::MAX {

@@ -1,13 +1,48 @@
 -- Which error stands for what the threads have answered (own).
-use Rattle.std.specs.Prelude.{List, Option, Some, None, Result, Ok, Err, is_some, find, IsSortedByKey}
+use Rattle.std.specs.Prelude.{ℕ, ◌≡◌, List, Option, Some, None, Result, Ok, Err, is_some, find, IsSortedByKey}
 use Rattle.std.specs.Ordering.{nat_cmp}
 use Rattle.std.specs.Option.{option_flatten}
 use Rattle.threads.specs.declared.error.MusterError.{MusterError}
+use Rattle.threads.specs.declared.error.MusterError.TheVariants.{Memory, Unaccounted, Post}
+use Rattle.threads.specs.declared.failure.Failure.{Failure}
+use Rattle.threads.specs.declared.failure.Failure.TheVariants.{Memory as RefusedToHim, Foreign, Returned}
+use Rattle.threads.specs.declared.halt.Halt.{Halt}
+use Rattle.threads.specs.declared.halt.Halt.TheVariants.{Memory as RefusedToAll, Unstarted, Failed, Strayed}
 use Rattle.threads.specs.declared.resident.Answer.{Answer}
 
-abbrev pub error_of : {T : Type 0} → Result T MusterError → Option MusterError
+-- what the failure of a general is told as
+abbrev pub failure_as : Failure → MusterError
+failure_as RefusedToHim = Memory
+failure_as (Foreign task) = Unaccounted
+failure_as (Returned letter) = Post
+
+-- of a task that this general was given, or of a letter of his
+abbrev pub IsFailureOf : ℕ → Failure → Type 0
+IsFailureOf g RefusedToHim = Unit {0}
+IsFailureOf g (Foreign task) = task.general ≡ g
+IsFailureOf g (Returned letter) = letter.general ≡ g
+
+-- what it is told as that rounds were not conducted
+abbrev pub halt_as : Halt → MusterError
+halt_as RefusedToAll = Memory
+halt_as (Unstarted refused) = refused.error
+halt_as (Failed someone) = Unaccounted
+halt_as (Strayed letters) = Unaccounted
+
+-- if letters were not of their round, it was this one
+abbrev pub HasStrayedIn : ℕ → Halt → Type 0
+HasStrayedIn round RefusedToAll = Unit {0}
+HasStrayedIn round (Unstarted refused) = Unit {0}
+HasStrayedIn round (Failed someone) = Unit {0}
+HasStrayedIn round (Strayed letters) = letters.round ≡ round
+
+abbrev pub outcome_as : {T : Type 0} → Result T Halt → Result T MusterError
+outcome_as (Ok well) = Ok well
+outcome_as (Err halt) = Err (halt_as halt)
+
+abbrev pub error_of : {T : Type 0} → Result T Failure → Option MusterError
 error_of (Ok well) = None
-error_of (Err failure) = Some failure
+error_of (Err failure) = Some (failure_as failure)
 
 -- by what a general has failed, if he has
 abbrev pub failure_of : Answer → Option MusterError

@@ -1,10 +1,10 @@
 //! What the answers of others come to: which error stands for them.
 ghost use Rattle.std.specs.Prelude.{◌≡◌, ◌≤◌, ◌+◌, ◌++◌, ◌∷◌, [], find, is_some, length, Ok, Err, IsSomeAnd, MatchBool, MatchOption, MatchResult};
 ghost use Rattle.threads.specs.Answers.{ended_as, first_failure};
-ghost use Rattle.threads.specs.declared.error.MusterError.TheVariants.{Memory, Unaccounted, Spawn, Post};
+ghost use Rattle.threads.specs.declared.error.MusterError.TheVariants.{Memory, Unaccounted, Spawn};
 
 use crate::error::MusterError;
-use letter::Letter;
+use std::io;
 
 /// Why not all threads were started, as `kept` alone tells.
 #[derive(Clone, Copy)]
@@ -18,16 +18,6 @@ impl Refused {
         ensures { result ≡ self.error }
     {
         self.error
-    }
-}
-
-/// Where a letter was not posted, the post was full.
-pub(crate) fn posted(sent: Result<(), Letter>) -> Result<(), MusterError>
-    ensures { MatchResult sent (λ _. result ≡ Ok tt) (λ _. result ≡ Err Post) }
-{
-    match sent {
-        Ok(()) => Ok(()),
-        Err(_letter) => Err(MusterError::Post),
     }
 }
 
@@ -54,7 +44,7 @@ pub(crate) fn found<T: Drop>(found: Option<T>) -> Result<T, MusterError>
 
 /// Keeps the handle of a thread that was started: what went wrong, where one was not or there is no memory for the
 /// handle.
-pub(crate) fn kept<H: Drop, E: Drop>(handles: &mut Vec<H>, started: Result<H, E>) -> Option<Refused>
+pub(crate) fn kept<H: Drop>(handles: &mut Vec<H>, started: io::Result<H>) -> Option<Refused>
     ensures handle { MatchResult started
         (λ handle. MatchOption result (handles.new.items ≡ handles.old.items ++ handle ∷ []) (λ r. r.error ≡ Memory))
         (λ _. IsSomeAnd result (λ r. r.error ≡ Spawn)) }

@@ -24,7 +24,8 @@ pub(crate) struct Camp<'a, G, J: Room> {
 }
 
 impl<'a, G, J: Room> Camp<'a, G, J> {
-    /// The camp of so many generals, with their posters, ascending, and the collector of their letters.
+    /// The camp of so many generals, with their posters, ascending, and the collector of their letters. The post has
+    /// room for a letter of each.
     ///
     /// # Errors
     ///
@@ -42,6 +43,7 @@ impl<'a, G, J: Room> Camp<'a, G, J> {
         ensures posters { IfOk result (λ r. (g : ℕ) (d : PosterSeen) → g < generals →
             slice_index_or r.1.items g d ≡ poster_seen r.0.post.table g []) }
         ensures collector { IfOk result (λ r. r.2.table ≡ r.0.post.table) }
+        ensures room { IfOk result (λ r. generals ≤ r.0.post.capacity) }
         ensures gate { IfOk result (λ r. r.0.gate ≡ gate.entry) }
         ensures board { IfOk result (λ r. r.0.board ≡ board.entry) }
         ensures tally { IfOk result (λ r. r.0.tally.generals ≡ generals) }

@@ -11,6 +11,7 @@ use crate::conducting::conduct;
 use crate::ending::Ending;
 use crate::error::MusterError;
 use crate::gate::Gate;
+use crate::halt::Halt;
 use crate::resident::Answer;
 use delivery::Told;
 use letter::Round;
@@ -169,7 +170,7 @@ fn conducted<R: Wait, G, J: Room>(
     camp: &Camp<G, J>,
     collector: Collector,
     refused: Option<Refused>,
-) -> Result<(Vec<Round>, Told), MusterError>
+) -> Result<(Vec<Round>, Told), Halt>
     requires collector { collector.table ≡ camp.now.post.table }
     requires inboxes { scenario.now.generals ≤ length camp.now.inboxes.items }
     requires own { AreOwn camp.now.inboxes.items }
@@ -177,7 +178,7 @@ fn conducted<R: Wait, G, J: Room>(
     ensures told { IfOk result (λ r. WasTold scenario.now r.0.items r.1) }
 {
     match refused {
-        Some(refused) => Err(refused.error()),
+        Some(refused) => Err(Halt::Unstarted(refused)),
         None => conduct(rt, alloc, scenario, camp, collector),
     }
 }

@@ -1,9 +1,10 @@
 //! What a campaign by threads has come to.
 ghost use Rattle.std.specs.Prelude.{◌≡◌, ◌≤◌, length, map, option_map};
-ghost use Rattle.threads.specs.Answers.{ended_as, failure_of, first_failure};
+ghost use Rattle.threads.specs.Answers.{ended_as, failure_of, first_failure, outcome_as};
 
 use crate::answers::{Refused, ended};
 use crate::error::MusterError;
+use crate::halt::Halt;
 use crate::resident::Answer;
 use arrayvec::ArrayVec;
 use delivery::Told;
@@ -14,7 +15,7 @@ use letter::Round;
 pub(crate) struct Ending {
     refused: Option<Refused>,
     answers: Vec<Answer>,
-    outcome: Result<(Vec<Round>, Told), MusterError>,
+    outcome: Result<(Vec<Round>, Told), Halt>,
 }
 
 impl Ending {
@@ -22,7 +23,7 @@ impl Ending {
     pub(crate) fn new(
         refused: Option<Refused>,
         answers: Vec<Answer>,
-        outcome: Result<(Vec<Round>, Told), MusterError>,
+        outcome: Result<(Vec<Round>, Told), Halt>,
     ) -> Ending
         ensures refused { result.refused ≡ refused }
         ensures answers { result.answers.items ≡ answers.items }
@@ -39,11 +40,12 @@ impl Ending {
     pub(crate) fn told(self) -> Result<(Vec<Round>, Told), MusterError>
         requires { length self.answers.items ≤ 13 }
         ensures { result ≡ ended_as (option_map (λ r. r.error) self.refused)
-            (first_failure (map failure_of self.answers.items)) self.outcome }
+            (first_failure (map failure_of self.answers.items)) (outcome_as self.outcome) }
     {
         let failures = failures(self.answers.as_slice());
         let refused = self.refused.map(|refused| refused.error());
-        ended(refused, failures.as_slice(), self.outcome)
+        let outcome = self.outcome.map_err(|halt| halt.error());
+        ended(refused, failures.as_slice(), outcome)
     }
 }
 

@@ -93,7 +93,7 @@ pub fn muster_with<R: Threads + Wait + Sync, G: Gate + Sync>(
     mustered::<R, G, Brand>(rt, alloc, scenario, gate, stack, unshared)
 }
 
-/// The same, by the board of this name.
+/// The same, by the board of this name, which opens with the scenario's words.
 fn mustered<R: Threads + Wait + Sync, G: Gate + Sync, J: Room + Send + Sync>(
     rt: &R,
     alloc: Global,
@@ -104,6 +104,7 @@ fn mustered<R: Threads + Wait + Sync, G: Gate + Sync, J: Room + Send + Sync>(
 ) -> Result<Chronicle, MusterError>
     requires book { unshared.book ≡ J.book }
     requires opening { unshared.opening ≡ J.opening }
+    requires words { unshared.opening ≡ scenario.board }
     requires ledger { (unshared.name ≡ J.name) × (unshared.parts ≡ J.parts) }
     requires threads { unshared.parts ≡ suc scenario.generals }
     ensures scenario { IfOk result (λ chronicle. chronicle.scenario ≡ scenario) }
@@ -126,8 +127,8 @@ fn mustered<R: Threads + Wait + Sync, G: Gate + Sync, J: Room + Send + Sync>(
     by_board(rt, alloc, scenario, gate, stack, board, witness, witnesses)
 }
 
-/// The same, by this board and its witnesses, one of whom stays. The accesses of the chronicle are the board's history:
-/// it begins with what he has met.
+/// The same, by this board, which opens with the scenario's words, and its witnesses, one of whom stays. The accesses of
+/// the chronicle are the board's history: it begins with what he has met.
 fn by_board<R: Threads + Wait + Sync, G: Gate + Sync, J: Room + Send + Sync>(
     rt: &R,
     alloc: Global,
@@ -138,6 +139,7 @@ fn by_board<R: Threads + Wait + Sync, G: Gate + Sync, J: Room + Send + Sync>(
     witness: Witness<J>,
     witnesses: Vec<Witness<J>>,
 ) -> Result<Chronicle, MusterError>
+    requires words { J.opening ≡ scenario.board }
     requires witnesses { scenario.generals ≤ length witnesses.items }
     requires unserved { All (λ w. w.made ≡ 0) witnesses.items }
     ensures history { IfOk result (λ chronicle. IsPrefix witness.seen chronicle.accesses) }

@@ -1,13 +1,13 @@
 //! A general's thread through all rounds.
-ghost use Rattle.std.specs.Prelude.{◌≡◌, ◌≢◌, ◌++◌, ◌∷◌, [], Err, IfOk, OnOk, IfErr};
+ghost use Rattle.std.specs.Prelude.{◌≡◌, ◌≢◌, ◌++◌, ◌∷◌, [], IfOk, OnOk, IfErr, IsErrAnd};
 ghost use Rattle.letter.specs.Letters.{Letter as LetterSeen};
-ghost use Rattle.threads.specs.Answers.{failure_of};
+ghost use Rattle.threads.specs.Answers.{failure_of, failure_as, IsFailureOf};
 ghost use Rattle.threads.specs.Duties.{IsDone};
 ghost use Rattle.threads.specs.Served.{AreAmong, told_in};
-ghost use Rattle.threads.specs.declared.error.MusterError.TheVariants.{Unaccounted, Spawn, Post as PostFull};
+ghost use Rattle.threads.specs.declared.error.MusterError.TheVariants.{Unaccounted, Post as PostFull};
 
-use crate::answers::{accounted, posted};
 use crate::error::MusterError;
+use crate::failure::{Failure, is_his, posted};
 use crate::gate::{Gate, Gated, Settled};
 use crate::inbox::{Closed, Inbox};
 use crate::made::Made;
@@ -26,7 +26,7 @@ pub(crate) struct Answer {
     general: u32,
     /// That his inbox was closed, with his poster, which a task that fails takes from him, and with which all that was
     /// served to him is told; or by what he has failed.
-    ended: Result<(Closed, Settled), MusterError>,
+    ended: Result<(Closed, Settled), Failure>,
 }
 
 impl Answer {
@@ -43,7 +43,7 @@ impl Answer {
     {
         match &self.ended {
             Ok(_) => None,
-            Err(error) => Some(*error),
+            Err(failure) => Some(failure.error()),
         }
     }
 }
@@ -77,7 +77,7 @@ impl<'a, G: Gate, J: Room> Resident<'a, G, J> {
         ensures closed { IfOk result.ended (λ r. r.0.general ≡ self.entry.inbox.now.general) }
         ensures poster { IfOk result.ended (λ r. r.1.poster.table ≡ post.now.table) }
         ensures his { IfOk result.ended (λ r. r.1.poster.general ≡ self.entry.general) }
-        ensures started { IfErr result.ended (λ e. e ≢ Spawn) }
+        ensures failed { IfErr result.ended (IsFailureOf self.entry.general) }
     {
         let ended = self.do_tasks(rt, alloc, post, poster, me);
         if ended.is_err() {
@@ -102,7 +102,7 @@ impl<'a, G: Gate, J: Room> Resident<'a, G, J> {
         post: &Post,
         mut poster: Poster,
         me: Witness<J>,
-    ) -> Result<(Closed, Settled), MusterError>
+    ) -> Result<(Closed, Settled), Failure>
         requires post { poster.table ≡ post.now.table }
         requires general { poster.general ≡ self.now.general }
         requires unposted { poster.posted ≡ [] }
@@ -110,7 +110,7 @@ impl<'a, G: Gate, J: Room> Resident<'a, G, J> {
         ensures closed { IfOk result (λ r. r.0.general ≡ self.now.inbox.now.general) }
         ensures poster { IfOk result (λ r. r.1.poster.table ≡ post.now.table) }
         ensures his { IfOk result (λ r. r.1.poster.general ≡ self.now.general) }
-        ensures started { IfErr result (λ e. e ≢ Spawn) }
+        ensures failed { IfErr result (IsFailureOf self.now.general) }
     {
         let mut server = Gated {
             rt,
@@ -134,7 +134,7 @@ impl<'a, G: Gate, J: Room> Resident<'a, G, J> {
     ///
     /// # Errors
     ///
-    /// `Memory` where memory is refused, `Post` where the post is full, `Unaccounted` where the task is not his.
+    /// `Memory` where memory is refused, `Returned` where the post is full, `Foreign` where the task is not his.
     fn do_task<R: Wait>(
         &self,
         rt: &R,
@@ -143,7 +143,7 @@ impl<'a, G: Gate, J: Room> Resident<'a, G, J> {
         poster: Poster,
         server: &mut Gated<'_, R, G, J>,
         task: Task,
-    ) -> Result<Poster, MusterError>
+    ) -> Result<Poster, Failure>
         requires post { poster.table ≡ post.now.table }
         requires general { poster.general ≡ self.now.general }
         requires told { server.old.made ≡ told_in poster.posted }
@@ -152,9 +152,9 @@ impl<'a, G: Gate, J: Room> Resident<'a, G, J> {
         ensures done { IfOk result (λ later. (letter : LetterSeen) × IsDone task letter
             × (later.posted ≡ poster.posted ++ letter ∷ [])) }
         ensures told { IfOk result (λ later. server.new.made ≡ told_in later.posted) }
-        ensures theirs { task.general ≢ self.now.general → result ≡ Err Unaccounted }
-        ensures own { IfErr result (λ e. e ≡ Unaccounted → task.general ≢ self.now.general) }
-        ensures started { IfErr result (λ e. e ≢ Spawn) }
+        ensures theirs { task.general ≢ self.now.general → IsErrAnd result (λ f. failure_as f ≡ Unaccounted) }
+        ensures own { IfErr result (λ f. failure_as f ≡ Unaccounted → task.general ≢ self.now.general) }
+        ensures failed { IfErr result (IsFailureOf self.now.general) }
     {
         let letter = self.letter(alloc, server, task)?;
         let (poster, sent) = post.post(rt, poster, letter);
@@ -167,23 +167,23 @@ impl<'a, G: Gate, J: Room> Resident<'a, G, J> {
     ///
     /// # Errors
     ///
-    /// `Memory` where memory is refused, `Unaccounted` where the task is not his.
+    /// `Memory` where memory is refused, `Foreign` where the task is not his.
     fn letter<R: Wait>(
         &self,
         alloc: Global,
         server: &mut Gated<'_, R, G, J>,
         task: Task,
-    ) -> Result<Letter, MusterError>
+    ) -> Result<Letter, Failure>
         ensures general { IfOk result (λ letter. letter.general ≡ self.now.general) }
         ensures done { IfOk result (IsDone task) }
         ensures served { IfOk result (λ letter. server.new.made ≡ server.old.made ++ letter.transcript) }
         ensures met { OnOk result (AreAmong server.new.made server.new.seen) }
-        ensures theirs { task.general ≢ self.now.general → result ≡ Err Unaccounted }
-        ensures own { IfErr result (λ e. e ≡ Unaccounted → task.general ≢ self.now.general) }
-        ensures started { IfErr result (λ e. e ≢ Spawn) }
-        ensures posted { IfErr result (λ e. e ≢ PostFull) }
+        ensures theirs { task.general ≢ self.now.general → IsErrAnd result (λ f. failure_as f ≡ Unaccounted) }
+        ensures own { IfErr result (λ f. failure_as f ≡ Unaccounted → task.general ≢ self.now.general) }
+        ensures failed { IfErr result (IsFailureOf self.now.general) }
+        ensures posted { IfErr result (λ f. failure_as f ≢ PostFull) }
     {
-        accounted(task.general() == self.general)?;
+        is_his(&task, self.general)?;
         let letter = task.letter(alloc, server)?;
         server.recall();
         Ok(letter)

@@ -1,7 +1,29 @@
 //! How far the generals have come in a round.
-ghost use Rattle.std.specs.Prelude.{◌≡◌, ◌↔◌, ◌⊎◌, ◌+◌, ◌≤◌, min, true, false, IsTrue};
+ghost use Rattle.std.specs.Prelude.{◌≡◌, ◌↔◌, ◌⊎◌, ◌+◌, ◌≤◌, min, true, false, IsTrue, IfOk, OnOk, OnErr};
 
 use std::sync::{Condvar, Mutex, Wait};
+
+/// That all generals have posted their letters of a round, as `begin_again` alone tells.
+#[derive(Drop)]
+pub(crate) struct AllPosted {
+    letters: usize,
+}
+
+impl AllPosted {
+    /// How many letters they have posted.
+    pub(crate) fn letters(&self) -> usize
+        ensures { result ≡ self.now.letters }
+    {
+        self.letters
+    }
+}
+
+/// That a general has failed, as `begin_again` alone tells.
+#[derive(Clone, Copy)]
+pub(crate) struct SomeoneFailed {
+    /// How many letters of the round were posted.
+    letters: usize,
+}
 
 /// How many letters of a round are posted, and whether a general has failed.
 #[derive(Clone, Copy)]
@@ -28,13 +50,21 @@ impl Count {
         self.failed = true;
     }
 
-    /// Begins the next round: whether nobody has failed.
-    fn begin_again(&mut self) -> bool
+    /// Begins the next round, where none of so many has to be waited for: all have posted, unless one has failed.
+    fn begin_again(&mut self, generals: usize) -> Result<AllPosted, SomeoneFailed>
+        requires over { (generals ≤ self.old.posted) ⊎ (self.old.failed ≡ true) }
         ensures count { self.new ≡ record self.old { posted = 0 } }
-        ensures nobody { IsTrue result ↔ (self.old.failed ≡ false) }
+        ensures nobody { OnOk result (self.old.failed ≡ false) }
+        ensures all { IfOk result (λ all. (all.letters ≡ self.old.posted) × (generals ≤ all.letters)) }
+        ensures failed { OnErr result (self.old.failed ≡ true) }
     {
+        let letters = self.posted;
         self.posted = 0;
-        !self.failed
+        if self.failed {
+            Err(SomeoneFailed { letters })
+        } else {
+            Ok(AllPosted { letters })
+        }
     }
 
     /// Whether nobody has to be waited for: so many have posted, or one has failed.
@@ -84,14 +114,19 @@ impl Tally {
         self.changed.notify_one();
     }
 
-    /// Waits until all generals have posted their letters of the round, and begins the next; false where one has
-    /// failed.
-    pub(crate) fn all_posted<R: Wait>(&self, rt: &R) -> bool {
+    /// Waits until all generals have posted their letters of the round, and begins the next.
+    ///
+    /// # Errors
+    ///
+    /// `SomeoneFailed` where one has failed.
+    pub(crate) fn all_posted<R: Wait>(&self, rt: &R) -> Result<AllPosted, SomeoneFailed>
+        ensures { IfOk result (λ all. self.now.generals ≤ all.letters) }
+    {
         let mut count = self.changed.wait_while(
             rt,
             self.count.lock(rt),
             |count| !count.is_over(self.generals),
         );
-        count.begin_again()
+        count.begin_again(self.generals)
     }
 }

@@ -1,5 +1,5 @@
 -- A trial, access by access.
-use Rattle.std.proofs.Common.{◌≡◌, ℕ, zero, suc, ◌<◌, List, [], ◌∷◌, Some, None, false, length, refl, sym, subst, arith}
+use Rattle.std.proofs.Common.{◌≡◌, ◌∙◌, ℕ, zero, suc, List, [], ◌∷◌, Some, None, false, length, ap, refl, sym, subst, arith}
 use Rattle.std.specs.Prelude.{IsSome}
 use Rattle.insn.specs.declared.insn.Insn.{Insn}
 use Rattle.semantics.specs.Relay.{Relay, IsRelay, IsContext}
@@ -18,7 +18,8 @@ use Rattle.letter.specs.Activation.{Activation, turned}
 use Rattle.letter.specs.Runs.{Onward, Runs, AreFitting}
 use Rattle.round.specs.Running.{AreAccessesOf}
 use Rattle.round.proofs.Onwards.{all_none}
-use Rattle.trial.specs.Trial.{Ending, served, ending, trial_on}
+use Rattle.trial.specs.Trial.{Ending, accesses, served, ending, trial_on}
+use Rattle.trial.proofs.Entering.{accesses_asks, accesses_exits, accesses_next}
 use Rattle.trial.specs.Laws.{IsGeneralsRun}
 
 -- where it stands, as an activation without a patience
@@ -26,9 +27,10 @@ abbrev here : List Insn → List ℕ → Relay → State → Activation
 here program context relay s =
     record { program = program; context = context; relay = relay; patience = None; state = s; over = false }
 
--- the accesses from a state on, to the exit
-record Went (program : List Insn) (context : List ℕ) (relay : Relay) (words : List ℕ) (s : State) (e : Ending) : Type 0 where
+-- the accesses within k steps from a state, to the exit
+record Went (program : List Insn) (context : List ℕ) (relay : Relay) (k : ℕ) (words : List ℕ) (s : State) (e : Ending) : Type 0 where
   ledger : List Access
+  whole : ledger ≡ accesses program context relay k words s
   last : State
   steps : ℕ
   run : Runs steps (here program context relay s) ledger (here program context relay last)
@@ -43,9 +45,10 @@ own_more general round a ledger h all zero d lt = h
 own_more general round a ledger h all (suc k) d lt = all k d (omega arith)
 
 -- a step that goes on
-went_next : (program : List Insn) (context : List ℕ) (relay : Relay) (words : List ℕ) (s t : State) (e : Ending) → step program context relay s ≡ Next t → Went program context relay words t e → Went program context relay words s e
-went_next program context relay words s t e is w = record {
+went_next : (program : List Insn) (context : List ℕ) (relay : Relay) (k : ℕ) (words : List ℕ) (s t : State) (e : Ending) → step program context relay s ≡ Next t → Went program context relay k words t e → Went program context relay (suc k) words s e
+went_next program context relay k words s t e is w = record {
   ledger = w.ledger;
+  whole = w.whole ∙ sym (accesses_next program context relay k words s t is);
   last = w.last;
   steps = suc w.steps;
   run = subst (λ (o : Outcome). Onward (Runs w.steps) (turned (here program context relay s) o) w.ledger (here program context relay w.last)) (sym is) w.run;
@@ -57,12 +60,13 @@ went_next program context relay words s t e is w = record {
 }
 
 -- a request, and its answer
-went_asks : (program : List Insn) (context : List ℕ) (relay : Relay) (words : List ℕ) (s t : State) (request : Request) (e : Ending) → IsBoard words → step program context relay s ≡ Ask request t
-    → Went program context relay (next words request) (resumed request (reply words request) t) e → Went program context relay words s e
-went_asks program context relay words s t request e board is w =
+went_asks : (program : List Insn) (context : List ℕ) (relay : Relay) (k : ℕ) (words : List ℕ) (s t : State) (request : Request) (e : Ending) → IsBoard words → step program context relay s ≡ Ask request t
+    → Went program context relay k (next words request) (resumed request (reply words request) t) e → Went program context relay (suc k) words s e
+went_asks program context relay k words s t request e board is w =
     let a : Access = record { general = relay.shape.general; round = relay.shape.round; request = request; reply = reply words request } in
     record {
       ledger = a ∷ w.ledger;
+      whole = ap (λ (l : List Access). a ∷ l) w.whole ∙ sym (accesses_asks program context relay k words s t request is);
       last = w.last;
       steps = suc w.steps;
       run = subst (λ (o : Outcome). Onward (Runs w.steps) (turned (here program context relay s) o) (a ∷ w.ledger) (here program context relay w.last)) (sym is) (refl, w.run);
@@ -73,10 +77,11 @@ went_asks program context relay words s t request e board is w =
       left = w.left;
     }
 
-went_exits : (program : List Insn) (context : List ℕ) (relay : Relay) (words : List ℕ) (s t : State) (r0 : ℕ) (e : Ending) → step program context relay s ≡ Exit r0 t
-    → record { r0 = r0; state = t; words = words } ≡ e → Went program context relay words s e
-went_exits program context relay words s t r0 e is same = subst (λ (f : Ending). Went program context relay words s f) same (record {
+went_exits : (program : List Insn) (context : List ℕ) (relay : Relay) (k : ℕ) (words : List ℕ) (s t : State) (r0 : ℕ) (e : Ending) → step program context relay s ≡ Exit r0 t
+    → record { r0 = r0; state = t; words = words } ≡ e → Went program context relay (suc k) words s e
+went_exits program context relay k words s t r0 e is same = subst (λ (f : Ending). Went program context relay (suc k) words s f) same (record {
   ledger = [];
+  whole = sym (accesses_exits program context relay k words s t r0 is);
   last = s;
   steps = 0;
   run = (refl, refl);
@@ -87,17 +92,17 @@ went_exits program context relay words s t r0 e is same = subst (λ (f : Ending)
   left = refl;
 })
 
-went : (program : List Insn) (context : List ℕ) (relay : Relay) (k : ℕ) (words : List ℕ) (s : State) (e : Ending) → IsBoard words → ending program context relay k words s ≡ Some e → Went program context relay words s e
+went : (program : List Insn) (context : List ℕ) (relay : Relay) (k : ℕ) (words : List ℕ) (s : State) (e : Ending) → IsBoard words → ending program context relay k words s ≡ Some e → Went program context relay k words s e
 unfolding ending
 went program context relay zero words s e board is = absurd (let h = is in cc)
 went program context relay (suc k) words s e board is = by (λ left t kept rest. went program context relay k left t e kept rest) (step program context relay s) refl is
   where
-    by : ((left : List ℕ) (t : State) → IsBoard left → ending program context relay k left t ≡ Some e → Went program context relay left t e) → (o : Outcome) → step program context relay s ≡ o → served (λ left t. ending program context relay k left t) words o ≡ Some e → Went program context relay words s e
-    by ih (Next t) same rest = went_next program context relay words s t e same (ih words t board rest)
+    by : ((left : List ℕ) (t : State) → IsBoard left → ending program context relay k left t ≡ Some e → Went program context relay k left t e) → (o : Outcome) → step program context relay s ≡ o → served (λ left t. ending program context relay k left t) words o ≡ Some e → Went program context relay (suc k) words s e
+    by ih (Next t) same rest = went_next program context relay k words s t e same (ih words t board rest)
     by ih (Ask request t) same rest =
-        went_asks program context relay words s t request e board same
+        went_asks program context relay k words s t request e board same
         (ih (next words request) (resumed request (reply words request) t) (next_board words request board (asks_within program context relay s t request same)) rest)
-    by ih (Exit r0 t) same rest = went_exits program context relay words s t r0 e same (let h = rest in cc)
+    by ih (Exit r0 t) same rest = went_exits program context relay k words s t r0 e same (let h = rest in cc)
     by ih (Trap cause) same rest = absurd (let h = rest in cc)
 
 pub trial_is_run : (words : List ℕ) (program : List Insn) (context : List ℕ) (relay : Relay) (e : Ending) → IsBoard words → trial_on words program context relay ≡ Some e
@@ -106,6 +111,7 @@ trial_is_run words program context relay e board is =
     let w = went program context relay (length program) words (entry (empty_outbox relay)) e board is in
     record {
       ledger = w.ledger;
+      whole = w.whole;
       last = here program context relay w.last;
       way = record { same = record { program = refl; context = refl; relay = refl; patience = refl }; run = (w.steps, w.run); own = w.own; fitting = w.fitting };
       going = refl;

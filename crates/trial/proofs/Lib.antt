@@ -1,3 +1,4 @@
+pub mod Entering
 mod Examples
 pub mod Histories
 pub mod Items

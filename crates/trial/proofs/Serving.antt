@@ -48,7 +48,7 @@ ending_exits : (program : List Insn) (context : List ℕ) (relay : Relay) (k : �
 unfolding ending
 ending_exits program context relay k words s out r0 e = ap (λ (o : Outcome). served (λ left u. ending program context relay k left u) words o) e
 
-leads_counts : (program : List Insn) (context : List ℕ) (relay : Relay) (n : ℕ) (s t : State) → Leads program context relay n s t → s.steps ≤ t.steps
+pub leads_counts : (program : List Insn) (context : List ℕ) (relay : Relay) (n : ℕ) (s t : State) → Leads program context relay n s t → s.steps ≤ t.steps
 leads_counts program context relay zero s t same = let e : s.steps ≡ t.steps = ap (λ (u : State). u.steps) same in omega arith
 leads_counts program context relay (suc n) s t (next, is, more) =
     let counted : next.steps ≡ s.steps + 1 = subst (λ (o : Outcome). CountsOnce s o) is (step_counts program context relay s) in

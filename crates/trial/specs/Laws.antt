@@ -13,13 +13,14 @@ use Rattle.roster.specs.Scenario.{Scenario, IsScenario, shape_of}
 use Rattle.letter.specs.Letters.{Letter}
 use Rattle.letter.specs.Contexts.{context_of, took}
 use Rattle.trial.specs.Setting.{Setting, IsTold, context_in}
-use Rattle.trial.specs.Trial.{Ending, trial_on}
+use Rattle.trial.specs.Trial.{Ending, accesses_on, trial_on}
 
--- a general's run of the program, by just these accesses, which are a legal history of a board of these words and leave
--- those, has come to where its step is this exit
+-- a general's run of the program, by just these accesses, its trial's, which are a legal history of a board of these
+-- words and leave those, has come to where its step is this exit
 pub record IsGeneralsRun (words : List ℕ) (program : List Insn) (context : List ℕ) (relay : Relay)
     (e : Ending) : Type 0 where
   pub ledger : List Access
+  pub whole : ledger ≡ accesses_on words program context relay
   pub last : Activation
   pub way : IsOnWay relay.shape.general relay.shape.round (started None program context relay) last ledger
   pub going : last.over ≡ false

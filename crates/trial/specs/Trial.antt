@@ -1,5 +1,5 @@
 -- One run of a program with a board of its own (own).
-use Rattle.std.specs.Prelude.{ℕ, ◌≡◌, ◌++◌, zero, suc, List, All, Option, None, Some, length, replicate}
+use Rattle.std.specs.Prelude.{ℕ, ◌≡◌, ◌++◌, zero, suc, List, [], ◌∷◌, All, Option, None, Some, length, replicate}
 use Rattle.insn.specs.declared.insn.Insn.{Insn}
 use Rattle.semantics.specs.Limits.{board_words}
 use Rattle.semantics.specs.Relay.{Relay, oral}
@@ -42,6 +42,30 @@ trial program context relay = trial_on (replicate board_words 0) program context
 -- the trial in a setting
 abbrev pub trial_in : Setting → List Insn → Option Ending
 trial_in s program = trial_on s.board program (context_in s) (oral s.shape)
+
+-- what a board of these words enters at an outcome, and by what follows it: of a request who has asked, and its answer
+abbrev pub entered : Shape → (List ℕ → State → List Access) → List ℕ → Outcome → List Access
+entered shape rest words (Next s) = rest words s
+entered shape rest words (Ask request s) =
+    record { general = shape.general; round = shape.round; request = request; reply = reply words request }
+    ∷ rest (next words request) (resumed request (reply words request) s)
+entered shape rest words (Exit r0 s) = []
+entered shape rest words (Trap cause) = []
+
+-- its accesses within k steps from a state, in order, with a board of these words
+unfoldable pub accesses : List Insn → List ℕ → Relay → ℕ → List ℕ → State → List Access
+accesses program context relay zero words s = []
+accesses program context relay (suc k) words s =
+    entered relay.shape (λ left t. accesses program context relay k left t) words (step program context relay s)
+
+-- the accesses of its trial, in order, with a board of these words
+abbrev pub accesses_on : List ℕ → List Insn → List ℕ → Relay → List Access
+accesses_on words program context relay =
+    accesses program context relay (length program) words (entry (empty_outbox relay))
+
+-- the accesses of its trial in a setting, in order
+abbrev pub accesses_in : Setting → List Insn → List Access
+accesses_in s program = accesses_on s.board program (context_in s) (oral s.shape)
 
 -- since it was the old one the board has served this general in this round alone
 pub record ServesOne (shape : Shape) (old new : RecordedBoard) : Type 0 where

@@ -6,7 +6,8 @@ pub fn trials_end()
     ensures { TrialsEnd }
 {}
 
-/// A trial that ends is the run of its program with the answers that the board gave, and it leaves that board's words.
+/// A trial that ends is the run of its program with the answers that the board gave, by the trial's accesses, and it
+/// leaves that board's words.
 pub fn trials_are_runs()
     ensures { TrialsAreRuns }
 {}

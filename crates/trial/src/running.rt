@@ -1,11 +1,11 @@
 //! One run of a program, with a board of its own.
-ghost use Rattle.std.specs.Prelude.{◌≡◌, Some, IfOk};
+ghost use Rattle.std.specs.Prelude.{◌≡◌, ◌++◌, Some, IfOk};
 ghost use Rattle.label.specs.Relay.{IsShape};
 ghost use Rattle.semantics.specs.Relay.{oral};
 ghost use Rattle.semantics.specs.State.{entry};
 ghost use Rattle.semantics.specs.Outbox.{empty_outbox};
 ghost use Rattle.machine.specs.Advance.{IsOfRun};
-ghost use Rattle.trial.specs.Trial.{trial_in, trial_on, IsOfOne, ServesOne};
+ghost use Rattle.trial.specs.Trial.{accesses_in, accesses_on, trial_in, trial_on, IsOfOne, ServesOne};
 
 use crate::setting::Setting;
 use board::Board;
@@ -41,6 +41,7 @@ pub fn run_in(alloc: Global, verified: &Verified, setting: &Setting) -> Result<E
         })) }
     ensures relay { IfOk result (λ e. e.activation.relay ≡ oral setting.now.shape) }
     ensures board { IfOk result (λ e. IsOfOne setting.now.shape setting.now.board e.board) }
+    ensures ledger { IfOk result (λ e. e.board.ledger ≡ accesses_in setting.now verified.now) }
 {
     let bytes = setting.context(alloc)?;
     let context = Context::new(bytes.as_slice());
@@ -49,6 +50,7 @@ pub fn run_in(alloc: Global, verified: &Verified, setting: &Setting) -> Result<E
 
 /// Runs a program to its exit, in this context and with an outbox of this relay, with a board that begins with these
 /// words.
+#[tactic(auto, using(crate::proofs::Owning::all_of_one, crate::proofs::Entering::all_entered))]
 fn run(
     alloc: Global,
     verified: &Verified,
@@ -65,6 +67,8 @@ fn run(
         })) }
     ensures relay { IfOk result (λ e. e.activation.relay ≡ oral shape) }
     ensures board { IfOk result (λ e. IsOfOne shape words e.board) }
+    ensures ledger { IfOk result
+        (λ e. e.board.ledger ≡ accesses_on words verified.now context.now (oral shape)) }
 {
     let mut board = Board::new(alloc, words);
     let mut activation = Activation::start(verified, context, Outbox::new(alloc, shape)?);
@@ -81,6 +85,7 @@ fn run(
 /// # Errors
 ///
 /// `AllocError` where the memory for an access is refused.
+#[tactic(auto, using(crate::proofs::Entering::served_none))]
 pub fn run_on(
     board: &mut Board,
     verified: &Verified,
@@ -99,6 +104,9 @@ pub fn run_on(
         })) }
     ensures relay { activation.new.relay ≡ oral shape }
     ensures board { IfOk result (λ r0. ServesOne shape board.old board.new) }
+    ensures ledger { IfOk result
+        (λ r0. board.new.ledger ≡ board.old.ledger
+        ++ accesses_on board.old.words verified.now context.now (oral shape)) }
 {
     // A sound program is over within as many steps as it has instructions.
     let limit = verified.program().len() as u32;

@@ -1,5 +1,9 @@
+use Rattle.std.specs.Prelude.{◌≡◌}
 use Rattle.byzlab.specs.Failures.{IsStatus}
 use Rattle.byzlab.proofs.in_turn.Given as goal
 
-abbrev pub invariant-loop-index : goal.invariant-loop-index
-invariant-loop-index g l = IsStatus l.worst
+abbrev pub invariant-loop-words : goal.invariant-loop-words
+invariant-loop-words g l = record {
+  status : IsStatus l.endings.worst;
+  count : l.endings.count ≡ l.words-index;
+}

@@ -5,6 +5,6 @@ use Rattle.threads.proofs.conducting.conduct.Given as goal
 abbrev pub invariant-loop-round : goal.invariant-loop-round
 invariant-loop-round g l = record {
   told : WasTold l.scenario l.rows.items l.told;
-  long : length l.rows.items ≡ l.round;
+  long : length l.rows.items ≡ l._round;
   post : l.collector.table ≡ l.camp.post.table;
 }

@@ -1,6 +1,7 @@
 -- The run in the setting's context and relay.
 use Rattle.std.proofs.Common.{◌∙◌}
 use Rattle.std.proofs.lemmas.Result.{IfOk-weaker}
+use Rattle.trial.proofs.Entering.{entered_in}
 use Rattle.trial.proofs.Owning.{board_in}
 use Rattle.trial.proofs.Trying.{ends_in, relay_in}
 use Rattle.trial.proofs.running.run_in.Goals as goal
@@ -15,3 +16,8 @@ returns-clause-relay c = IfOk-weaker c.run.result _ _ (λ e kept. relay_in c.arg
 
 pub returns-clause-board : goal.returns-clause-board
 returns-clause-board c = IfOk-weaker c.run.result _ _ (λ e own. board_in c.args.setting.now c.shape.result c.board.result e.board c.shape.ensures.same c.board.ensures own) c.run.ensures.board
+
+pub returns-clause-ledger : goal.returns-clause-ledger
+returns-clause-ledger c =
+    IfOk-weaker c.run.result _ _ (λ e all. entered_in c.args.verified.now c.args.setting.now c.new-context.result c.board.result c.shape.result e.board.ledger
+    (c.new-context.ensures.same ∙ (c.as_slice.ensures.value ∙ c.in_ok-bytes.ensures.bytes)) c.shape.ensures.same c.board.ensures all) c.run.ensures.ledger

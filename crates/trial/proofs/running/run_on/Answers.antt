@@ -1,44 +1,22 @@
 -- Each answer leads on.
-use Rattle.std.proofs.Common.{◌≤◌, length, ap, arith, refl}
+use Rattle.std.proofs.Common.{◌≤◌, length, ap, arith}
 use Rattle.semantics.specs.Replies.{words_in}
 use Rattle.semantics.specs.Relay.{oral}
-use Rattle.trial.proofs.Serving.{served_from, serves_on, goes_further, served_to}
-use Rattle.trial.proofs.Owning.{one_more, serves_none}
+use Rattle.trial.proofs.Entering.{entered_all, served_more}
+use Rattle.trial.proofs.Serving.{goes_further, served_to}
 use Rattle.trial.proofs.running.run_on.Goals as goal
-
-pub loop-request-init : goal.loop-request-init
-loop-request-init c = record {
-  serving = served_from c.args.verified.now c.args.context.now (oral c.args.shape) c.args.board.now.words c.args.activation.now c.args.board.now c.requires.of_run c.requires.relay refl c.requires.started;
-  own = serves_none c.args.shape c.args.board.now;
-}
 
 pub loop-request-preserved : goal.loop-request-preserved
 loop-request-preserved c =
-    let program = c.args.verified.now in
-    let context = c.args.context.now in
-    let a = c.loop-request.activation in
-    let s = c.loop-request.invariant.serving in
-    let few : c.len-limit.result ≤ length c.args.verified.now = (let l = c.len-limit.ensures.len in let p = ap length c.program.ensures.same in omega arith) in
-    record {
-      serving = serves_on program context (oral c.args.shape) _ c.len-limit.result a c.run.new.self c.resume.new.self c.loop-request.board c.apply.new.self c.in-Asked.request (words_in c.in_ok-reply-in-Asked.reply) s few
-          (c.in-Asked.ensures.advances s.of_run.answers s.of_run.reached) c.resume.ensures.relay c.resume.ensures.resumed
-          (c.resume.ensures.of_run program context c.in-Asked.ensures.of_run) c.in_ok-reply-in-Asked.ensures.answer c.in_ok-reply-in-Asked.ensures.words;
-      own = one_more c.args.shape _ c.loop-request.board c.apply.new.self _ c.loop-request.invariant.own c.apply.ensures.opening c.in_ok-reply-in-Asked.ensures.entered refl refl;
-    }
+    served_more c.args.verified.now c.program.result.now c.args.context.now c.args.shape c.len-limit.result c.loop-request.activation c.run.new.self c.resume.new.self c.args.board.now c.loop-request.board c.apply.new.self c.in-Asked.request (words_in c.in_ok-reply-in-Asked.reply)
+    c.loop-request.invariant c.in-Asked.ensures.advances c.resume.ensures.resumed c.in_ok-reply-in-Asked.ensures.entered c.len-limit.ensures.len c.program.ensures.same c.resume.ensures.relay
+    c.in-Asked.ensures.of_run c.resume.ensures.of_run c.in_ok-reply-in-Asked.ensures.answer c.in_ok-reply-in-Asked.ensures.words c.apply.ensures.opening
 
 pub loop-request-preserved-in_ok-reply-in-Asked : goal.loop-request-preserved-in_ok-reply-in-Asked
 loop-request-preserved-in_ok-reply-in-Asked c =
-    let program = c.args.verified.now in
-    let context = c.args.context.now in
-    let a = c.loop-request.activation in
-    let s = c.loop-request.invariant.serving in
-    let few : c.len-limit.result ≤ length c.args.verified.now = (let l = c.len-limit.ensures.len in let p = ap length c.program.ensures.same in omega arith) in
-    record {
-      serving = serves_on program context (oral c.args.shape) _ c.len-limit.result a c.run.new.self c.resume.new.self c.loop-request.board c.apply.new.self c.in-Asked.request (words_in c.in_ok-reply-in-Asked.reply) s few
-          (c.in-Asked.ensures.advances s.of_run.answers s.of_run.reached) c.resume.ensures.relay c.resume.ensures.resumed
-          (c.resume.ensures.of_run program context c.in-Asked.ensures.of_run) c.in_ok-reply-in-Asked.ensures.answer c.in_ok-reply-in-Asked.ensures.words;
-      own = one_more c.args.shape _ c.loop-request.board c.apply.new.self _ c.loop-request.invariant.own c.apply.ensures.opening c.in_ok-reply-in-Asked.ensures.entered refl refl;
-    }
+    served_more c.args.verified.now c.program.result.now c.args.context.now c.args.shape c.len-limit.result c.loop-request.activation c.run.new.self c.resume.new.self c.args.board.now c.loop-request.board c.apply.new.self c.in-Asked.request (words_in c.in_ok-reply-in-Asked.reply)
+    c.loop-request.invariant c.in-Asked.ensures.advances c.resume.ensures.resumed c.in_ok-reply-in-Asked.ensures.entered c.len-limit.ensures.len c.program.ensures.same c.resume.ensures.relay
+    c.in-Asked.ensures.of_run c.resume.ensures.of_run c.in_ok-reply-in-Asked.ensures.answer c.in_ok-reply-in-Asked.ensures.words c.apply.ensures.opening
 
 pub loop-request-smaller : goal.loop-request-smaller
 loop-request-smaller c =
@@ -64,4 +42,12 @@ returns-in-Exited-clause-ending c =
     let s = c.loop-request.invariant.serving in
     let few : c.len-limit.result ≤ length c.args.verified.now = (let l = c.len-limit.ensures.len in let p = ap length c.program.ensures.same in omega arith) in
     served_to c.args.verified.now c.args.context.now (oral c.args.shape) _ c.len-limit.result c.in-Exited.r0 a c.run.new.self c.loop-request.board s few
+    (c.in-Exited.ensures.advances s.of_run.answers s.of_run.reached)
+
+pub returns-in-Exited-clause-ledger : goal.returns-in-Exited-clause-ledger
+returns-in-Exited-clause-ledger c =
+    let a = c.loop-request.activation in
+    let s = c.loop-request.invariant.serving in
+    let few : c.len-limit.result ≤ length c.args.verified.now = (let l = c.len-limit.ensures.len in let p = ap length c.program.ensures.same in omega arith) in
+    entered_all c.args.verified.now c.args.context.now c.args.shape _ c.len-limit.result c.in-Exited.r0 a c.run.new.self c.args.board.now c.loop-request.board s c.loop-request.invariant.entered few
     (c.in-Exited.ensures.advances s.of_run.answers s.of_run.reached)

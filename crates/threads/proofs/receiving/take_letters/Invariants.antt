@@ -1,5 +1,5 @@
 use Rattle.std.proofs.Common.{◌≡◌, ◌++◌}
-use Rattle.threads.proofs.conducting.take_letters.Given as goal
+use Rattle.threads.proofs.receiving.take_letters.Given as goal
 
 abbrev pub invariant-loop : goal.invariant-loop
 invariant-loop g l = record {

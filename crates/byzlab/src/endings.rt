@@ -1,0 +1,84 @@
+//! How requests come out that are done one behind another.
+ghost use Rattle.std.specs.Prelude.{◌≡◌, ◌+◌, ◌<◌, ◌^◌, false, max};
+
+use crate::ending::Ending;
+
+/// How requests came out that were done one behind another. Only what is here makes it: of none, of one more ending, of
+/// words that ask for nothing.
+#[derive(Drop)]
+pub struct Endings {
+    /// How many requests they are.
+    count: usize,
+    /// The worst exit status, 0 of none.
+    worst: u8,
+    /// Whether the last one's output failed, so that no further answer can be written.
+    is_unwritten: bool,
+}
+
+impl Endings {
+    /// Of no request.
+    pub fn none() -> Endings
+        ensures count { result.count ≡ 0 }
+        ensures worst { result.worst ≡ 0 }
+        ensures written { result.is_unwritten ≡ false }
+    {
+        Endings {
+            count: 0,
+            worst: 0,
+            is_unwritten: false,
+        }
+    }
+
+    /// Enters how the next request came out.
+    pub fn enter(&mut self, ending: Ending)
+        requires { self.old.count + 1 < 2 ^ 64 }
+        ensures count { self.new.count ≡ self.old.count + 1 }
+        ensures worst { self.new.worst ≡ max self.old.worst ending.status }
+        ensures unwritten { self.new.is_unwritten ≡ ending.is_unwritten }
+    {
+        self.count += 1;
+        self.worst = worse(self.worst, ending.status());
+        self.is_unwritten = ending.is_unwritten();
+    }
+
+    /// These, and the exit status of words behind them that ask for nothing.
+    pub fn with_unasked(self, status: u8) -> Endings
+        ensures count { result.count ≡ self.count }
+        ensures worst { result.worst ≡ max self.worst status }
+        ensures unwritten { result.is_unwritten ≡ self.is_unwritten }
+    {
+        Endings {
+            count: self.count,
+            worst: worse(self.worst, status),
+            is_unwritten: self.is_unwritten,
+        }
+    }
+
+    /// How many requests they are.
+    pub fn count(&self) -> usize
+        ensures { result ≡ self.now.count }
+    {
+        self.count
+    }
+
+    /// The worst exit status, 0 of none.
+    pub fn worst(&self) -> u8
+        ensures { result ≡ self.now.worst }
+    {
+        self.worst
+    }
+
+    /// Whether the last one's output failed.
+    pub fn is_unwritten(&self) -> bool
+        ensures { result ≡ self.now.is_unwritten }
+    {
+        self.is_unwritten
+    }
+}
+
+/// The worse of two exit statuses.
+fn worse(first: u8, second: u8) -> u8
+    ensures { result ≡ max first second }
+{
+    if first < second { second } else { first }
+}

@@ -1,0 +1,68 @@
+//! Why the rounds were not all conducted.
+ghost use Rattle.std.specs.Prelude.{◌≡◌};
+ghost use Rattle.threads.specs.Answers.{halt_as};
+ghost use Rattle.threads.specs.declared.halt.Halt.TheVariants.{Memory, Failed, Strayed as Astray};
+
+use crate::answers::Refused;
+use crate::error::MusterError;
+use crate::receiving::Strayed;
+use crate::tally::SomeoneFailed;
+use std::alloc::{AllocError, AllocFailed};
+
+/// Why the rounds were not all conducted: memory aside, only what finds it can tell so.
+#[derive(Clone, Copy)]
+pub(crate) enum Halt {
+    /// Memory was refused.
+    Memory,
+    /// None was, since not all threads were started.
+    Unstarted(Refused),
+    /// A general has failed.
+    Failed(SomeoneFailed),
+    /// Letters are not of their round.
+    Strayed(Strayed),
+}
+
+impl Halt {
+    /// The error that tells it.
+    pub(crate) fn error(self) -> MusterError
+        ensures { result ≡ halt_as self }
+    {
+        match self {
+            Halt::Memory => MusterError::Memory,
+            Halt::Unstarted(refused) => refused.error(),
+            Halt::Failed(_) | Halt::Strayed(_) => MusterError::Unaccounted,
+        }
+    }
+}
+
+impl From<AllocError> for Halt {
+    ghost from_gives = { λ _ halt. halt ≡ Memory };
+
+    fn from(_refused: AllocError) -> Halt {
+        Halt::Memory
+    }
+}
+
+impl<T: Drop> From<AllocFailed<T>> for Halt {
+    ghost from_gives = { λ _ halt. halt ≡ Memory };
+
+    fn from(_refused: AllocFailed<T>) -> Halt {
+        Halt::Memory
+    }
+}
+
+impl From<SomeoneFailed> for Halt {
+    ghost from_gives = { λ someone halt. halt ≡ Failed someone };
+
+    fn from(someone: SomeoneFailed) -> Halt {
+        Halt::Failed(someone)
+    }
+}
+
+impl From<Strayed> for Halt {
+    ghost from_gives = { λ strayed halt. halt ≡ Astray strayed };
+
+    fn from(strayed: Strayed) -> Halt {
+        Halt::Strayed(strayed)
+    }
+}

@@ -1,0 +1,101 @@
+//! The letters of a round, taken out of the post.
+ghost use Rattle.std.specs.Prelude.{◌≡◌, ◌≢◌, ◌++◌, suc, List, IsPermutation, IsSortedByKey, IfOk, OnOk, IfErr};
+ghost use Rattle.std.specs.Ordering.{nat_cmp};
+ghost use Rattle.letter.specs.Letters.{Letter as LetterSeen};
+ghost use Rattle.letter.specs.Origin.{AreLettersOf};
+ghost use Rattle.threads.specs.Answers.{halt_as, HasStrayedIn};
+ghost use Rattle.threads.specs.declared.error.MusterError.TheVariants.{Spawn, Post as PostFull};
+
+use crate::halt::Halt;
+use crate::tally::AllPosted;
+use delivery::Told;
+use letter::{Letter, are_letters_of};
+use post::{Collector, Post};
+use roster::Scenario;
+use std::alloc::{AllocError, Global};
+use std::sync::Wait;
+
+/// That letters are not all of their round, as `of_round` alone tells.
+#[derive(Clone, Copy)]
+pub(crate) struct Strayed {
+    /// Which round that is.
+    round: u32,
+}
+
+/// The letters of the round to come, ascending by general, which all generals have posted.
+///
+/// # Errors
+///
+/// `Memory` where memory is refused, `Strayed` where letters are not of that round.
+pub(crate) fn receive<R: Wait>(
+    rt: &R,
+    alloc: Global,
+    scenario: &Scenario,
+    told: &Told,
+    post: &Post,
+    collector: Collector,
+    all: AllPosted,
+) -> Result<(Collector, Vec<Letter>), Halt>
+    requires { collector.table ≡ post.now.table }
+    ensures post { IfOk result (λ r. r.0.table ≡ post.now.table) }
+    ensures letters { IfOk result (λ r. AreLettersOf scenario.now (suc told.now.rounds) r.1.items) }
+    ensures ascending { IfOk result (λ r. IsSortedByKey (λ (letter : LetterSeen). letter.general) nat_cmp r.1.items) }
+    ensures taken { IfOk result (λ r. (came : List LetterSeen) × (r.0.taken ≡ collector.taken ++ came)
+        × IsPermutation came r.1.items) }
+    ensures strayed { IfErr result (HasStrayedIn (suc told.now.rounds)) }
+    ensures started { IfErr result (λ halt. halt_as halt ≢ Spawn) }
+    ensures posted { IfErr result (λ halt. halt_as halt ≢ PostFull) }
+{
+    let (collector, letters) = take_letters(rt, alloc, post, collector, all)?;
+    of_round(scenario, u32::from(told.rounds()) + 1, letters.as_slice())?;
+    Ok((collector, letters))
+}
+
+/// Tests that letters are of this round.
+fn of_round(scenario: &Scenario, round: u32, letters: &[Letter]) -> Result<(), Strayed>
+    ensures placed { OnOk result (AreLettersOf scenario.now round letters.now) }
+    ensures strayed { IfErr result (λ strayed. (¬ AreLettersOf scenario.now round letters.now)
+        × (strayed.round ≡ round)) }
+{
+    if are_letters_of(scenario, round, letters) {
+        Ok(())
+    } else {
+        Err(Strayed { round })
+    }
+}
+
+/// The letters that it takes out of the post until it finds none, all of them, ascending by general. No more is
+/// promised of them here: they are tested where they are told, and judged at the end.
+fn take_letters<R: Wait>(
+    rt: &R,
+    alloc: Global,
+    post: &Post,
+    mut collector: Collector,
+    all: AllPosted,
+) -> Result<(Collector, Vec<Letter>), AllocError>
+    requires { collector.table ≡ post.now.table }
+    ensures post { IfOk result (λ r. r.0.table ≡ post.now.table) }
+    ensures taken { IfOk result (λ r. (came : List LetterSeen) × (r.0.taken ≡ collector.taken ++ came)
+        × IsPermutation came r.1.items) }
+    ensures ascending { IfOk result (λ r. IsSortedByKey (λ (letter : LetterSeen). letter.general) nat_cmp r.1.items) }
+{
+    let mut letters = Vec::with_capacity(alloc, all.letters())?;
+    for _ in rt.forever() {
+        let (again, taken) = post.take(rt, collector);
+        collector = again;
+        let Some(letter) = taken else {
+            break;
+        };
+        letters.push(letter)?;
+    }
+    Ok((collector, by_general(letters)))
+}
+
+/// The same letters, ascending by general.
+fn by_general(mut letters: Vec<Letter>) -> Vec<Letter>
+    ensures same { IsPermutation letters.items result.items }
+    ensures ascending { IsSortedByKey (λ (letter : LetterSeen). letter.general) nat_cmp result.items }
+{
+    letters.sort_unstable_by_key(|letter| letter.general);
+    letters
+}
