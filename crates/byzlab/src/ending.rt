@@ -250,7 +250,7 @@ impl<'a, O: Output> Printed<'a, O> {
     {
         let target = Snapshot::of(&*out);
         let ending = match kept {
-            Ok(_files) => printed(rt, request, text, out),
+            Ok(_files) => put_text(rt, request, text, out),
             Err(unkept) => Ending::refused(tell_unkept(rt, request, unkept)?),
         };
         Ok(Printed {
@@ -273,7 +273,7 @@ impl<'a> Printed<'a, Target<'a>> {
 }
 
 /// Prints this text, or says that the output failed.
-fn printed<O: Output>(rt: &HostRuntime, request: &Request, text: &str, out: &mut O) -> Ending
+fn put_text<O: Output>(rt: &HostRuntime, request: &Request, text: &str, out: &mut O) -> Ending
     ensures status { IsStatus result.status }
     ensures printed { result.status ≡ 0 → Appends (O.contents out.old) (O.contents out.new) text.now }
     ensures unwritten { result.is_unwritten ≡ true → (result.status ≢ 0) × O.fails out.old }
