@@ -323,7 +323,6 @@ fn completed<'a>(
 
 /// A scenario that is read from this file, with the files of the folder that it names; or that a line was told, where
 /// one of them is not taken.
-#[tactic(auto, using(crate::proofs::SeenLemmas::is_seen))]
 fn seen<'a, R: Read + Drop, D: Folder>(
     rt: &HostRuntime,
     request: &Request,
