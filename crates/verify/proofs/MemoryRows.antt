@@ -5,7 +5,7 @@ use Rattle.std.specs.Option.{ok_or}
 use Rattle.std.specs.Result.{result_err}
 use Rattle.std.proofs.lemmas.Bool.{and_parts}
 use Rattle.semantics.specs.declared.value.Region.{Region}
-use Rattle.semantics.specs.declared.value.Region.TheVariants.{Stack}
+use Rattle.semantics.specs.declared.value.Region.TheVariants.{Stack, Context}
 use Rattle.absval.specs.declared.windows.Window.{Window}
 use Rattle.absval.specs.Windows.{window_known}
 use Rattle.verify.specs.declared.reason.Reason.{Reason}
@@ -18,7 +18,7 @@ use Rattle.absval.specs.declared.value.AbsVal.{AbsVal}
 use Rattle.absval.specs.Table.{loaded_known}
 use Rattle.absmem.specs.Known.{Known, byte_at}
 use Rattle.verify.specs.Reasons.{unless}
-use Rattle.verify.specs.MemoryTable.{pointer_in, all_bytes, unset_in, spilled, pointer_or, stack_given, load_from, load_given, signed_from, signed_load_given, write_refused}
+use Rattle.verify.specs.MemoryTable.{pointer_in, all_bytes, unset_in, spilled, pointer_or, stack_given, load_from, signed_from, signed_load_given, write_refused}
 use Rattle.absval.specs.declared.value.AbsVal.TheVariants.{Unset, Number, Pointer}
 
 window_refused : (o : Option Window) → result_err (ok_or o Bounds) ≡ write_refused Stack o
@@ -77,13 +77,30 @@ pointer_found (Pointer other at) region offsets e =
     let same : (region, offsets) ≡ (other, at) = cc in ap (λ (p : Region × Offsets). Pointer p.0 p.1) (sym same)
 
 -- a window that leaves its region
-pub load_out : (known : Known) (size : Size) (base : AbsVal) (region : Region) (offsets : Offsets) (distance x : ℤ) (n : ℕ) (reason : Reason) → base ≡ Pointer region offsets → x ≡ distance → n ≡ bytes_of size →
-    Err reason ≡ ok_or (window_known region offsets.0 offsets.1 x n) Bounds → Err reason ≡ load_given known size base distance
-load_out known size base region offsets distance x n reason e f g h = rw e (by_window (window_known region offsets.0 offsets.1 distance (bytes_of size)) (rw (f, g) at h))
+pub load_out : (known : Known) (size : Size) (region other : Region) (low high distance x : ℤ) (n : ℕ) (reason : Reason) → region ≡ other → x ≡ distance → n ≡ bytes_of size →
+    Err reason ≡ ok_or (window_known other low high x n) Bounds → Err reason ≡ load_from known size region (window_known region low high distance (bytes_of size))
+load_out known size region other low high distance x n reason e f g h = rw e (by_window (window_known other low high distance (bytes_of size)) (rw (f, g) at h))
   where
-    by_window : (o : Option Window) → Err reason ≡ ok_or o Bounds → Err reason ≡ load_from known size region o
+    by_window : (o : Option Window) → Err reason ≡ ok_or o Bounds → Err reason ≡ load_from known size other o
     by_window None k = let same : reason ≡ Bounds = cc in rw same refl
     by_window (Some w) k = absurd cc
+
+-- one that lies in it
+window_there : (o : Option Window) (w : Window) → Ok w ≡ ok_or o Bounds → o ≡ Some w
+window_there None w e = absurd cc
+window_there (Some v) w e = let same : w ≡ v = cc in ap Some (sym same)
+
+pub context_given : (known : Known) (size : Size) (region : Region) (low high distance x : ℤ) (n : ℕ) (w : Window) (value : AbsVal) → region ≡ Context → x ≡ distance → n ≡ bytes_of size →
+    Ok w ≡ ok_or (window_known Context low high x n) Bounds → value ≡ loaded_known size → Ok value ≡ load_from known size region (window_known region low high distance (bytes_of size))
+context_given known size region low high distance x n w value e f g h v =
+    let there : window_known Context low high distance (bytes_of size) ≡ Some w = window_there (window_known Context low high distance (bytes_of size)) w (rw (f, g) at h) in
+    rw e (ap Ok v ∙ ap (load_from known size Context) (sym there))
+
+pub given_by_stack : (known : Known) (size : Size) (region : Region) (low high distance x : ℤ) (n : ℕ) (w : Window) (given : Result AbsVal Reason) → region ≡ Stack → x ≡ distance → n ≡ bytes_of size →
+    Ok w ≡ ok_or (window_known Stack low high x n) Bounds → given ≡ stack_given known size w → given ≡ load_from known size region (window_known region low high distance (bytes_of size))
+given_by_stack known size region low high distance x n w given e f g h v =
+    let there : window_known Stack low high distance (bytes_of size) ≡ Some w = window_there (window_known Stack low high distance (bytes_of size)) w (rw (f, g) at h) in
+    rw e (v ∙ ap (load_from known size Stack) (sym there))
 
 pub signed_load_out : (known : Known) (part : Narrow) (base : AbsVal) (region : Region) (offsets : Offsets) (distance x : ℤ) (n : ℕ) (reason : Reason) → base ≡ Pointer region offsets → x ≡ distance → n ≡ part_bytes part →
     Err reason ≡ ok_or (window_known region offsets.0 offsets.1 x n) Bounds → Err reason ≡ signed_load_given known part base distance
