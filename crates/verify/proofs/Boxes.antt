@@ -26,7 +26,7 @@ nothing_kept step only [] p q run = refl
 nothing_kept step only (kept ∷ states) p q run = λ i. unboxed (only p kept run.0 run.1 i) ∷ nothing_kept step only states run.0 q run.2 i
 
 -- of nothing, nothing is left
-none_of_none : (units : ℕ) → take units ([] : List (Option (Box AbsState Global))) ≡ []
+none_of_none : {A : Type 0} (units : ℕ) → take {A = A} units [] ≡ []
 none_of_none zero = refl
 none_of_none (suc units) = refl
 

@@ -5,7 +5,7 @@ use Rattle.std.specs.Option.{ok_or}
 use Rattle.std.specs.Result.{result_err}
 use Rattle.std.proofs.lemmas.Bool.{and_parts}
 use Rattle.semantics.specs.declared.value.Region.{Region}
-use Rattle.semantics.specs.declared.value.Region.TheVariants.{Stack, Context}
+use Rattle.semantics.specs.declared.value.Region.TheVariants.{Stack}
 use Rattle.absval.specs.declared.windows.Window.{Window}
 use Rattle.absval.specs.Windows.{window_known}
 use Rattle.verify.specs.declared.reason.Reason.{Reason}
@@ -17,8 +17,9 @@ use Rattle.absval.specs.declared.value.Offsets.{Offsets}
 use Rattle.absval.specs.declared.value.AbsVal.{AbsVal}
 use Rattle.absval.specs.Table.{loaded_known}
 use Rattle.absmem.specs.Known.{Known, byte_at}
-use Rattle.verify.specs.Reasons.{unless}
-use Rattle.verify.specs.MemoryTable.{pointer_in, all_bytes, unset_in, spilled, pointer_or, stack_given, load_from, signed_from, signed_load_given, write_refused}
+use Rattle.verify.specs.Reasons.{unless, outcome}
+use Rattle.verify.specs.MemoryTable.{pointer_in, all_bytes, unset_in, spilled, pointer_or, stack_given, load_from, signed_from, signed_load_given, write_refused, pointer_refused, store_refused}
+use Rattle.verify.specs.Transfer.{pointer_stored, stored}
 use Rattle.absval.specs.declared.value.AbsVal.TheVariants.{Unset, Number, Pointer}
 
 window_refused : (o : Option Window) → result_err (ok_or o Bounds) ≡ write_refused Stack o
@@ -90,12 +91,6 @@ window_there : (o : Option Window) (w : Window) → Ok w ≡ ok_or o Bounds → 
 window_there None w e = absurd cc
 window_there (Some v) w e = let same : w ≡ v = cc in ap Some (sym same)
 
-pub context_given : (known : Known) (size : Size) (region : Region) (low high distance x : ℤ) (n : ℕ) (w : Window) (value : AbsVal) → region ≡ Context → x ≡ distance → n ≡ bytes_of size →
-    Ok w ≡ ok_or (window_known Context low high x n) Bounds → value ≡ loaded_known size → Ok value ≡ load_from known size region (window_known region low high distance (bytes_of size))
-context_given known size region low high distance x n w value e f g h v =
-    let there : window_known Context low high distance (bytes_of size) ≡ Some w = window_there (window_known Context low high distance (bytes_of size)) w (rw (f, g) at h) in
-    rw e (ap Ok v ∙ ap (load_from known size Context) (sym there))
-
 pub given_by_stack : (known : Known) (size : Size) (region : Region) (low high distance x : ℤ) (n : ℕ) (w : Window) (given : Result AbsVal Reason) → region ≡ Stack → x ≡ distance → n ≡ bytes_of size →
     Ok w ≡ ok_or (window_known Stack low high x n) Bounds → given ≡ stack_given known size w → given ≡ load_from known size region (window_known region low high distance (bytes_of size))
 given_by_stack known size region low high distance x n w given e f g h v =
@@ -109,3 +104,14 @@ signed_load_out known part base region offsets distance x n reason e f g h = rw 
     by_window : (o : Option Window) → Err reason ≡ ok_or o Bounds → Err reason ≡ signed_from known region o
     by_window None k = let same : reason ≡ Bounds = cc in rw same refl
     by_window (Some w) k = absurd cc
+
+-- ---- stores
+
+-- a pointer is stored, or why it is not
+pub pointer_left : (size : Size) (base value : AbsVal) (found other : Region × Offsets) (x distance : ℤ) (known new : Known) (r : Result (Unit {0}) Reason) →
+    Ok found ≡ pointer_in base → value ≡ Pointer other.0 other.1 → x ≡ distance →
+    outcome r new ≡ unless (pointer_refused size found.0 found.1 x other.1) (pointer_stored other.0 other.1.0 (window_known found.0 found.1.0 found.1.1 x 8) known) →
+    outcome r new ≡ unless (store_refused size base distance value) (stored size base distance value known)
+pointer_left size base value found other x distance known new r p v f h =
+    let pointer : base ≡ Pointer found.0 found.1 = pointer_found base found.0 found.1 p in
+    rw (pointer, v) (rw f at h)

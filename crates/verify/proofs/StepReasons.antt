@@ -53,20 +53,20 @@ store_left size base pointer value operand x offset a r new e g f h =
     (h ∙ (λ i. unless (unset_or (e i) (unset_or (g i) (store_refused size (e i) (f i) (g i)))) (stored size (e i) (f i) (g i) a.stack)))
 
 -- a number that the instruction holds
-pub number_left : (size : Size) (base known : AbsVal) (region : Region) (offsets : Offsets) (x offset n : ℤ) (a : AbsState) (r : Result (Unit {0}) Reason) (new : Known) → base ≡ known →
-    Ok (region, offsets) ≡ pointer_in base → x ≡ offset →
-    outcome r new ≡ unless (write_refused region (window_known region offsets.0 offsets.1 x (bytes_of size))) (number_stored (bytes_of size) (window_known region offsets.0 offsets.1 x (bytes_of size)) a.stack) →
-    outcome r (record a { stack = new }) ≡ unless (unset_or known (store_refused size known offset (immediate_known n))) (record a { stack = stored size known offset (immediate_known n) a.stack })
-number_left size base known region offsets x offset n a r new e p f h =
-    let pointer : known ≡ Pointer region offsets = sym e ∙ pointer_found base region offsets p in
-    rw (pointer) (lifted (λ (stack : Known). record a { stack = stack }) r (write_refused region (window_known region offsets.0 offsets.1 offset (bytes_of size))) new
-    (number_stored (bytes_of size) (window_known region offsets.0 offsets.1 offset (bytes_of size)) a.stack) (rw f at h))
+pub number_left : (size : Size) (base known value : AbsVal) (found : Region × Offsets) (x offset n : ℤ) (a : AbsState) (r : Result (Unit {0}) Reason) (new : Known) → base ≡ known → value ≡ immediate_known n →
+    Ok found ≡ pointer_in base → x ≡ offset →
+    outcome r new ≡ unless (write_refused found.0 (window_known found.0 found.1.0 found.1.1 x (bytes_of size))) (number_stored (bytes_of size) (window_known found.0 found.1.0 found.1.1 x (bytes_of size)) a.stack) →
+    outcome r (record a { stack = new }) ≡ unless (unset_or known (unset_or value (store_refused size known offset value))) (record a { stack = stored size known offset value a.stack })
+number_left size base known value found x offset n a r new e v p f h =
+    let pointer : known ≡ Pointer found.0 found.1 = sym e ∙ pointer_found base found.0 found.1 p in
+    rw (pointer, v) (lifted (λ (stack : Known). record a { stack = stack }) r (write_refused found.0 (window_known found.0 found.1.0 found.1.1 offset (bytes_of size))) new
+    (number_stored (bytes_of size) (window_known found.0 found.1.0 found.1.1 offset (bytes_of size)) a.stack) (rw f at h))
 
 -- where the base is a number
 pub base_refused : (size : Size) (base known : AbsVal) (offset n : ℤ) (left : AbsState) (reason : Reason) → base ≡ known → Err reason ≡ pointer_in base → None ≡ first_reason (unset_check base) →
     Err reason ≡ unless (unset_or known (store_refused size known offset (immediate_known n))) left
 base_refused size Unset known offset n left reason e p set = absurd cc
-base_refused size (Number numbers) known offset n left reason e p set = rw (← e) p
+base_refused size (Number numbers) known offset n left reason e p set = let same : reason ≡ PointerUse = cc in rw (← e) (ap Err same)
 base_refused size (Pointer region at) known offset n left reason e p set = absurd cc
 
 -- ---- loads
@@ -100,5 +100,7 @@ pub no_pointer : (size : Size) (base known : AbsVal) (dst : ℕ) (offset : ℤ) 
     None ≡ first_reason (write_checks dst) →
     Err reason ≡ unless (unset_or known (frame_or dst (result_err (load_given a.stack size known offset)))) (assigned a dst (result_ok (load_given a.stack size known offset)))
 no_pointer size Unset known dst offset a reason e p set free = absurd cc
-no_pointer size (Number numbers) known dst offset a reason e p set free = rw (← e) (p ∙ ap (λ (o : Option Reason). unless o a) (frame_passes dst (Some PointerUse) free))
+no_pointer size (Number numbers) known dst offset a reason e p set free =
+    let same : reason ≡ PointerUse = cc in
+    rw (← e) (ap Err same ∙ ap (λ (o : Option Reason). unless o a) (frame_passes dst (Some PointerUse) free))
 no_pointer size (Pointer region at) known dst offset a reason e p set free = absurd cc

@@ -13,8 +13,9 @@ returns-in-Register c =
     (c.at-value.ensures ∙ ap (λ (operand : Operand). operand_known registers operand) (sym c.in-Register.is))
     (to_z-of_z w16 c.args.offset c.ranges.offset) c.store_value.ensures
 
-pub returns-in-Immediate : goal.returns-in-Immediate
-returns-in-Immediate c =
+pub returns-in_ok-found-in-Immediate : goal.returns-in_ok-found-in-Immediate
+returns-in_ok-found-in-Immediate c =
     let registers = c.args.state.now.registers in
-    number_left c.args.size c.at-pointer.result.now (known_at registers c.args.base) c.in_ok-found.found.0 c.in_ok-found.found.1 _ c.args.offset c.in-Immediate.field-0
-    c.args.state.now c.store_number.result c.store_number.new.stack c.at-pointer.ensures c.in_ok-found.ensures (to_z-of_z w16 c.args.offset c.ranges.offset) c.store_number.ensures
+    number_left c.args.size c.at-pointer.result.now (known_at registers c.args.base) (operand_known registers c.args.source) c.in_ok-found-in-Immediate.found _ c.args.offset c.in-Immediate.field-0
+    c.args.state.now c.store_number.result c.store_number.new.stack c.at-pointer.ensures (ap (λ (operand : Operand). operand_known registers operand) c.in-Immediate.is)
+    c.in_ok-found-in-Immediate.ensures (to_z-of_z w16 c.args.offset c.ranges.offset) c.store_number.ensures
