@@ -62,13 +62,6 @@ number_left size base known value found x offset n a r new e v p f h =
     rw (pointer, v) (lifted (λ (stack : Known). record a { stack = stack }) r (write_refused found.0 (window_known found.0 found.1.0 found.1.1 offset (bytes_of size))) new
     (number_stored (bytes_of size) (window_known found.0 found.1.0 found.1.1 offset (bytes_of size)) a.stack) (rw f at h))
 
--- where the base is a number
-pub base_refused : (size : Size) (base known : AbsVal) (offset n : ℤ) (left : AbsState) (reason : Reason) → base ≡ known → Err reason ≡ pointer_in base → None ≡ first_reason (unset_check base) →
-    Err reason ≡ unless (unset_or known (store_refused size known offset (immediate_known n))) left
-base_refused size Unset known offset n left reason e p set = absurd cc
-base_refused size (Number numbers) known offset n left reason e p set = let same : reason ≡ PointerUse = cc in rw (← e) (ap Err same)
-base_refused size (Pointer region at) known offset n left reason e p set = absurd cc
-
 -- ---- loads
 
 -- r10 is not written
@@ -95,12 +88,3 @@ load_left size base known region offsets dst place x offset a r value e p f ther
     let pointer : known ≡ Pointer region offsets = sym e ∙ pointer_found base region offsets p in
     let given : Result AbsVal Reason = load_from a.stack size region (window_known region offsets.0 offsets.1 offset (bytes_of size)) in
     rw (pointer, there) (taken r value given dst a (rw f at h) ∙ ap (λ (o : Option Reason). unless o (assigned a dst (result_ok given))) (frame_passes dst (result_err given) set))
-
-pub no_pointer : (size : Size) (base known : AbsVal) (dst : ℕ) (offset : ℤ) (a : AbsState) (reason : Reason) → base ≡ known → Err reason ≡ pointer_in base → None ≡ first_reason (unset_check base) →
-    None ≡ first_reason (write_checks dst) →
-    Err reason ≡ unless (unset_or known (frame_or dst (result_err (load_given a.stack size known offset)))) (assigned a dst (result_ok (load_given a.stack size known offset)))
-no_pointer size Unset known dst offset a reason e p set free = absurd cc
-no_pointer size (Number numbers) known dst offset a reason e p set free =
-    let same : reason ≡ PointerUse = cc in
-    rw (← e) (ap Err same ∙ ap (λ (o : Option Reason). unless o a) (frame_passes dst (Some PointerUse) free))
-no_pointer size (Pointer region at) known dst offset a reason e p set free = absurd cc

@@ -1,7 +1,7 @@
 use Rattle.std.proofs.Common.{w16}
 use Rattle.std.proofs.lemmas.Int.{to_z-of_z}
 use Rattle.verify.specs.Registers.{known_at}
-use Rattle.verify.proofs.StepReasons.{load_left, no_pointer}
+use Rattle.verify.proofs.StepReasons.{load_left}
 use Rattle.verify.proofs.steps.load.Goals as goal
 
 pub returns : goal.returns
