@@ -4,6 +4,6 @@ use Rattle.outbox.proofs.relays.+push_rows.Goals as goal
 
 pub returns : goal.returns
 returns t c =
-    let same : length c.generals-place-end.result.now ≡ length c.args.hearing = ap length c.generals-place-end.ensures.value in
-    let all : length c.args.hearing ≤ c.loop-place.place = let end = c.loop-place-test.false in omega arith in
-    c.loop-place.invariant ∙ ap (λ rows. c.args.rows.now.items ++ rows) (under_all c.args.more c.loop-place.place c.args.hearing c.if-more-eq0.false all)
+    let same : length c.list.result.items ≡ length c.args.hearing = ap length c.list.ensures in
+    let all : length c.args.hearing ≤ c.loop-general.general-index = let end = c.loop-general-test.false in omega arith in
+    c.loop-general.invariant ∙ ap (λ rows. c.args.rows.now.items ++ rows) (under_all c.args.more c.loop-general.general-index c.args.hearing c.if-more-eq0.false all)
