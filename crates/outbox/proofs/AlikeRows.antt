@@ -1,5 +1,5 @@
 -- Rows in which all have one order, and rows that are set apart.
-use Rattle.std.proofs.Common.{ℕ, zero, suc, ◌+◌, ◌<◌, ◌≤◌, ◌≡◌, ◌≢◌, Bool, true, false, ◌||◌, List, [], ◌∷◌, ◌++◌, map, length, take, get_or, set, replicate, refl, sym, ap, ◌∙◌, arith, Some, None, Option, length-set}
+use Rattle.std.proofs.Common.{ℕ, zero, suc, ◌+◌, ◌<◌, ◌≡◌, ◌≢◌, Bool, true, false, ◌||◌, List, [], ◌∷◌, ◌++◌, map, length, get_or, set, replicate, refl, sym, ap, ◌∙◌, arith, Some, None, Option, length-set}
 use Rattle.std.specs.Prelude.{◌==◌, if◌then◌else◌}
 use Rattle.label.specs.Labels.{on}
 use Rattle.outbox.specs.Rows.{RowOrders, receivers_in, orders_in, order_in, alike_row, empty_row, all_put, row_of, rows_seen}
@@ -66,6 +66,9 @@ none_seen alike apart (row ∷ new) e none = absurd (omega arith)
 none_seen [] [] [] e none = refl
 none_seen (row ∷ alike) [] [] e none = absurd (omega arith)
 none_seen alike (row ∷ apart) [] e none = absurd (omega arith)
+
+pub apart_all : (alike lent apart new now : List RowOrders) → lent ≡ alike → new ≡ rows_seen lent apart → rows_seen alike apart ≡ now → new ≡ now
+apart_all alike lent apart new now same is seen = is ∙ (ap (λ (rows : List RowOrders). rows_seen rows apart) same ∙ seen)
 
 pub seen_alike : (alike apart now : List RowOrders) → length apart ≡ 0 → rows_seen alike apart ≡ now → alike ≡ now
 seen_alike alike [] now none seen = seen

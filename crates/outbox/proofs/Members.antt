@@ -1,5 +1,5 @@
 -- The numbers of a set of bits, ascending.
-use Rattle.std.proofs.Common.{ℕ, zero, suc, ◌+◌, ◌-◌, ◌*◌, ◌%◌, ◌^◌, ◌<◌, ◌≤◌, ◌≡◌, ◌≢◌, Bool, true, false, not, cond, ◌||◌, ◌&&◌, List, [], ◌∷◌, ◌++◌, length, refl, sym, ap, ◌∙◌, arith, inl, inr, zero-add, add-zero, add-one, length-append, bit_and}
+use Rattle.std.proofs.Common.{ℕ, zero, suc, ◌+◌, ◌-◌, ◌*◌, ◌%◌, ◌^◌, ◌<◌, ◌≤◌, ◌≡◌, Bool, true, false, not, cond, ◌||◌, ◌&&◌, List, [], ◌∷◌, ◌++◌, length, refl, sym, ap, ◌∙◌, arith, inl, inr, zero-add, add-zero, add-one, length-append, bit_and}
 use Rattle.std.specs.Prelude.{◌==◌, filter, nat_lt, count_ones}
 use Rattle.std.specs.Int.{bit_at}
 use Rattle.std.specs.List.{range_with_len}
@@ -177,6 +177,7 @@ left_out : ℕ → List ℕ
 left_out mask = filter (λ x. not (has_bit mask x)) (generals 32)
 
 all_free : (mask : ℕ) → IsFree mask (left_out mask)
+unfolding left_out
 all_free mask = record {
   bits = λ j l.
       let away : on (left_out mask) j ≡ not (has_bit mask j) = on_picked (λ x. not (has_bit mask x)) 32 j ∙ ap (λ (b : Bool). b && not (has_bit mask j)) (lt-ltb j 32 l) in
@@ -184,16 +185,16 @@ all_free mask = record {
 }
 
 pub members_counted : (mask : ℕ) → count_ones (bit_and mask (1 * 2 ^ 13 % 2 ^ 32 - 1)) ≡ length (members mask)
-unfolding members
+unfolding members left_out
 members_counted mask =
     counted mask 13 (left_out mask) (omega arith) (all_free mask)
     ∙ ap length (picked_alike (λ j. not (on (left_out mask) j)) (has_bit mask) 13 (λ n l. back n l))
   where
+    twice : (b : Bool) → not (not b) ≡ b
+    twice true = refl
+    twice false = refl
+
     back : (n : ℕ) → n < 13 → not (on (left_out mask) n) ≡ has_bit mask n
     back n l =
         let inside : nat_lt n 32 ≡ true = lt-ltb n 32 (omega arith) in
         ap not (on_picked (λ x. not (has_bit mask x)) 32 n ∙ ap (λ (b : Bool). b && not (has_bit mask n)) inside) ∙ twice (has_bit mask n)
-
-    twice : (b : Bool) → not (not b) ≡ b
-    twice true = refl
-    twice false = refl

@@ -1,5 +1,5 @@
 -- A label's row that is lent.
-use Rattle.std.specs.Prelude.{ℕ, List, [], Option, None, Some}
+use Rattle.std.specs.Prelude.{ℕ, [], Option, None, Some}
 use Rattle.outbox.specs.declared.orders.Orders.{Orders}
 use Rattle.outbox.specs.declared.orders.Orders.TheVariants.{Alike, Apart, Nobody}
 use Rattle.outbox.specs.Rows.{RowOrders, order_in}

@@ -66,6 +66,7 @@ fn push_rows(rows: &mut Vec<Alike>, hearing: Receivers, more: u32) -> Result<(),
         rows.push(Alike::new(hearing))?;
         return Ok(());
     }
+    hearing.recall();
     let list = hearing.list();
     for general in list.as_slice() {
         push_rows(rows, hearing.without(*general), more - 1)?;

@@ -1,5 +1,5 @@
 -- One order more.
-use Rattle.std.proofs.Common.{ℕ, ◌≡◌, ◌+◌, List, Option, None, [], ◌∷◌, ◌++◌, length, length-append, map, take, get_or, sym, ap, ◌∙◌, arith}
+use Rattle.std.proofs.Common.{ℕ, ◌≡◌, List, Option, None, [], ◌∷◌, ◌++◌, length, length-append, map, take, get_or, sym, ap, ◌∙◌, arith}
 use Rattle.std.proofs.lemmas.List.{take_all, take_more, map-append}
 use Rattle.outbox.proofs.AlikeRows.{row_told}
 use Rattle.outbox.proofs.row.told.Goals as goal

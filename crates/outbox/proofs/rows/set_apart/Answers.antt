@@ -1,5 +1,5 @@
 -- Row by row, or none.
-use Rattle.std.proofs.Common.{◌≡◌, ◌≢◌, ◌≤◌, ◌∙◌, length, refl, arith}
+use Rattle.std.proofs.Common.{rules, ◌≡◌, ◌≢◌, ◌<◌, ◌∙◌, length, refl, arith}
 use Rattle.std.proofs.lemmas.List.{take_all}
 use Rattle.outbox.specs.Rows.{rows_seen}
 use Rattle.outbox.proofs.AlikeRows.{seen_alike, seen_apart}
@@ -7,12 +7,13 @@ use Rattle.outbox.proofs.rows.set_apart.Goals as goal
 
 pub returns-then-not-is_empty-clause-rows : goal.returns-then-not-is_empty-clause-rows
 returns-then-not-is_empty-clause-rows c =
-    let some : length c.args.apart.now.items ≢ 0 = λ none. (let e = c.is_empty.ensures in let t = c.if-not-is_empty.true in omega arith) in
+    let many : 0 < length c.args.apart.now.items = search rules in
+    let some : length c.args.apart.now.items ≢ 0 = λ none. omega arith in
     seen_apart c.args.alike.now c.args.apart.now.items (rows_seen c.args.alike.now c.args.apart.now.items) some refl
 
 pub returns-clause-rows : goal.returns-clause-rows
 returns-clause-rows c =
-    let none : length c.args.apart.now.items ≡ 0 = let e = c.is_empty.ensures in let t = c.if-not-is_empty.false in omega arith in
+    let none : length c.args.apart.now.items ≡ 0 = search rules in
     c.loop-row.invariant.items
     ∙ (take_all c.loop-row.row-index c.args.alike.now (let h = c.loop-row-test.false in omega arith)
     ∙ seen_alike c.args.alike.now c.args.apart.now.items (rows_seen c.args.alike.now c.args.apart.now.items) none refl)

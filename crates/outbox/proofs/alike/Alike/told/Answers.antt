@@ -1,5 +1,5 @@
 -- One order more.
-use Rattle.std.proofs.Common.{ℕ, ◌≡◌, List, Option, [], ◌∷◌, ◌++◌, length, length-append, replicate, ap, ◌∙◌, arith}
+use Rattle.std.proofs.Common.{ℕ, ◌≡◌, List, Option, [], ◌∷◌, ◌++◌, length, length-append, ap, ◌∙◌, arith}
 use Rattle.outbox.proofs.AlikeRows.{one_more, told_seen}
 use Rattle.outbox.proofs.alike.Alike.told.Goals as goal
 

@@ -1,5 +1,5 @@
 -- The label's row, or none.
-use Rattle.std.proofs.Common.{◌<◌, ◌≤◌, [], ap, ◌∙◌, length, get_or, arith}
+use Rattle.std.proofs.Common.{◌<◌, ◌≤◌, [], ap, length, get_or, arith}
 use Rattle.outbox.specs.Contents.{entries_of, relay_of}
 use Rattle.outbox.specs.Orders.{orders_seen}
 use Rattle.outbox.specs.Rows.{RowOrders, order_in}

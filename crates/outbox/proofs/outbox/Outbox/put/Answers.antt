@@ -1,5 +1,5 @@
 -- The label's row, or none.
-use Rattle.std.proofs.Common.{ℕ, List, Option, ◌≡◌, ◌<◌, ◌≤◌, [], map, refl, sym, ap, subst, ◌∙◌, length, get_or, arith}
+use Rattle.std.proofs.Common.{List, ◌<◌, ◌≤◌, [], map, refl, sym, ap, subst, ◌∙◌, length, get_or, arith}
 use Rattle.semantics.specs.Outbox.{at_place}
 use Rattle.semantics.specs.Relay.{Relay}
 use Rattle.outbox.specs.Rows.{RowOrders, orders_in, put_in_row}

@@ -1,5 +1,5 @@
 -- All rows.
-use Rattle.std.proofs.Common.{◌≡◌, refl, length, rules}
+use Rattle.std.proofs.Common.{refl, length, rules}
 use Rattle.semantics.specs.Outbox.{at_receiver}
 use Rattle.outbox.specs.Contents.{entries_of, relay_of}
 use Rattle.outbox.proofs.Outcomes.{rows_few, sweep_stands, sweep_written, sweep_counted}

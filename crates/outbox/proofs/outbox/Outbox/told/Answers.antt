@@ -10,7 +10,7 @@ pub returns-then-rank-len : goal.returns-then-rank-len
 returns-then-rank-len c =
     let size : length (map orders_in c.self.inside.rows) ≡ length c.self.inside.rows = length-map c.self.inside.rows orders_in in
     let past : length (map orders_in c.self.inside.rows) ≤ c.args.rank = let n = c.len.ensures in omega arith in
-    c.new.ensures.items ∙ (sym (get_or_past (map orders_in c.self.inside.rows) c.args.rank [] past) ∙ ap (λ (k : Contents). get_or k.rows c.args.rank []) c.self.view_is)
+    c.new.ensures ∙ (sym (get_or_past (map orders_in c.self.inside.rows) c.args.rank [] past) ∙ ap (λ (k : Contents). get_or k.rows c.args.rank []) c.self.view_is)
 
 pub at-requires : goal.at-requires
 at-requires c = let n = c.len.ensures in omega arith
