@@ -61,12 +61,6 @@ seen_all [] [] [] e = refl
 seen_all (row ∷ alike) [] [] e = absurd (omega arith)
 seen_all alike (row ∷ apart) [] e = absurd (omega arith)
 
-pub none_seen : (alike apart new : List RowOrders) → length new ≡ length (rows_seen alike apart) → length new ≡ 0 → length alike ≡ 0
-none_seen alike apart (row ∷ new) e none = absurd (omega arith)
-none_seen [] [] [] e none = refl
-none_seen (row ∷ alike) [] [] e none = absurd (omega arith)
-none_seen alike (row ∷ apart) [] e none = absurd (omega arith)
-
 pub apart_all : (alike lent apart new now : List RowOrders) → lent ≡ alike → new ≡ rows_seen lent apart → rows_seen alike apart ≡ now → new ≡ now
 apart_all alike lent apart new now same is seen = is ∙ (ap (λ (rows : List RowOrders). rows_seen rows apart) same ∙ seen)
 
@@ -91,8 +85,3 @@ pub one_apart : (alike apart cur now : List RowOrders) (rank : ℕ) (row new : R
 one_apart alike apart cur now rank row new change seen same l at is =
     let long : length (set cur rank new) ≡ length (rows_seen alike apart) = length-set cur rank new ∙ ap length (same ∙ sym seen) in
     seen_all alike apart (set cur rank new) long ∙ one_set cur now rank row new change same l at is
-
-pub one_alike : (alike apart now : List RowOrders) (rank : ℕ) (row new : RowOrders) (change : RowOrders → RowOrders) → length apart ≡ 0 → rows_seen alike apart ≡ now → rank < length now → row ≡ get_or alike rank row → new ≡ change row
-    → rows_seen (set alike rank new) apart ≡ set now rank (change (get_or now rank []))
-one_alike alike [] now rank row new change none seen l at is = one_set alike now rank row new change seen l at is
-one_alike alike (x ∷ apart) now rank row new change none seen l at is = absurd (omega arith)

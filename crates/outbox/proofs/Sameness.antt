@@ -1,7 +1,7 @@
 -- Rows with the same orders.
-use Rattle.std.proofs.Common.{ℕ, suc, ◌<◌, ◌≤◌, ◌≡◌, List, [], ◌∷◌, map, length, get_or, refl, sym, ap, ◌∙◌, arith, None}
+use Rattle.std.proofs.Common.{ℕ, suc, ◌<◌, ◌≤◌, ◌≡◌, List, [], ◌∷◌, map, length, get_or, refl, sym, ap, ◌∙◌, arith}
 use Rattle.std.proofs.lemmas.List.{length-map}
-use Rattle.outbox.specs.Rows.{RowOrders, receivers_in, orders_in}
+use Rattle.outbox.specs.Rows.{RowOrders, orders_in}
 use Rattle.outbox.proofs.Looks.{get_orders}
 use Rattle.outbox.proofs.Single.{same_default}
 
@@ -15,17 +15,7 @@ same_lists d (x ∷ a) (y ∷ b) l h =
     let rest : a ≡ b = same_lists d a b (cc) (λ k less. h (suc k) (omega arith)) in
     cc
 
--- as many orders as receivers
-orders_long : (row : RowOrders) → length (orders_in row) ≡ length (receivers_in row)
-orders_long row = length-map row (λ p. p.1) ∙ sym (length-map row (λ p. p.0))
-
-pub rows_alike : (row other : RowOrders) (n m count : ℕ) → n ≡ length (receivers_in row) → m ≡ length (receivers_in other) → n ≡ m → n ≤ count → ((k : ℕ) → k < count → get_or (orders_in row) k None ≡ get_or (orders_in other) k None) → orders_in row ≡ orders_in other
-rows_alike row other n m count a b same all h =
-    let long : length (orders_in row) ≡ length (receivers_in row) = orders_long row in
-    let long_other : length (orders_in other) ≡ length (receivers_in other) = orders_long other in
-    let as_long : length (orders_in row) ≡ length (orders_in other) = omega arith in
-    same_lists None (orders_in row) (orders_in other) as_long (λ k less. h k (omega arith))
-
+-- each row as the other
 pub all_alike : (rows others : List RowOrders) (count : ℕ) → length rows ≡ length others → length rows ≤ count → ((k : ℕ) → k < count → get_or (map orders_in rows) k [] ≡ get_or (map orders_in others) k []) → map orders_in rows ≡ map orders_in others
 all_alike rows others count same all h =
     let long : length (map orders_in rows) ≡ length rows = length-map rows orders_in in

@@ -10,7 +10,7 @@ use crate::row::Row;
 use std::alloc::{AllocError, Global};
 use std::marker::Model;
 
-/// The rows of an outbox, by rank. As long as no receiver was put an order of his own, eight bytes stand for a label's
+/// The rows of an outbox, by rank. As long as no receiver was put an order of his own, twelve bytes stand for a label's
 /// row; the memory for all orders is there from the start, and is written to only then.
 #[derive(Drop)]
 pub(crate) struct Rows {
