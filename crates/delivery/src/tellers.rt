@@ -107,7 +107,7 @@ pub(crate) fn row_in<'a>(
 
 /// What a row, where there is one, tells a receiver.
 pub(crate) fn order_in_row(row: Option<Orders<'_>>, receiver: u8) -> Option<u32>
-    ensures { result ≡ order_of_row row receiver }
+    ensures { result ≡ order_of_row row.entry receiver }
 {
     match row {
         Some(row) => row.order(u32::from(receiver)),
