@@ -1,4 +1,4 @@
-use Rattle.std.proofs.Common.{rules, ◌≡◌, ℕ, ◌<◌, ◌++◌, ◌∷◌, List, Option, length, map, take, get_or, ap, sym, ◌∙◌, arith, append_assoc, None}
+use Rattle.std.proofs.Common.{rules, ℕ, ◌<◌, ◌++◌, ◌∷◌, List, Option, length, map, take, get_or, ap, sym, ◌∙◌, arith, append_assoc, None}
 use Rattle.trace.specs.Text.{further, place}
 use Rattle.trace.proofs.WrittenLemmas.{further_more}
 use Rattle.trace.proofs.composing.LineBuffer.add_orders.Goals as goal
