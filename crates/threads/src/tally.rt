@@ -1,12 +1,15 @@
 //! How far the generals have come in a round.
 ghost use Rattle.std.specs.Prelude.{◌≡◌, ◌↔◌, ◌⊎◌, ◌+◌, ◌≤◌, min, true, false, IsTrue, IfOk, OnOk, OnErr};
 
+use crate::camp::HandedOut;
 use std::sync::{Condvar, Mutex, Wait};
 
 /// That all generals have posted their letters of a round, as `begin_again` alone tells.
 #[derive(Drop)]
 pub(crate) struct AllPosted {
     letters: usize,
+    /// For which tasks.
+    out: HandedOut,
 }
 
 impl AllPosted {
@@ -51,11 +54,12 @@ impl Count {
     }
 
     /// Begins the next round, where none of so many has to be waited for: all have posted, unless one has failed.
-    fn begin_again(&mut self, generals: usize) -> Result<AllPosted, SomeoneFailed>
+    fn begin_again(&mut self, generals: usize, out: HandedOut) -> Result<AllPosted, SomeoneFailed>
         requires over { (generals ≤ self.old.posted) ⊎ (self.old.failed ≡ true) }
         ensures count { self.new ≡ record self.old { posted = 0 } }
         ensures nobody { OnOk result (self.old.failed ≡ false) }
         ensures all { IfOk result (λ all. (all.letters ≡ self.old.posted) × (generals ≤ all.letters)) }
+        ensures out { IfOk result (λ all. all.out ≡ out) }
         ensures failed { OnErr result (self.old.failed ≡ true) }
     {
         let letters = self.posted;
@@ -63,7 +67,7 @@ impl Count {
         if self.failed {
             Err(SomeoneFailed { letters })
         } else {
-            Ok(AllPosted { letters })
+            Ok(AllPosted { letters, out })
         }
     }
 
@@ -114,19 +118,24 @@ impl Tally {
         self.changed.notify_one();
     }
 
-    /// Waits until all generals have posted their letters of the round, and begins the next.
+    /// Waits until all generals have posted their letters for the tasks that they were given, and begins the next round.
     ///
     /// # Errors
     ///
     /// `SomeoneFailed` where one has failed.
-    pub(crate) fn all_posted<R: Wait>(&self, rt: &R) -> Result<AllPosted, SomeoneFailed>
-        ensures { IfOk result (λ all. self.now.generals ≤ all.letters) }
+    pub(crate) fn all_posted<R: Wait>(
+        &self,
+        rt: &R,
+        out: HandedOut,
+    ) -> Result<AllPosted, SomeoneFailed>
+        ensures all { IfOk result (λ all. self.now.generals ≤ all.letters) }
+        ensures out { IfOk result (λ all. all.out ≡ out) }
     {
         let mut count = self.changed.wait_while(
             rt,
             self.count.lock(rt),
             |count| !count.is_over(self.generals),
         );
-        count.begin_again(self.generals)
+        count.begin_again(self.generals, out)
     }
 }
