@@ -28,8 +28,8 @@ pub(crate) struct HandedOut {
     told: Snapshot<Told>,
 }
 
-/// That the generals were sent home, as `Camp::close` alone tells.
-#[derive(Drop)]
+/// That the generals are sent home, as `Camp::close` alone tells.
+#[derive(Clone, Copy)]
 pub(crate) struct Home(());
 
 /// What the generals share with one another and with the one who conducts the rounds: the gate and the board, the
@@ -127,10 +127,11 @@ impl<'a, G, J: Room> Camp<'a, G, J> {
 
     /// Closes all inboxes: the generals go home.
     pub(crate) fn close<R: Wait>(&self, rt: &R) -> Home {
+        let home = Home(());
         for inbox in &self.inboxes {
-            inbox.close(rt);
+            inbox.close(rt, home);
         }
-        Home(())
+        home
     }
 }
 

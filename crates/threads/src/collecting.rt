@@ -188,7 +188,7 @@ fn conducted<R: Wait, G, J: Room>(
     }
 }
 
-/// Waits for the threads of the generals, who were sent home: an answer of each, in a list that has room for them.
+/// Waits for the threads of the generals, who are sent home: an answer of each, in a list that has room for them.
 fn joined<R: Threads>(
     rt: &R,
     _home: Home,
