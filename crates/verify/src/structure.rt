@@ -47,6 +47,7 @@ fn target_fault(program: &Program, end: usize, unit: usize, distance: i32) -> Op
 }
 
 /// The fault of the instruction at a unit, if it is a jump.
+#[inline(always)]
 fn jump_fault(program: &Program, end: usize, unit: usize, insn: &Insn) -> Option<VerifyError>
     requires end { end ≡ length (slots_of program.now) }
     requires bound { end ≤ 4096 }
@@ -73,6 +74,7 @@ fn is_jump(insn: &Insn) -> bool
 }
 
 /// The fault of the instruction of an index, if it is a jump.
+#[inline(always)]
 fn fault_of(program: &Program, end: usize, index: usize) -> Option<VerifyError>
     requires end { end ≡ length (slots_of program.now) }
     requires bound { end ≤ 4096 }
