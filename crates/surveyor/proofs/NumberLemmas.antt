@@ -1,0 +1,74 @@
+-- A word tells two numbers in one way at most.
+use Rattle.std.proofs.Common.{ℕ, ◌+◌, ◌*◌, ◌≤◌, ◌<◌, ◌≡◌, ◌≢◌, inl, inr, List, [], ◌∷◌, ◌++◌, refl, sym, ap, ◌∙◌, Option, None, Some, codes, cond, true, false, Bool, nat_eq}
+use Rattle.text.specs.Number.{capped, decimal_of, digit_in, digits_on}
+use Rattle.text.specs.Options.{◌>>=◌}
+use Rattle.surveyor.specs.Numbers.{AreTold, IsNoSpan, IsSpread, IsTold}
+
+-- no full stop stands in it
+pub Dotless : List ℕ → Type 0
+Dotless [] = Unit {0}
+Dotless (c ∷ cs) = (c ≢ 46) × Dotless cs
+
+no_digit : (c d : ℕ) → digit_in 10 c ≡ Some d → c ≢ 46
+no_digit c d is dot = (let e : None ≡ Some d = sym (ap (λ k. digit_in 10 k) dot) ∙ is in absurd cc)
+
+one_digit : (n v c : ℕ) (cs : List ℕ) (o : Option ℕ) → ((m : ℕ) → digits_on 10 m cs ≡ Some v → Dotless cs) → digit_in 10 c ≡ o → (o >>= λ d. digits_on 10 (capped (n * 10 + d)) cs) ≡ Some v → Dotless (c ∷ cs)
+one_digit n v c cs None more digit told = absurd cc
+one_digit n v c cs (Some d) more digit told = (no_digit c d digit, more (capped (n * 10 + d)) told)
+
+digits_dotless : (cs : List ℕ) (n v : ℕ) → digits_on 10 n cs ≡ Some v → Dotless cs
+digits_dotless [] n v is = tt
+digits_dotless (c ∷ cs) n v is = one_digit n v c cs (digit_in 10 c) (λ m. digits_dotless cs m v) refl is
+
+no_zero : (b : Bool) (o : Option ℕ) (v : ℕ) → cond b None o ≡ Some v → o ≡ Some v
+no_zero true o v is = absurd cc
+no_zero false o v is = is
+
+pub number_dotless : (word : List ℕ) (v : ℕ) → decimal_of word ≡ Some v → Dotless word
+unfolding decimal_of
+number_dotless [] v is = absurd cc
+number_dotless (c ∷ []) v is = digits_dotless (c ∷ []) 0 v is
+number_dotless (c ∷ d ∷ cs) v is = digits_dotless (c ∷ d ∷ cs) 0 v (no_zero (nat_eq c 48) (digits_on 10 0 (c ∷ d ∷ cs)) v is)
+
+no_dot : (xs ys : List ℕ) → Dotless (xs ++ 46 ∷ ys) → ⊥
+no_dot [] ys (ne, h) = ne refl
+no_dot (x ∷ xs) ys (ne, h) = no_dot xs ys h
+
+head_is : (a b : ℕ) (xs ys : List ℕ) → a ∷ xs ≡ b ∷ ys → a ≡ b
+head_is a b xs ys e = cc
+
+tail_is : (a b : ℕ) (xs ys : List ℕ) → a ∷ xs ≡ b ∷ ys → xs ≡ ys
+tail_is a b xs ys e = cc
+
+-- there is one pair of full stops alone
+pub parts_once : (xs ys lo hi : List ℕ) → Dotless xs → Dotless ys → xs ++ 46 ∷ 46 ∷ ys ≡ lo ++ 46 ∷ 46 ∷ hi → (xs ≡ lo) × (ys ≡ hi)
+parts_once [] ys [] hi dx dy e = (refl, tail_is 46 46 ys hi (tail_is 46 46 (46 ∷ ys) (46 ∷ hi) e))
+parts_once [] ys (a ∷ []) hi dx dy e = absurd (no_dot [] hi (subst Dotless (tail_is 46 46 ys (46 ∷ hi) (tail_is 46 a (46 ∷ ys) (46 ∷ 46 ∷ hi) e)) dy))
+parts_once [] ys (a ∷ b ∷ lo) hi dx dy e = absurd (no_dot lo (46 ∷ hi) (subst Dotless (tail_is 46 b ys (lo ++ 46 ∷ 46 ∷ hi) (tail_is 46 a (46 ∷ ys) (b ∷ lo ++ 46 ∷ 46 ∷ hi) e)) dy))
+parts_once (x ∷ xs) ys [] hi (ne, dx) dy e = absurd (ne (head_is x 46 (xs ++ 46 ∷ 46 ∷ ys) (46 ∷ hi) e))
+parts_once (x ∷ xs) ys (a ∷ lo) hi (ne, dx) dy e =
+    let rest = parts_once xs ys lo hi dx dy (tail_is x a (xs ++ 46 ∷ 46 ∷ ys) (lo ++ 46 ∷ 46 ∷ hi) e) in
+    let first = head_is x a (xs ++ 46 ∷ 46 ∷ ys) (lo ++ 46 ∷ 46 ∷ hi) e in
+    ((λ i. first i ∷ rest.0 i), rest.1)
+
+both_told : (front back lo hi : List ℕ) (low high : ℕ) → AreTold front back low high → front ++ 46 ∷ 46 ∷ back ≡ lo ++ 46 ∷ 46 ∷ hi → AreTold lo hi low high
+both_told front back lo hi low high told e =
+    let parts = parts_once front back lo hi (number_dotless front low told.0) (number_dotless back high told.1) e in
+    (ap decimal_of (sym parts.0) ∙ told.0, ap decimal_of (sym parts.1) ∙ told.1)
+
+-- what a word tells whose parts are these
+pub parted : (word lo hi : List ℕ) (low high : ℕ) → word ≡ lo ++ (codes ".." ++ hi) → IsTold word low high → AreTold lo hi low high
+parted word lo hi low high whole (inl told) = absurd (no_dot lo (46 ∷ hi) (subst Dotless whole (number_dotless word low told.0)))
+parted word lo hi low high whole (inr told) = both_told told.front told.back lo hi low high told.told (sym (spread told) ∙ whole)
+  where
+    spread : (t : IsSpread word low high) → word ≡ t.front ++ 46 ∷ 46 ∷ t.back
+    spread t = t.whole ∙ two t.front t.back
+      where
+        two : (front back : List ℕ) → front ++ codes ".." ++ back ≡ front ++ 46 ∷ 46 ∷ back
+        two [] back = refl
+        two (x ∷ front) back = ap (λ (l : List ℕ). x ∷ l) (two front back)
+
+-- what a word tells that has none
+pub whole : (word : List ℕ) (low high : ℕ) → ((xs ys : List ℕ) → word ≢ xs ++ (codes ".." ++ ys)) → IsTold word low high → AreTold word word low high
+whole word low high none (inl told) = told
+whole word low high none (inr told) = absurd (none told.front told.back told.whole)
