@@ -3,7 +3,7 @@ ghost use Rattle.std.specs.Prelude.{◌≡◌, ◌≢◌, ◌++◌, ◌∷◌, [
 ghost use Rattle.letter.specs.Letters.{Letter as LetterSeen};
 ghost use Rattle.threads.specs.Answers.{failure_of, failure_as, IsFailureOf};
 ghost use Rattle.threads.specs.Duties.{IsDone};
-ghost use Rattle.threads.specs.Served.{AreAmong, told_in};
+ghost use Rattle.threads.specs.Served.{AreAmong, told_in, HavePassed};
 ghost use Rattle.threads.specs.declared.error.MusterError.TheVariants.{Unaccounted, Post as PostFull};
 
 use crate::error::MusterError;
@@ -92,6 +92,8 @@ impl<'a, G: Gate, J: Room> Resident<'a, G, J> {
         ensures closed { IfOk result.ended (λ r. r.0.general ≡ self.entry.inbox.now.general) }
         ensures poster { IfOk result.ended (λ r. r.1.poster.table ≡ post.now.table) }
         ensures his { IfOk result.ended (λ r. r.1.poster.general ≡ self.entry.general) }
+        ensures passed { IfOk result.ended
+            (λ r. (gate : G) × HavePassed (G.passed gate) [] (told_in r.1.poster.posted)) }
         ensures failed { IfErr result.ended (λ reported. IsFailureOf self.entry.general reported.failed.failure) }
     {
         let ended = match self.do_tasks(rt, alloc, post, poster, me) {
@@ -125,6 +127,7 @@ impl<'a, G: Gate, J: Room> Resident<'a, G, J> {
         ensures closed { IfOk result (λ r. r.0.general ≡ self.now.inbox.now.general) }
         ensures poster { IfOk result (λ r. r.1.poster.table ≡ post.now.table) }
         ensures his { IfOk result (λ r. r.1.poster.general ≡ self.now.general) }
+        ensures passed { IfOk result (λ r. (gate : G) × HavePassed (G.passed gate) [] (told_in r.1.poster.posted)) }
         ensures failed { IfErr result (IsFailureOf self.now.general) }
     {
         let mut server = Gated {
