@@ -118,7 +118,8 @@ impl Post {
         let mut pass = all_back(&queue, pass, posters);
         queue.learn_as::<Took>(&mut pass);
         let left = Vec::with_capacity(alloc, queue.capacity())?;
-        drain(rt, &queue, pass, left)
+        let (_, left) = drain(rt, &queue, pass, left)?;
+        Ok(left)
     }
 }
 
@@ -144,17 +145,18 @@ fn all_back(
     pass
 }
 
-/// Takes what is left.
+/// Takes what is left, in the order in which it comes.
 fn drain<R: Wait>(
     rt: &R,
     queue: &Queue,
     mut pass: Pass<Letter, Known>,
     mut left: Vec<Letter>,
-) -> Result<Vec<Letter>, AllocError>
+) -> Result<(Pass<Letter, Known>, Vec<Letter>), AllocError>
     requires pass { IsPassOf queue.now pass }
     requires takes { (view pass).takes ≡ true }
     requires none { left.items ≡ [] }
-    ensures { IfOk result (λ left. AreDelivered ((view pass).letters ++ left.items) (view pass).back) }
+    ensures order { IfOk result (λ r. (view r.0).letters ≡ (view pass).letters ++ r.1.items) }
+    ensures delivered { IfOk result (λ r. AreDelivered ((view pass).letters ++ r.1.items) (view pass).back) }
 {
     for _ in rt.forever() {
         match queue.pop_as::<Took, R>(rt, &mut pass) {
@@ -162,5 +164,5 @@ fn drain<R: Wait>(
             None => break,
         }
     }
-    Ok(left)
+    Ok((pass, left))
 }

@@ -3,3 +3,4 @@ mod LeastLemmas
 mod SumLemmas
 mod CoverLemmas
 mod BrokenLemmas
+mod NumberLemmas

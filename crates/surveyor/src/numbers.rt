@@ -1,6 +1,6 @@
 //! Numbers and spans of them, as words say them.
-ghost use Rattle.std.specs.Prelude.{◌≡◌, ◌≤◌, ◌<◌, ◌-◌, ◌^◌, IfSome, Some};
-ghost use Rattle.surveyor.specs.Numbers.{AreTold, IsTold};
+ghost use Rattle.std.specs.Prelude.{ℕ, ◌≡◌, ◌≤◌, ◌<◌, ◌-◌, ◌^◌, IfNone, IfSome, Some};
+ghost use Rattle.surveyor.specs.Numbers.{AreTold, IsNoSpan, IsTold};
 ghost use Rattle.text.specs.Number.{decimal_of};
 
 use survey::Span;
@@ -11,6 +11,7 @@ fn below(limit: u128, word: &str) -> Option<u64>
     requires { limit ≤ 2 ^ 64 }
     ensures inside { IfSome result (λ number. number < limit) }
     ensures told { IfSome result (λ number. decimal_of word.now ≡ Some number) }
+    ensures refused { IfNone result ((number : ℕ) → decimal_of word.now ≡ Some number → limit ≤ number) }
 {
     let number = decimal(word.as_bytes())?;
     if number < limit {
@@ -26,6 +27,7 @@ fn both(limit: u128, low: &str, high: &str) -> Option<(u64, u64)>
     ensures ordered { IfSome result (λ r. r.0 ≤ r.1) }
     ensures inside { IfSome result (λ r. r.1 < limit) }
     ensures told { IfSome result (λ r. AreTold low.now high.now r.0 r.1) }
+    ensures refused { IfNone result ((a b : ℕ) → AreTold low.now high.now a b → a ≤ b → b < limit → ⊥) }
 {
     let low = below(limit, low)?;
     let high = below(limit, high)?;
@@ -38,6 +40,7 @@ fn ends(limit: u128, word: &str) -> Option<(u64, u64)>
     ensures ordered { IfSome result (λ r. r.0 ≤ r.1) }
     ensures inside { IfSome result (λ r. r.1 < limit) }
     ensures told { IfSome result (λ r. IsTold word.now r.0 r.1) }
+    ensures refused { IfNone result (IsNoSpan limit word.now) }
 {
     match word.split_once("..") {
         Some((low, high)) => both(limit, low, high),
@@ -50,6 +53,7 @@ pub fn span(word: &str) -> Option<Span>
     ensures ordered { IfSome result (λ s. s.low ≤ s.high) }
     ensures inside { IfSome result (λ s. s.high < 14) }
     ensures told { IfSome result (λ s. IsTold word.now s.low s.high) }
+    ensures refused { IfNone result (IsNoSpan 14 word.now) }
 {
     let (low, high) = ends(14, word)?;
     Some(Span {
@@ -63,6 +67,9 @@ pub fn seeds(word: &str) -> Option<(u64, u64)>
     ensures ordered { IfSome result (λ r. r.0 ≤ r.1) }
     ensures inside { IfSome result (λ r. r.1 < 2 ^ 64 - 1) }
     ensures told { IfSome result (λ r. IsTold word.now r.0 r.1) }
+    ensures few { IfSome result (λ r. r.1 - r.0 < 10000000) }
+    ensures refused { IfNone result ((first last : ℕ) →
+        IsTold word.now first last → first ≤ last → last < 2 ^ 64 - 1 → last - first < 10000000 → ⊥) }
 {
     let (first, last) = ends(18_446_744_073_709_551_615, word)?;
     if last - first < 10_000_000 {
@@ -77,6 +84,8 @@ pub fn patience(word: &str) -> Option<u32>
     ensures least { IfSome result (λ steps. 1 ≤ steps) }
     ensures most { IfSome result (λ steps. steps ≤ 4096) }
     ensures told { IfSome result (λ steps. decimal_of word.now ≡ Some steps) }
+    ensures refused { IfNone result ((steps : ℕ) →
+        decimal_of word.now ≡ Some steps → 1 ≤ steps → steps ≤ 4096 → ⊥) }
 {
     let steps = below(4097, word)?;
     if steps == 0 { None } else { Some(steps as u32) }

@@ -1,5 +1,6 @@
 -- Accesses that are entered in turn.
 use Rattle.std.proofs.Common.{◌≡◌, ◌∙◌, ℕ, zero, suc, ◌+◌, ◌-◌, ◌<◌, ◌≤◌, List, [], ◌∷◌, ◌++◌, append-nil, append_assoc, sym, ap, subst, length, refl, arith}
+use Rattle.std.proofs.lemmas.List.{append_cancel_left}
 use Rattle.insn.specs.declared.insn.Insn.{Insn}
 use Rattle.label.specs.declared.shape.Shape.{Shape}
 use Rattle.semantics.specs.Relay.{Relay, oral}
@@ -16,7 +17,7 @@ use Rattle.semantics.specs.Reached.{Reached}
 use Rattle.machine.specs.Standing.{Standing, before}
 use Rattle.machine.specs.Advance.{IsAskOfRun, IsOfRun, Leads, Requests, Exits}
 use Rattle.trial.specs.Setting.{Setting, context_in}
-use Rattle.trial.specs.Trial.{ServesOne, accesses, accesses_in, accesses_on, entered}
+use Rattle.trial.specs.Trial.{EntersFirst, ServesOne, accesses, accesses_in, accesses_on, entered}
 use Rattle.trial.proofs.Owning.{one_more, serves_none}
 use Rattle.trial.proofs.Serving.{IsServing, leads_counts, served_from, serves_on}
 
@@ -120,6 +121,21 @@ served_more program code context shape limit a v t opened b d request words s on
       serving = serves_on program context (oral shape) opened.words limit a v t b d request words s.serving few asks kept is (run program context asked) answer left;
       own = one_more shape opened b d (record { general = shape.general; round = shape.round; request = request; reply = reply b.words request }) s.own began more refl refl;
       entered = enters_on program context shape limit a v t opened b d opened.words request words s.serving s.entered few asks is answer left more;
+    }
+
+-- where the next one is not entered, those so far are a beginning
+pub entered_first : (program : List Insn) (context : List ℕ) (shape : Shape) (opened b d : RecordedBoard) (a : Standing) → IsServed program context shape opened a b → d ≡ b
+    → EntersFirst (accesses_on opened.words program context (oral shape)) opened d
+entered_first program context shape opened b d a s same =
+    let rest = accesses program context (oral shape) (length program - a.state.steps) b.words a.state in
+    let own = s.own in
+    record {
+      opening = ap (λ (k : RecordedBoard). k.opening) same ∙ own.opening;
+      more = own.more;
+      ledger = ap (λ (k : RecordedBoard). k.ledger) same ∙ own.ledger;
+      rest = rest;
+      first = append_cancel_left opened.ledger (accesses_on opened.words program context (oral shape)) (own.more ++ rest)
+          (sym s.entered ∙ (ap (λ (l : List Access). l ++ rest) own.ledger ∙ append_assoc opened.ledger own.more rest));
     }
 
 -- at the exit none is left

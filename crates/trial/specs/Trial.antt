@@ -74,6 +74,14 @@ pub record ServesOne (shape : Shape) (old new : RecordedBoard) : Type 0 where
   pub ledger : new.ledger ≡ old.ledger ++ more
   pub own : All (λ a. (a.general ≡ shape.general) × (a.round ≡ shape.round)) more
 
+-- since it was the old one the board has entered a beginning of these accesses alone
+pub record EntersFirst (all : List Access) (old new : RecordedBoard) : Type 0 where
+  pub opening : new.opening ≡ old.opening
+  pub more : List Access
+  pub ledger : new.ledger ≡ old.ledger ++ more
+  pub rest : List Access
+  pub first : all ≡ more ++ rest
+
 -- it opened with these words, and has never served another
 pub record IsOfOne (shape : Shape) (words : List ℕ) (b : RecordedBoard) : Type 0 where
   pub opening : b.opening ≡ words

@@ -1,11 +1,11 @@
 //! One run of a program, with a board of its own.
-ghost use Rattle.std.specs.Prelude.{◌≡◌, ◌++◌, Some, IfOk};
+ghost use Rattle.std.specs.Prelude.{◌≡◌, ◌++◌, Some, IfOk, OnErr};
 ghost use Rattle.label.specs.Relay.{IsShape};
 ghost use Rattle.semantics.specs.Relay.{oral};
 ghost use Rattle.semantics.specs.State.{entry};
 ghost use Rattle.semantics.specs.Outbox.{empty_outbox};
 ghost use Rattle.machine.specs.Advance.{IsOfRun};
-ghost use Rattle.trial.specs.Trial.{accesses_in, accesses_on, trial_in, trial_on, IsOfOne, ServesOne};
+ghost use Rattle.trial.specs.Trial.{accesses_in, accesses_on, trial_in, trial_on, EntersFirst, IsOfOne, ServesOne};
 
 use crate::setting::Setting;
 use board::Board;
@@ -107,6 +107,8 @@ pub fn run_on(
     ensures ledger { IfOk result
         (λ r0. board.new.ledger ≡ board.old.ledger
         ++ accesses_on board.old.words verified.now context.now (oral shape)) }
+    ensures unserved { OnErr result
+        (EntersFirst (accesses_on board.old.words verified.now context.now (oral shape)) board.old board.new) }
 {
     // A sound program is over within as many steps as it has instructions.
     let limit = verified.program().len() as u32;

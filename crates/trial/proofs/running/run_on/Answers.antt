@@ -2,7 +2,8 @@
 use Rattle.std.proofs.Common.{◌≤◌, length, ap, arith}
 use Rattle.semantics.specs.Replies.{words_in}
 use Rattle.semantics.specs.Relay.{oral}
-use Rattle.trial.proofs.Entering.{entered_all, served_more}
+use Rattle.round.proofs.Served.{any_error}
+use Rattle.trial.proofs.Entering.{entered_all, entered_first, served_more}
 use Rattle.trial.proofs.Serving.{goes_further, served_to}
 use Rattle.trial.proofs.running.run_on.Goals as goal
 
@@ -51,3 +52,7 @@ returns-in-Exited-clause-ledger c =
     let few : c.len-limit.result ≤ length c.args.verified.now = (let l = c.len-limit.ensures.len in let p = ap length c.program.ensures.same in omega arith) in
     entered_all c.args.verified.now c.args.context.now c.args.shape _ c.len-limit.result c.in-Exited.r0 a c.run.new.self c.args.board.now c.loop-request.board s c.loop-request.invariant.entered few
     (c.in-Exited.ensures.advances s.of_run.answers s.of_run.reached)
+
+pub returns-in_err-reply-in-Asked-clause-unserved : goal.returns-in_err-reply-in-Asked-clause-unserved
+returns-in_err-reply-in-Asked-clause-unserved c =
+    any_error _ _ (entered_first c.args.verified.now c.args.context.now c.args.shape c.args.board.now c.loop-request.board c.apply.new.self c.loop-request.activation c.loop-request.invariant c.in_err-reply-in-Asked.ensures.unserved)
