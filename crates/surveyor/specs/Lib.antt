@@ -4,4 +4,5 @@ pub mod Words
 pub mod Printed
 pub mod Summed
 pub mod Broken
+pub mod Faults
 pub mod Statuses

@@ -34,4 +34,4 @@ returns g c =
     (λ (told : Appends now last (summary_text s.shape c.as_slice-told.result.now)).
     ends s c.args.family.now (g.O.Output.contents c.args.out.now) now last c.loop-next.next c.loop-next.all.items c.requires.shape c.loop-next.invariant done
     (subst (λ (l : List Finding). Appends now last (summary_text s.shape l)) c.as_slice-told.ensures.value told))
-    c.put_summary.ensures
+    c.put_summary.ensures.written
