@@ -1,9 +1,11 @@
 -- Words, and bits of them that stand beside one another.
-use Rattle.std.proofs.Common.{◌≡◌, ℕ, zero, suc, ◌+◌, ◌-◌, ◌*◌, ◌^◌, ◌<◌, ◌≤◌, ◌&&◌, refl, ap, ◌∙◌, arith, bit_and, bit_or, w64}
+use Rattle.std.proofs.Common.{◌≡◌, ℕ, zero, suc, ◌+◌, ◌-◌, ◌*◌, ◌%◌, ◌^◌, ◌<◌, ◌≤◌, ◌&&◌, refl, ap, ◌∙◌, arith, bit_and, bit_or, w64}
 use Rattle.std.specs.Prelude.{◌==◌, ◌↔◌, IsTrue, min, max, if◌then◌else◌}
 use Rattle.std.specs.Int.{bit_at, bit_not}
 use Rattle.std.proofs.lemmas.Bool.{eqb-true, eq-eqb}
-use Rattle.std.proofs.lemmas.Nat.{and_le_r}
+use Rattle.std.proofs.Math.Nat.{mod-eq_of_lt, mul_comm, mul-sub}
+use Rattle.std.proofs.Math.Pow.{pow-lt, pow_mono}
+use Rattle.std.proofs.lemmas.Nat.{and_le_r, pow-add, pow_pos}
 use Rattle.std.proofs.lemmas.Nat.Bits.{bit_at-lt, bit_at_or, bit_at_and, bit_at_not, bit_at_mask_inside, bit_at_mask_below, bit_at_mask_above, same_from_bits_below}
 
 -- ---- single bits
@@ -61,3 +63,17 @@ module _ (number place end i : ℕ) (inner : i < 64) where
 
   pub window_behind : end ≤ 64 * number + i → bit_at (window number place end) i ≡ 0
   window_behind le = bit_at_mask_above (place - 64 * number) (min (end - 64 * number) 64) i (omega arith)
+
+-- the same of fewer than 64 cells, as the code makes it: so many low bits, so far up
+pub window_moved : (size up : ℕ) → size < 64 → size + up ≤ 64 →
+    (1 * 2 ^ size % 18446744073709551616 - 1) * 2 ^ up % 18446744073709551616 ≡ 2 ^ (size + up) - 2 ^ up
+window_moved size up few fits =
+    let below : 2 ^ size < 2 ^ 64 = pow-lt few in
+    let same : 1 * 2 ^ size ≡ 2 ^ size = omega arith in
+    let one : 1 * 2 ^ size % 18446744073709551616 ≡ 2 ^ size = ap (λ (n : ℕ). n % 18446744073709551616) same ∙ mod-eq_of_lt below in
+    let product : (2 ^ size - 1) * 2 ^ up ≡ 2 ^ (size + up) - 2 ^ up =
+    mul_comm (2 ^ size - 1) (2 ^ up) ∙ (mul-sub (2 ^ up) (2 ^ size) 1
+    ∙ omega (arith, mul_comm (2 ^ up) (2 ^ size), pow-add 2 size up)) in
+    let small : 2 ^ (size + up) - 2 ^ up < 2 ^ 64 = omega (arith, pow_mono fits, pow_pos up) in
+    ap (λ (n : ℕ). (n - 1) * 2 ^ up % 18446744073709551616) one
+    ∙ (ap (λ (n : ℕ). n % 18446744073709551616) product ∙ mod-eq_of_lt small)

@@ -41,9 +41,9 @@ impl CellSet {
         ensures size { length self.new ≡ 512 }
         ensures window { IsSetTo value self.old self.new place end }
     {
-        let number = place / 64;
-        if mask::is_in_word(number, end) {
-            let mask = mask::in_word(number, place, end);
+        if mask::is_in_word(place, end) {
+            let mask = mask::in_word(place, end);
+            let number = place / 64;
             self.words[number] = mask::put(self.words[number], mask, value);
             return;
         }
@@ -70,9 +70,8 @@ impl CellSet {
         requires within { end ≤ 512 }
         ensures { IsTrue result ↔ ((k : ℕ) → place ≤ k → k < end → byte_at self.now k ≡ true) }
     {
-        let number = place / 64;
-        if mask::is_in_word(number, end) {
-            return mask::has(self.words[number], mask::in_word(number, place, end));
+        if mask::is_in_word(place, end) {
+            return mask::has(self.words[place / 64], mask::in_word(place, end));
         }
         self.has_across(place, end)
     }

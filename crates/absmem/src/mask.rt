@@ -27,22 +27,23 @@ pub(crate) fn window(number: usize, place: usize, end: usize) -> u64
     lowest(to) - lowest(from)
 }
 
-/// Whether a window ends in the word of this number, and not at its beginning.
-pub(crate) fn is_in_word(number: usize, end: usize) -> bool
-    requires { number ≤ 8 }
-    ensures { IsTrue result ↔ ((64 * number < end) × (end ≤ 64 * number + 64)) }
+/// Whether the cells of a window, 1 to 63, lie in one word.
+pub(crate) fn is_in_word(place: usize, end: usize) -> bool
+    requires { place ≤ end }
+    ensures { IsTrue result ↔ ((place < end) × (end < place + 64) × (end ≤ 64 * (place / 64) + 64)) }
 {
-    end > 64 * number && end - 64 * number <= 64
+    let size = end - place;
+    0 < size && size < 64 && place % 64 + size <= 64
 }
 
-/// The bits that stand for the cells of the window, of which each lies in the word of this number.
-pub(crate) fn in_word(number: usize, place: usize, end: usize) -> u64
+/// The bits that stand for the cells of the window, fewer than 64, of which each lies in the word of the first.
+pub(crate) fn in_word(place: usize, end: usize) -> u64
     requires ordered { place ≤ end }
-    requires begins { place / 64 ≡ number }
-    requires ends { end ≤ 64 * number + 64 }
-    ensures { result ≡ 2 ^ min (end - 64 * number) 64 - 2 ^ (place - 64 * number) }
+    requires few { end < place + 64 }
+    requires ends { end ≤ 64 * (place / 64) + 64 }
+    ensures { result ≡ 2 ^ min (end - 64 * (place / 64)) 64 - 2 ^ (place - 64 * (place / 64)) }
 {
-    lowest(end - 64 * number) - ((1 << (place % 64)) - 1)
+    ((1 << (end - place)) - 1) << (place % 64)
 }
 
 /// The word with the bits of the mask set or cleared, and its other bits.

@@ -14,7 +14,6 @@ use Rattle.letter.specs.Letters.{Letter}
 use Rattle.delivery.specs.Told.{told_now, heard_also, round_of}
 use Rattle.delivery.specs.Delivery.{IsPartly, FillsFromTo}
 use Rattle.letter.proofs.Lists.{some_same}
-use Rattle.std.proofs.lemmas.List.{nil_from_length}
 
 pub same_map : {B : Type 0} (F G : List ℕ → B) (ws : List (List ℕ)) → ((i : ℕ) (w : List ℕ) → slice_get ws i ≡ Some w → F w ≡ G w) → map F ws ≡ map G ws
 same_map F G [] h = refl

@@ -1,12 +1,14 @@
 -- Those off a label, one after another, each with its row.
-use Rattle.std.proofs.Common.{◌≡◌, ◌≢◌, ℕ, zero, suc, ◌+◌, ◌<◌, ◌≤◌, List, [], ◌∷◌, ◌++◌, length, take, get_or, set, Bool, true, false, not, cond, refl, sym, ap, ◌∙◌, Some, None, Option, arith, ⊎_elim, add-one, length-set, get_or-set_same, get_or-set_other}
+use Rattle.std.proofs.Common.{◌≡◌, ◌≢◌, ℕ, ◌+◌, ◌<◌, ◌≤◌, List, [], ◌∷◌, ◌++◌, length, take, get_or, set, Bool, true, false, not, cond, refl, sym, ap, ◌∙◌, Some, None, Option, arith, ⊎_elim, add-one, length-set, get_or-set_same, get_or-set_other}
 use Rattle.std.specs.Prelude.{slice_get, slice_index, slice_index_or, unwrap_or, ◌==◌}
-use Rattle.std.specs.Borrow.{Bor}
 use Rattle.std.proofs.lemmas.Bool.Decides.{eqb_tells}
 use Rattle.std.proofs.lemmas.List.{take_more_set, take-set}
 use Rattle.label.specs.Labels.{on}
 use Rattle.label.proofs.Ranks.{others-more_no, others-more_yes}
-use Rattle.outbox.specs.Rows.{RowOrders, order_in, order_of_row}
+use Rattle.outbox.specs.Orders.{order_of_row, orders_seen}
+use Rattle.outbox.specs.Rows.{order_in}
+use Rattle.outbox.specs.declared.orders.Orders.{Orders}
+use Rattle.outbox.specs.declared.orders.Orders.TheVariants.{Nobody}
 use Rattle.letter.specs.Letters.{Letter, letter_of}
 use Rattle.delivery.specs.Delivery.{AreTellers, order_in_letter, Tellers}
 use Rattle.delivery.specs.declared.front.Front.{Front}
@@ -14,9 +16,9 @@ use Rattle.letter.proofs.Lists.{some_same, get_set, get_unset}
 use Rattle.std.proofs.lemmas.Bool.{cases_Bool}
 
 -- the row of a letter, or of nobody where there is none
-pub or_nobody : (o : Option (Bor RowOrders)) (nobody : Bor RowOrders) (p : ℕ) → nobody.now ≡ [] → order_in p (unwrap_or o nobody).now ≡ order_of_row o p
-or_nobody None nobody p none = ap (order_in p) none
-or_nobody (Some r) nobody p none = refl
+pub or_nobody : (o : Option Orders) (p : ℕ) → order_in p (orders_seen (unwrap_or o Nobody)) ≡ order_of_row o p
+or_nobody None p = refl
+or_nobody (Some r) p = refl
 
 pub none_gathered : (row : List Letter) (n : ℕ) (f : Front) (t : Tellers) → t.count ≡ 0 → length t.generals ≡ 13 → length t.rows ≡ 13 → AreTellers row n f 0 t
 none_gathered row n f t none long wide = record {
@@ -28,7 +30,7 @@ none_gathered row n f t none long wide = record {
 }
 
 -- one more
-pub one_gathered : (row : List Letter) (n : ℕ) (f : Front) (x : ℕ) (t : Tellers) (o : Bor RowOrders) → AreTellers row n f x t → x < n → n ≤ 13 → slice_index_or f.on x false ≡ false → ((p : ℕ) → order_in p o.now ≡ order_in_letter (letter_of row x) (slice_index f.ranks x) p) →
+pub one_gathered : (row : List Letter) (n : ℕ) (f : Front) (x : ℕ) (t : Tellers) (o : Orders) → AreTellers row n f x t → x < n → n ≤ 13 → slice_index_or f.on x false ≡ false → ((p : ℕ) → order_in p (orders_seen o) ≡ order_in_letter (letter_of row x) (slice_index f.ranks x) p) →
     AreTellers row n f (x + 1) (record { count = t.count + 1; generals = set t.generals t.count x; rows = set t.rows t.count o })
 one_gathered row n f x t o h within small mark tells = record {
   long = length-set t.generals t.count x ∙ h.long;
@@ -41,7 +43,7 @@ one_gathered row n f x t o h within small mark tells = record {
       (λ (q : (i == t.count ≡ true) × (i ≡ t.count)).
       let here : o ≡ r = some_same (sym (get_set t.rows t.count o room') ∙ (ap (λ (k : ℕ). slice_get (set t.rows t.count o) k) (sym q.1) ∙ there)) in
       let name : get_or (set t.generals t.count x) i 0 ≡ x = ap (λ (k : ℕ). get_or (set t.generals t.count x) k 0) q.1 ∙ get_or-set_same t.generals t.count x 0 room in
-      ap (λ (x : Bor RowOrders). order_in p x.now) (sym here) ∙ rw name (tells p))
+      ap (λ (x : Orders). order_in p (orders_seen x)) (sym here) ∙ rw name (tells p))
       (λ (q : (i == t.count ≡ false) × (i ≢ t.count)).
       let here : slice_get t.rows i ≡ Some r = sym (get_unset t.rows t.count i o q.1) ∙ there in
       let name : get_or (set t.generals t.count x) i 0 ≡ get_or t.generals i 0 = get_or-set_other t.generals t.count i x 0 q.1 in
@@ -56,7 +58,7 @@ one_gathered row n f x t o h within small mark tells = record {
     room' = let a = h.few in let l = h.wide in omega arith
 
 -- nobody more: what is written behind them means nothing
-pub same_gathered : (row : List Letter) (n : ℕ) (f : Front) (x : ℕ) (t : Tellers) (o : Bor RowOrders) → AreTellers row n f x t → x < n → slice_index_or f.on x false ≡ true → AreTellers row n f (x + 1) (record { count = t.count; generals = set t.generals t.count x; rows = set t.rows t.count o })
+pub same_gathered : (row : List Letter) (n : ℕ) (f : Front) (x : ℕ) (t : Tellers) (o : Orders) → AreTellers row n f x t → x < n → slice_index_or f.on x false ≡ true → AreTellers row n f (x + 1) (record { count = t.count; generals = set t.generals t.count x; rows = set t.rows t.count o })
 same_gathered row n f x t o h within mark = record {
   long = length-set t.generals t.count x ∙ h.long;
   wide = length-set t.rows t.count o ∙ h.wide;
@@ -68,7 +70,7 @@ same_gathered row n f x t o h within mark = record {
 }
 
 -- the next, who is off the label or not
-pub next_gathered : (row : List Letter) (n : ℕ) (f : Front) (x count : ℕ) (t : Tellers) (o : Bor RowOrders) → AreTellers row n f x t → x < n → n ≤ 13 → count ≡ t.count + cond {A = ℕ} (not (slice_index_or f.on x false)) 1 0 → ((p : ℕ) → order_in p o.now ≡ order_in_letter (letter_of row x) (slice_index f.ranks x) p) →
+pub next_gathered : (row : List Letter) (n : ℕ) (f : Front) (x count : ℕ) (t : Tellers) (o : Orders) → AreTellers row n f x t → x < n → n ≤ 13 → count ≡ t.count + cond {A = ℕ} (not (slice_index_or f.on x false)) 1 0 → ((p : ℕ) → order_in p (orders_seen o) ≡ order_in_letter (letter_of row x) (slice_index f.ranks x) p) →
     AreTellers row n f (x + 1) (record { count = count; generals = set t.generals t.count x; rows = set t.rows t.count o })
 next_gathered row n f x count t o h within small e tells = ⊎_elim
     (λ (q : slice_index_or f.on x false ≡ true).

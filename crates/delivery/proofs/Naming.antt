@@ -1,11 +1,12 @@
 -- Who tells a tree's lieutenant, one after another.
-use Rattle.std.proofs.Common.{◌≡◌, ◌≢◌, ℕ, zero, suc, ◌+◌, ◌-◌, ◌*◌, ◌<◌, ◌≤◌, List, [], ◌∷◌, length, take, get_or, Option, Some, Bool, true, false, refl, sym, ap, ◌∙◌, ⊎_elim, arith}
+use Rattle.std.proofs.Common.{◌≡◌, ◌≢◌, ℕ, ◌+◌, ◌-◌, ◌*◌, ◌<◌, ◌≤◌, List, ◌∷◌, length, take, get_or, Option, Some, Bool, true, false, refl, sym, ap, ◌∙◌, ⊎_elim, arith}
 use Rattle.std.specs.Prelude.{slice_get, slice_index, nat_lt, if◌then◌else◌}
-use Rattle.std.specs.Borrow.{Bor}
 use Rattle.std.proofs.lemmas.Bool.{ltb-true, ltb-false, ne_eqb, cases_Bool}
 use Rattle.label.specs.Labels.{on, others, labels}
 use Rattle.outbox.specs.Receivers.{struck}
-use Rattle.outbox.specs.Rows.{RowOrders, order_in}
+use Rattle.outbox.specs.Orders.{orders_seen}
+use Rattle.outbox.specs.Rows.{order_in}
+use Rattle.outbox.specs.declared.orders.Orders.{Orders}
 use Rattle.outbox.proofs.RowLemmas.{others-few}
 use Rattle.tree.specs.LieutenantTree.{LieutenantTree, IsCampaign}
 use Rattle.letter.specs.Letters.{Letter}
@@ -23,7 +24,7 @@ pub record IsTeller (t : LieutenantTree) (w : List ℕ) (x place : ℕ) : Type 0
   pub stands : place ≡ length (others x (t.general ∷ w))
   pub few : place < 13
 
-module _ (t : LieutenantTree) (row : List Letter) (places : List ℕ) (k : ℕ) (f : Front) (walk : IsWalk t row places k f) (c : IsCampaign t) (own : ℕ) (rows : List (Bor RowOrders)) (a : AreTellersOf row t f own rows) where
+module _ (t : LieutenantTree) (row : List Letter) (places : List ℕ) (k : ℕ) (f : Front) (walk : IsWalk t row places k f) (c : IsCampaign t) (own : ℕ) (rows : List Orders) (a : AreTellersOf row t f own rows) where
   names_all : take a.count a.generals ≡ others t.generals walk.w
   names_all = a.all.names t.commander walk.w walk.front
 
@@ -70,7 +71,7 @@ module _ (t : LieutenantTree) (row : List Letter) (places : List ℕ) (k : ℕ) 
       omega arith
 
   -- what the one at a place tells, where the lieutenant is passed over
-  pub tells_past : f.size + 1 ≡ k → (first width place : ℕ) → width ≡ t.generals - k → first ≡ slice_index f.ranks t.general * width → place < width → (value : Option ℕ) → ((r : Bor RowOrders) → slice_get rows (lieutenant_at own place) ≡ Some r → value ≡ order_in t.general r.now) →
+  pub tells_past : f.size + 1 ≡ k → (first width place : ℕ) → width ≡ t.generals - k → first ≡ slice_index f.ranks t.general * width → place < width → (value : Option ℕ) → ((r : Orders) → slice_get rows (lieutenant_at own place) ≡ Some r → value ≡ order_in t.general (orders_seen r)) →
       (w : List ℕ) → slice_get (labels t.generals t.commander t.general k) (first + place) ≡ Some w → value ≡ told_now row w t.general
   tells_past last first width place ew ef lt value is w there = ⊎_elim
       (λ (q : nat_lt place own ≡ true).

@@ -1,12 +1,13 @@
 -- How code tells a round: its letters by their generals, and what was told so far (own).
 -- No claim rests on this: what letters tell, Told.antt says.
-use Rattle.std.specs.Borrow.{Bor}
-use Rattle.std.specs.Prelude.{ℕ, suc, ◌+◌, ◌-◌, ◌*◌, ◌<◌, ◌≤◌, ◌≡◌, true, false, nat_lt, if◌then◌else◌, List, length, take, slice_index, slice_index_or, slice_get, Option, None, Some}
+use Rattle.std.specs.Prelude.{ℕ, suc, ◌-◌, ◌*◌, ◌<◌, ◌≤◌, ◌≡◌, true, false, List, length, take, slice_index, slice_index_or, slice_get, Option, None, Some}
 use Rattle.label.specs.Labels.{on, others, labels}
 use Rattle.label.specs.Oral.{Messages}
 use Rattle.tree.specs.LieutenantTree.{LieutenantTree, IsCampaign, IsFilled, SameCampaign}
 use Rattle.outbox.specs.Contents.{order_at}
-use Rattle.outbox.specs.Rows.{RowOrders, order_in}
+use Rattle.outbox.specs.Orders.{orders_seen}
+use Rattle.outbox.specs.Rows.{order_in}
+use Rattle.outbox.specs.declared.orders.Orders.{Orders}
 use Rattle.letter.specs.Letters.{Letter, letter_of}
 use Rattle.delivery.specs.Told.{AreDue, told_now, heard_also, round_of}
 use Rattle.delivery.specs.Fronts.{IsFront, under}
@@ -94,7 +95,7 @@ pub record IsRoute (n : ℕ) (letters : List Letter) (indices : List ℕ) (k : �
 pub record Tellers : Type 0 where
   pub count : ℕ
   pub generals : List ℕ
-  pub rows : List (Bor RowOrders)
+  pub rows : List Orders
 
 -- of those who are off a label the ones below x, each with the label's row in his letter, or one that tells nobody
 -- where there is none
@@ -103,13 +104,13 @@ pub record AreTellers (letters : List Letter) (n : ℕ) (f : Front) (x : ℕ) (t
   pub wide : length t.rows ≡ 13
   pub few : t.count ≤ x
   pub names : (c : ℕ) (w : List ℕ) → IsFront n c w f → take t.count t.generals ≡ others x w
-  pub rows : (i p : ℕ) (r : Bor RowOrders) → i < t.count → slice_get t.rows i ≡ Some r →
-      order_in p r.now ≡ order_in_letter (letter_of letters (slice_index t.generals i))
+  pub rows : (i p : ℕ) (r : Orders) → i < t.count → slice_get t.rows i ≡ Some r →
+      order_in p (orders_seen r) ≡ order_in_letter (letter_of letters (slice_index t.generals i))
       (slice_index f.ranks (slice_index t.generals i)) p
 
 -- the rows of those who are off a label, of whom the tree's lieutenant is the one of that number
 pub record AreTellersOf (letters : List Letter) (t : LieutenantTree) (f : Front) (i : ℕ)
-    (rows : List (Bor RowOrders)) : Type 0 where
+    (rows : List Orders) : Type 0 where
   pub count : ℕ
   pub generals : List ℕ
   pub all : AreTellers letters t.generals f t.generals (record { count = count; generals = generals; rows = rows })

@@ -9,7 +9,7 @@ ghost use Rattle.delivery.specs.Delivery.{AreApart, AreDueIn, AreEach, AreLetter
 use crate::front::Front;
 use crate::tellers::{fill_children, list_tellers, order_in_row, row_in};
 use letter::Letter;
-use outbox::Row;
+use outbox::Orders;
 use std::slice;
 use tree::Tree;
 
@@ -51,10 +51,8 @@ pub(crate) fn deliver_to_all(letters: &[Letter], generals: u8, commander: u8, tr
     }
     let tree_indices = find_trees(trees);
     let front = Front::of(commander);
-    let nobody = Row::of_nobody();
     descend(
         letters,
-        &nobody,
         &indices,
         &tree_indices,
         size,
@@ -81,10 +79,8 @@ fn fill_first(letters: &[Letter], indices: &[usize; 13], commander: u8, trees: &
 }
 
 /// Fills in what the letters tell of all labels of the round's length that begin with this one, which is shorter.
-/// `nobody` stands for the rows of letters that are missing.
-fn descend<'a>(
-    letters: &'a [Letter],
-    nobody: &'a Row,
+fn descend(
+    letters: &[Letter],
     indices: &[usize; 13],
     tree_indices: &[usize; 13],
     size: u8,
@@ -92,22 +88,12 @@ fn descend<'a>(
     trees: &mut [Tree],
     front: &Front,
 )
-    requires nobody { nobody.now ≡ [] }
     requires route { IsRoute generals letters.now indices.now size front.now trees.old }
     requires table { AreTreeIndices trees.old tree_indices.now }
     ensures { AreEach (IsToldUnder letters.now size front.now) trees.old trees.new }
 {
     if front.size + 1 == size {
-        fill_all_children(
-            letters,
-            nobody,
-            indices,
-            tree_indices,
-            size,
-            generals,
-            trees,
-            front,
-        );
+        fill_all_children(letters, indices, tree_indices, size, generals, trees, front);
         return;
     }
     let mut below: u32 = 0;
@@ -116,7 +102,6 @@ fn descend<'a>(
             let longer = front.with(generals, general, below);
             descend(
                 letters,
-                nobody,
                 indices,
                 tree_indices,
                 size,
@@ -130,9 +115,8 @@ fn descend<'a>(
 }
 
 /// Fills in what the letters tell of the labels that have one general more than this one.
-fn fill_all_children<'a>(
-    letters: &'a [Letter],
-    nobody: &'a Row,
+fn fill_all_children(
+    letters: &[Letter],
     indices: &[usize; 13],
     tree_indices: &[usize; 13],
     size: u8,
@@ -140,14 +124,13 @@ fn fill_all_children<'a>(
     trees: &mut [Tree],
     front: &Front,
 )
-    requires nobody { nobody.now ≡ [] }
     requires route { IsRoute generals letters.now indices.now size front.now trees.old }
     requires table { AreTreeIndices trees.old tree_indices.now }
     requires last { front.now.size + 1 ≡ size }
     ensures { AreEach (IsToldUnder letters.now size front.now) trees.old trees.new }
 {
     let mut names = [0; 13];
-    let mut rows = [nobody; 13];
+    let mut rows = [Orders::Nobody; 13];
     let count = list_tellers(
         letters,
         indices,
@@ -155,7 +138,6 @@ fn fill_all_children<'a>(
         front,
         &mut names[..],
         &mut rows[..],
-        nobody,
     );
     for number in 0..count {
         let index = tree_indices[usize::from(names[number])];

@@ -1,18 +1,19 @@
 //! Who is off a label, and what the others' letters tell of it.
-ghost use Rattle.std.specs.Prelude.{◌≡◌, ◌<◌, ◌≤◌, ◌+◌, [], ℕ, List, Some, length, slice_get};
-ghost use Rattle.std.specs.Borrow.{Bor};
-ghost use Rattle.outbox.specs.Rows.{RowOrders, order_in, order_of_row};
+ghost use Rattle.std.specs.Prelude.{◌≡◌, ◌<◌, ◌≤◌, ◌+◌, ℕ, List, Some, length, slice_get};
+ghost use Rattle.outbox.specs.Orders.{order_of_row, orders_seen};
+ghost use Rattle.outbox.specs.Rows.{order_in};
+ghost use Rattle.outbox.specs.declared.orders.Orders.{Orders};
 ghost use Rattle.letter.specs.Letters.{Letter as LetterSeen, letter_of};
 ghost use Rattle.delivery.specs.Delivery.{AreLetterIndices, AreTellers, AreTellersOf, FillsFromTo, IsWalk, first_under, order_in_letter, past_under};
 ghost use Rattle.delivery.specs.Told.{lieutenant_at};
 
 use crate::front::Front;
 use letter::Letter;
-use outbox::Row;
+use outbox::Orders;
 use tree::Tree;
 
 /// Lists the generals off the front, ascending, of so many, and for each the row of the label in his letter, or
-/// `nobody` where there is none: how many they are. What stands behind them means nothing.
+/// one that nobody hears of where there is none: how many they are. What stands behind them means nothing.
 ///
 /// They are listed where the caller keeps them: to move them would take as long as to list them. Each general is
 /// written behind those before him, and stays there where he is off the front: who is changes from label to label, and
@@ -23,11 +24,9 @@ pub(crate) fn list_tellers<'a>(
     generals: u8,
     front: &Front,
     names: &mut [u8],
-    rows: &mut [&'a Row],
-    nobody: &'a Row,
+    rows: &mut [Orders<'a>],
 ) -> usize
     requires few { generals ≤ 13 }
-    requires nobody { nobody.now ≡ [] }
     requires on { length front.now.on ≡ 13 }
     requires ranks { length front.now.ranks ≡ 13 }
     requires long { length names.old ≡ 13 }
@@ -46,7 +45,9 @@ pub(crate) fn list_tellers<'a>(
     for general in 0..generals {
         let number = usize::from(general);
         names[count] = general;
-        rows[count] = row_in(letters, indices, general, front.ranks[number]).unwrap_or(nobody);
+        rows[count] = row_in(letters, indices, general, front.ranks[number]).unwrap_or(
+            Orders::Nobody,
+        );
         count += usize::from(!front.on[number]);
     }
     count
@@ -54,7 +55,13 @@ pub(crate) fn list_tellers<'a>(
 
 /// Fills in what the generals off a label tell the tree's lieutenant of it, each with himself behind it. The
 /// lieutenant is the one of number `own` among them.
-pub(crate) fn fill_children(own: usize, rows: &[&Row], size: u8, tree: &mut Tree, front: &Front)
+pub(crate) fn fill_children(
+    own: usize,
+    rows: &[Orders<'_>],
+    size: u8,
+    tree: &mut Tree,
+    front: &Front,
+)
     requires told { (letters : List LetterSeen) × (indices : List ℕ) × IsWalk tree.old letters indices size front.now
         × AreTellersOf letters tree.old front.now own rows.now }
     requires last { front.now.size + 1 ≡ size }
@@ -72,10 +79,10 @@ pub(crate) fn fill_children(own: usize, rows: &[&Row], size: u8, tree: &mut Tree
 }
 
 /// What the row at this index tells a receiver, where the row of number `own` is passed over.
-fn order_past(rows: &[&Row], own: usize, index: usize, receiver: u8) -> Option<u32>
+fn order_past(rows: &[Orders<'_>], own: usize, index: usize, receiver: u8) -> Option<u32>
     requires { index + 1 < length rows.now }
-    ensures { (row : Bor RowOrders) → slice_get rows.now (lieutenant_at own index) ≡ Some row →
-        result ≡ order_in receiver row.now }
+    ensures { (row : Orders) → slice_get rows.now (lieutenant_at own index) ≡ Some row →
+        result ≡ order_in receiver (orders_seen row) }
 {
     let number = if index < own { index } else { index + 1 };
     rows[number].order(u32::from(receiver))
@@ -87,7 +94,7 @@ pub(crate) fn row_in<'a>(
     indices: &[usize; 13],
     general: u8,
     rank: u32,
-) -> Option<&'a Row>
+) -> Option<Orders<'a>>
     requires { general < 13 }
     ensures { (receiver : ℕ) → AreLetterIndices letters.now indices.now →
         order_of_row result receiver ≡ order_in_letter (letter_of letters.now general) rank receiver }
@@ -99,7 +106,7 @@ pub(crate) fn row_in<'a>(
 }
 
 /// What a row, where there is one, tells a receiver.
-pub(crate) fn order_in_row(row: Option<&Row>, receiver: u8) -> Option<u32>
+pub(crate) fn order_in_row(row: Option<Orders<'_>>, receiver: u8) -> Option<u32>
     ensures { result ≡ order_of_row row.entry receiver }
 {
     match row {

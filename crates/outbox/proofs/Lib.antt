@@ -1,6 +1,7 @@
 pub mod RowLemmas
+pub mod Members
+pub mod AlikeRows
 pub mod Masking
-pub mod Hearing
 pub mod Walked
 pub mod Writing
 pub mod Whole
@@ -9,8 +10,7 @@ pub mod Outcomes
 pub mod Single
 pub mod Looks
 pub mod RowByRow
-pub mod Numbered
 pub mod LastOrders
-pub mod Alike
+pub mod Sameness
 pub mod Keeping
 pub mod Throughout

@@ -1,14 +1,12 @@
 -- One row: orders kept by the receiver's number.
-use Rattle.std.proofs.Common.{ℕ, zero, suc, ◌+◌, ◌<◌, ◌≤◌, ◌≡◌, ◌≢◌, Bool, true, false, not, cond, ◌||◌, List, [], ◌∷◌, ◌++◌, length, take, get_or, set, replicate, refl, sym, ap, ◌∙◌, arith, inl, inr, Some, None, Option, get_or-set_same, get_or-set_other, min, add-one}
+use Rattle.std.proofs.Common.{ℕ, zero, suc, ◌+◌, ◌<◌, ◌≤◌, ◌≡◌, ◌≢◌, Bool, true, false, not, cond, ◌||◌, List, [], ◌∷◌, length, take, get_or, set, refl, sym, ap, ◌∙◌, arith, inl, inr, Some, None, Option, get_or-set_same, get_or-set_other, min}
 use Rattle.std.specs.Prelude.{◌==◌, if◌then◌else◌}
 use Rattle.std.proofs.lemmas.Bool.{or_parts, or_cases, and_parts, not-true, eqb-true, false≢true}
 use Rattle.std.proofs.lemmas.Bool.Decides.{eqb_tells}
 use Rattle.label.specs.Labels.{on, is_distinct, others}
 use Rattle.label.specs.Oral.{AllBelow}
 use Rattle.label.proofs.Bounds.{others_length_more, on-get_or}
-use Rattle.label.proofs.Counting.{others-on, on-push}
-use Rattle.label.proofs.Ranks.{others-more_no, others-more_yes}
-use Rattle.outbox.specs.Rows.{RowOrders, receivers_in, row_of, empty_row, put_in_row, filled, order_in}
+use Rattle.outbox.specs.Rows.{RowOrders, receivers_in, row_of, put_in_row, filled, order_in}
 
 -- the receivers of a row
 pub names_in : (os : List (Option ℕ)) (ns : List ℕ) → receivers_in (row_of os ns) ≡ ns
@@ -112,30 +110,7 @@ filled_all (v ∷ vs) [] (suc m) e = absurd (omega arith)
 filled_all (v ∷ vs) (p ∷ row) zero e = absurd (omega arith)
 filled_all (v ∷ vs) (p ∷ row) (suc m) e = ap (λ xs. (p.0, Some v) ∷ xs) (filled_all vs row m (omega arith))
 
--- one more general
-pub others_more : (w : List ℕ) (s j : ℕ) → not (on w j || s == j) ≡ true → others (j + 1) (w ++ s ∷ []) ≡ others j (w ++ s ∷ []) ++ j ∷ []
-others_more w s j h = rw add-one (others-more_yes (w ++ s ∷ []) j (on-push w s j ∙ not-true (on w j || s == j) h))
-
-pub others_same : (w : List ℕ) (s j : ℕ) → not (on w j || s == j) ≡ false → others (j + 1) (w ++ s ∷ []) ≡ others j (w ++ s ∷ [])
-others_same w s j h = rw add-one (others-more_no (w ++ s ∷ []) j (on-push w s j ∙ not-false (on w j || s == j) h))
-  where
-    not-false : (b : Bool) → not b ≡ false → b ≡ true
-    not-false true e = refl
-    not-false false e = cc
-
--- a new row
-abbrev pub nothing : Option ℕ
-nothing = None
-
-pub none_at : (k n : ℕ) → get_or (replicate k nothing) n None ≡ None
-none_at zero n = refl
-none_at (suc k) zero = refl
-none_at (suc k) (suc n) = none_at k n
-
-pub row_empty : (ns : List ℕ) → row_of (replicate 13 None) ns ≡ empty_row ns
-row_empty [] = refl
-row_empty (n ∷ ns) = rw (none_at 13 n, row_empty ns) refl
-
+-- few, and below a bound
 pub others-few : (n : ℕ) (w : List ℕ) → length (others n w) ≤ n
 others-few zero w = omega arith
 others-few (suc n) w =
@@ -159,6 +134,3 @@ all_below m (x ∷ xs) h = (h x (first x), all_below m xs (λ j i. h j (later x 
 
     later : (x j : ℕ) → on xs j ≡ true → on (x ∷ xs) j ≡ true
     later x j i = elim (x == j) as (λ t. (t || on xs j) ≡ true) [ true ↦ refl | false ↦ i ]
-
-pub others-below : (n : ℕ) (w : List ℕ) → n ≤ 13 → AllBelow 13 (others n w)
-others-below n w l = all_below 13 (others n w) (λ j i. let h : j < n = (others-on n w j i).0 in omega arith)

@@ -1,7 +1,7 @@
 -- The labels of a length, walked from the commander's on.
-use Rattle.std.proofs.Common.{ℕ, zero, suc, ◌+◌, ◌-◌, ◌≤◌, ◌≡◌, ◌≢◌, Bool, true, false, not, cond, ◌||◌, ◌&&◌, List, [], ◌∷◌, ◌++◌, map, length, take, refl, sym, ap, ◌∙◌, arith}
+use Rattle.std.proofs.Common.{ℕ, zero, suc, ◌+◌, ◌-◌, ◌<◌, ◌≤◌, ◌≡◌, ◌≢◌, Bool, true, false, not, cond, ◌||◌, ◌&&◌, List, [], ◌∷◌, ◌++◌, map, length, take, get_or, append_assoc, refl, sym, ap, ◌∙◌, arith}
 use Rattle.std.specs.Prelude.{◌==◌, filter, flat_map}
-use Rattle.std.proofs.lemmas.List.{append-nil, take_all}
+use Rattle.std.proofs.lemmas.List.{append-nil, take_all, take_more}
 use Rattle.std.proofs.lemmas.List.Concat.{flat_map_single}
 use Rattle.std.proofs.lemmas.List.Folds.{flat_map-map}
 use Rattle.std.proofs.lemmas.Grind.{flat_map-append}
@@ -92,3 +92,15 @@ under_more (suc m) names ne = let e : suc m - 1 ≡ m = omega arith in ap (λ (k
 
 pub under_all : (more place : ℕ) (names : List ℕ) → more ≢ 0 → length names ≤ place → flat_map (λ j. rows_under (more - 1) (struck j names)) (take place names) ≡ rows_under more names
 under_all more place names ne l = ap (flat_map (λ j. rows_under (more - 1) (struck j names))) (take_all place names l) ∙ under_more more names ne
+
+pub one_under : (m i : ℕ) (names lent heard : List ℕ) (first before new : List RowOrders) → lent ≡ names → i < length lent → before ≡ first ++ flat_map (λ j. rows_under m (struck j names)) (take i names) → heard ≡ struck (get_or lent i 0) names → new ≡ before ++ rows_under m heard
+    → new ≡ first ++ flat_map (λ j. rows_under m (struck j names)) (take (i + 1) names)
+one_under m i names lent heard first before new same l so hears is =
+    let f : ℕ → List RowOrders = λ j. rows_under m (struck j names) in
+    let x : ℕ = get_or names i 0 in
+    let inside : i < length names = (let e = ap length same in omega arith) in
+    is
+    ∙ (ap (λ (rows : List RowOrders). rows ++ rows_under m heard) so
+    ∙ (ap (λ (ns : List ℕ). (first ++ flat_map f (take i names)) ++ rows_under m ns) (hears ∙ ap (λ (ns : List ℕ). struck (get_or ns i 0) names) same)
+    ∙ (append_assoc first (flat_map f (take i names)) (f x)
+    ∙ ap (λ (rows : List RowOrders). first ++ rows) (ap (λ (rows : List RowOrders). flat_map f (take i names) ++ rows) (sym (append-nil (f x))) ∙ (sym (flat_map-append f (take i names) (x ∷ [])) ∙ ap (flat_map f) (sym (take_more names i 0 inside)))))))

@@ -73,10 +73,6 @@ sets_one choice r v k goes b (n ∷ ns) d =
     (one_or_none (n == r) (on ns r) single)
 
 -- along a row as many as there are both
-get-bit : (vs : List ℕ) → cond {A = ℕ} (is_some (slice_get vs 0)) 1 0 ≡ min 1 (length vs)
-get-bit [] = refl
-get-bit (v ∷ vs) = omega arith
-
 pub sets_along : (choice : Choice) (k : ℕ) (all : List ℕ) → ((b n : ℕ) → choice (record { rank = k; number = b; receiver = n }) ≡ slice_get all b) → (b : ℕ) (ns : List ℕ) → sets choice (row_from k b ns) ≡ min (length ns) (length all - b)
 sets_along choice k all goes b [] = omega arith
 sets_along choice k all goes b (n ∷ ns) =

@@ -1,5 +1,6 @@
 pub mod Rows
 pub mod Masks
 pub mod Receivers
+pub mod Orders
 pub mod Contents
 pub mod Laws

@@ -1,10 +1,15 @@
 -- Numbers below 16 as a set of bits, and the orders kept beside such a set.
-use Rattle.std.specs.Prelude.{ℕ, ◌+◌, ◌==◌, Bool, if◌then◌else◌, List, [], ◌∷◌, Option, Some, None}
+use Rattle.std.specs.Prelude.{ℕ, ◌+◌, ◌==◌, Bool, if◌then◌else◌, List, [], ◌∷◌, filter, Option, Some, None}
 use Rattle.std.specs.Int.{bit_at}
+use Rattle.label.specs.Labels.{generals}
 
 -- the number is in the set
 abbrev pub has_bit : ℕ → ℕ → Bool
 has_bit mask n = bit_at mask n == 1
+
+-- the numbers below 13 in the set, ascending
+unfoldable pub members : ℕ → List ℕ
+members mask = filter (has_bit mask) (generals 13)
 
 -- the orders from a place on, each where the set has its place, and nothing elsewhere
 abbrev pub kept_from : ℕ → ℕ → List ℕ → List (Option ℕ)

@@ -1,6 +1,5 @@
 -- One label's row of an outbox.
 use Rattle.std.specs.Prelude.{ℕ, zero, suc, ◌≡◌, ◌+◌, ◌==◌, true, false, if◌then◌else◌, List, [], ◌∷◌, map, length, Option, Some, None, slice_index_or}
-use Rattle.std.specs.Borrow.{Bor}
 use Rattle.label.specs.declared.shape.Shape.{Shape}
 use Rattle.label.specs.Labels.{on, is_distinct}
 use Rattle.label.specs.Oral.{AllBelow}
@@ -73,7 +72,11 @@ abbrev pub order_in : ℕ → RowOrders → Option ℕ
 order_in receiver [] = None
 order_in receiver (p ∷ row) = if p.0 == receiver then p.1 else order_in receiver row
 
--- a receiver's order in a row, where there is one
-abbrev pub order_of_row : Option (Bor RowOrders) → ℕ → Option ℕ
-order_of_row None receiver = None
-order_of_row (Some row) receiver = order_in receiver row.now
+-- all have one order, or nothing
+abbrev pub alike_row : Option ℕ → List ℕ → RowOrders
+alike_row order names = map (λ n. (n, order)) names
+
+-- the rows that are alike, until they are set apart
+abbrev pub rows_seen : List RowOrders → List RowOrders → List RowOrders
+rows_seen alike [] = alike
+rows_seen alike (row ∷ rows) = row ∷ rows

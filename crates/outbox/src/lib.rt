@@ -1,8 +1,10 @@
 //! The orders that a general puts for a round, a place for each label relayed and each receiver.
 #![tactic(auto)]
 
+mod alike;
 mod laws;
 mod mask;
+mod orders;
 mod orders_by_number;
 mod outbox;
 mod receivers;
@@ -13,6 +15,6 @@ mod signing;
 
 pub use label::Shape;
 pub use laws::last_orders_are_given;
+pub use orders::Orders;
 pub use outbox::Outbox;
-pub use row::Row;
 pub use semantics::Entry;

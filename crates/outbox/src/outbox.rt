@@ -4,12 +4,13 @@ ghost use Rattle.semantics.specs.Relay.{oral, signed, relayed};
 ghost use Rattle.semantics.specs.Entries.{is_entered, entered};
 ghost use Rattle.semantics.specs.Outbox.{places, taken_value as value_in, empty_outbox, written, places_set, at_place, along_row, at_receiver, as_taken};
 ghost use Rattle.outbox.specs.Contents.{HasPlaces, order_at};
-ghost use Rattle.outbox.specs.Rows.{order_of_row};
+ghost use Rattle.outbox.specs.Orders.{order_of_row};
 
+use crate::orders::Orders;
 use crate::relays::rows_of;
-use crate::row::Row;
-use crate::rows::{copied, put_in_each, same_orders};
+use crate::rows::Rows;
 use crate::signing::{Signing, copied_signing, same_signing};
+use arrayvec::ArrayVec;
 use contexts::taken_value;
 use label::Shape;
 use semantics::Entry;
@@ -21,7 +22,7 @@ use std::marker::Model;
 #[derive(Drop)]
 pub struct Outbox {
     shape: Shape,
-    rows: Vec<Row>,
+    rows: Rows,
     /// What was entered where orders are signed; nothing where they are oral.
     signing: Option<Signing>,
 }
@@ -31,9 +32,9 @@ impl Model for Outbox {
 
     ghost Value = { Contents };
 
-    ghost view = { λ o. contents_of (relay_of o.shape o.signing) (entries_of o.signing) o.rows.items };
+    ghost view = { λ o. contents_of (relay_of o.shape o.signing) (entries_of o.signing) o.rows };
 
-    ghost invariant = { λ o. IsOutbox (relay_of o.shape o.signing) o.rows.items };
+    ghost invariant = { λ o. IsOutbox (relay_of o.shape o.signing) o.rows };
 }
 
 impl Outbox {
@@ -50,7 +51,7 @@ impl Outbox {
     {
         Ok(Outbox {
             shape,
-            rows: rows_of(alloc, shape)?,
+            rows: Rows::new(alloc, rows_of(alloc, shape)?)?,
             signing: None,
         })
     }
@@ -69,7 +70,7 @@ impl Outbox {
     {
         Ok(Outbox {
             shape,
-            rows: Vec::new(alloc),
+            rows: Rows::none(alloc),
             signing: Some(Signing::new(alloc, held)?),
         })
     }
@@ -132,7 +133,7 @@ impl Outbox {
         if rank >= self.rows.len() {
             return false;
         }
-        self.rows[rank].put(receiver, order)
+        self.rows.put(rank, receiver, order)
     }
 
     /// Puts orders for the receivers of a label, by its rank, ascending, as many as there are: how many were put.
@@ -146,7 +147,7 @@ impl Outbox {
         if rank >= self.rows.len() {
             return 0;
         }
-        self.rows[rank].fill(orders)
+        self.rows.fill(rank, orders)
     }
 
     /// Puts one order for a receiver at every label: how many were put.
@@ -156,7 +157,7 @@ impl Outbox {
         ensures rows { self.new.rows ≡ written self.old.relay (at_receiver receiver order) self.old.rows }
         ensures count { result ≡ places_set self.old.relay (at_receiver receiver order) }
     {
-        put_in_each(self.rows.as_mut_slice(), receiver, |_| order)
+        self.rows.put_in_each(receiver, |_| order)
     }
 
     /// Puts for a receiver, at every label, the value that the general took for it: how many were put.
@@ -167,9 +168,8 @@ impl Outbox {
         ensures rows { self.new.rows ≡ written self.old.relay (as_taken context.now receiver) self.old.rows }
         ensures count { result ≡ places_set self.old.relay (as_taken context.now receiver) }
     {
-        put_in_each(self.rows.as_mut_slice(), receiver, |rank| {
-            taken_value(context, rank)
-        })
+        self.rows
+            .put_in_each(receiver, |rank| taken_value(context, rank))
     }
 
     /// Puts for every receiver, at every label, the value that the general took for it.
@@ -182,7 +182,7 @@ impl Outbox {
     {
         let labels = self.rows.len();
         for rank in 0..labels {
-            self.rows[rank].put_all(taken_value(context, rank));
+            self.rows.put_all(rank, taken_value(context, rank));
         }
     }
 
@@ -194,11 +194,11 @@ impl Outbox {
         if rank >= self.rows.len() {
             return None;
         }
-        self.rows[rank].order(receiver)
+        self.rows.at(rank).order(receiver)
     }
 
     /// The orders for the label of that rank, where there is such a label.
-    pub fn orders(&self, rank: u32) -> Option<&Row>
+    pub fn orders(&self, rank: u32) -> Option<Orders<'_>>
         ensures none { IsNone result ↔ (length self.now.rows ≤ rank) }
         ensures orders { (receiver : ℕ) →
             order_of_row result receiver ≡ order_at self.now.relay self.now.rows rank receiver }
@@ -207,7 +207,7 @@ impl Outbox {
         if rank >= self.rows.len() {
             return None;
         }
-        Some(&self.rows[rank])
+        Some(self.rows.at(rank))
     }
 
     /// How many labels it has a row for: at most 11 * 10 * 9, those of 13 generals in round 5.
@@ -221,24 +221,24 @@ impl Outbox {
     }
 
     /// Who hears of the label of that rank, ascending.
-    pub fn receivers(&self, rank: u32) -> &[u8]
+    pub fn receivers(&self, rank: u32) -> ArrayVec<u8, 13>
         requires { rank < length self.now.rows }
-        ensures row { slice_get (map (receivers self.now.relay.shape) (relayed self.now.relay)) rank ≡ Some result.now }
-        ensures long { length result.now ≡ length (slice_index_or self.now.rows rank []) }
+        ensures row { slice_get (map (receivers self.now.relay.shape) (relayed self.now.relay)) rank
+            ≡ Some result.items }
+        ensures long { length result.items ≡ length (slice_index_or self.now.rows rank []) }
     {
-        self.rows[rank as usize].receivers()
+        self.rows.at(rank as usize).receivers()
     }
 
-    /// The order for the receiver of that number among those of the label of that rank, from 0, where there is such a
-    /// place and an order was put.
-    pub fn at(&self, rank: u32, number: usize) -> Option<u32>
-        ensures { result ≡ slice_index_or (slice_index_or self.now.rows rank []) number None }
+    /// The orders for the label of that rank, receiver by receiver, ascending; none where there is no such label.
+    pub fn told(&self, rank: u32) -> ArrayVec<Option<u32>, 13>
+        ensures { result.items ≡ slice_index_or self.now.rows rank [] }
     {
         let rank = rank as usize;
         if rank >= self.rows.len() {
-            return None;
+            return ArrayVec::new();
         }
-        self.rows[rank].at(number)
+        self.rows.at(rank).told()
     }
 
     /// The same outbox.
@@ -251,7 +251,7 @@ impl Outbox {
     {
         Ok(Outbox {
             shape: self.shape,
-            rows: copied(alloc, self.rows.as_slice())?,
+            rows: self.rows.copy(alloc)?,
             signing: copied_signing(alloc, &self.signing)?,
         })
     }
@@ -262,7 +262,7 @@ impl Outbox {
     {
         other.shape == self.shape
             && same_signing(&self.signing, &other.signing)
-            && same_orders(self.rows.as_slice(), other.rows.as_slice())
+            && self.rows.has_orders_of(&other.rows)
     }
 
     /// Whose relay it is, among which generals and in which round.

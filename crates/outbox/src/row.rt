@@ -1,10 +1,10 @@
-ghost use Rattle.std.specs.Prelude.{◌≡◌, ◌≤◌, ◌↔◌, [], map, length, true, None, IsTrue, slice_index_or, min};
-ghost use Rattle.label.specs.Labels.{on, is_distinct};
-ghost use Rattle.label.specs.Oral.{AllBelow};
-ghost use Rattle.outbox.specs.Rows.{empty_row, receivers_in, orders_in, put_in_row, all_put, filled, order_in, row_of, IsRow};
+ghost use Rattle.std.specs.Prelude.{◌≡◌, ◌≤◌, length, min};
+ghost use Rattle.label.specs.Labels.{on};
+ghost use Rattle.outbox.specs.Rows.{empty_row, orders_in, receivers_in, put_in_row, all_put, filled, order_in, row_of, IsRow};
 
 use crate::orders_by_number::OrdersByNumber;
 use crate::receivers::Receivers;
+use arrayvec::ArrayVec;
 use std::marker::Model;
 
 /// The places of one label: who may hear of it, ascending, each with the order put for him.
@@ -30,18 +30,11 @@ impl Row {
     pub(crate) fn new(receivers: Receivers) -> Row
         ensures { result ≡ empty_row receivers }
     {
-        let _some = receivers.generals();
+        receivers.recall();
         Row {
             receivers,
             orders: OrdersByNumber::nothing(),
         }
-    }
-
-    /// A row that nobody hears of: it stands for that of a letter that is missing.
-    pub fn of_nobody() -> Row
-        ensures { result ≡ [] }
-    {
-        Row::new(Receivers::none())
     }
 
     /// Puts the receiver's order: whether he is among the receivers.
@@ -68,28 +61,29 @@ impl Row {
         ensures row { self.new ≡ filled orders.now self.old }
         ensures count { result ≡ min (length self.old) (length orders.now) }
     {
-        fill(self.receivers.generals(), &mut self.orders, orders)
+        self.receivers.recall();
+        fill(self.receivers.list().as_slice(), &mut self.orders, orders)
     }
 
     /// The receiver's order, where there is one.
-    pub fn order(&self, receiver: u32) -> Option<u32>
+    pub(crate) fn order(&self, receiver: u32) -> Option<u32>
         ensures { result ≡ order_in receiver self.now }
     {
         self.orders.at(receiver)
     }
 
     /// Who hears of the label, ascending.
-    pub(crate) fn receivers(&self) -> &[u8]
-        ensures { result.now ≡ receivers_in self.now }
+    pub(crate) fn receivers(&self) -> ArrayVec<u8, 13>
+        ensures { result.items ≡ receivers_in self.now }
     {
-        self.receivers.generals()
+        self.receivers.list()
     }
 
-    /// The order for the receiver of that number among them, where there is one.
-    pub(crate) fn at(&self, number: usize) -> Option<u32>
-        ensures { result ≡ slice_index_or (orders_in self.now) number None }
+    /// The orders, receiver by receiver.
+    pub(crate) fn told(&self) -> ArrayVec<Option<u32>, 13>
+        ensures { result.items ≡ orders_in self.now }
     {
-        numbered(self.receivers.generals(), &self.orders, number)
+        told(self.receivers.list().as_slice(), &self.orders)
     }
 
     /// The same row.
@@ -101,32 +95,18 @@ impl Row {
             orders: self.orders.copy(),
         }
     }
-
-    /// Whether its orders are those of the other, place by place.
-    pub(crate) fn has_orders_of(&self, other: &Row) -> bool
-        ensures { IsTrue result ↔ (orders_in self.now ≡ orders_in other.now) }
-    {
-        let count = self.receivers().len();
-        if count != other.receivers().len() {
-            return false;
-        }
-        for number in 0..count {
-            if self.at(number) != other.at(number) {
-                return false;
-            }
-        }
-        true
-    }
 }
 
-/// The order for the receiver of that number, where there is one.
-fn numbered(receivers: &[u8], kept: &OrdersByNumber, number: usize) -> Option<u32>
-    ensures { result ≡ slice_index_or (orders_in (row_of kept.now receivers.now)) number None }
+/// The orders, by number, of the receivers.
+fn told(receivers: &[u8], kept: &OrdersByNumber) -> ArrayVec<Option<u32>, 13>
+    requires few { length receivers.now ≤ 13 }
+    ensures { result.items ≡ orders_in (row_of kept.now receivers.now) }
 {
-    if number >= receivers.len() {
-        return None;
+    let mut told = ArrayVec::new();
+    for receiver in receivers {
+        told.push(kept.at(u32::from(*receiver)));
     }
-    kept.at(u32::from(receivers[number]))
+    told
 }
 
 /// Puts orders, by number, for the first of the receivers: how many.

@@ -1,12 +1,179 @@
-//! All rows of an outbox: copied, compared, and an order put in each.
-ghost use Rattle.std.specs.Prelude.{ℕ, ◌≡◌, ◌<◌, ◌≤◌, ◌↔◌, IfOk, IsTrue, length, map};
-ghost use Rattle.outbox.specs.Rows.{orders_in, put_first, found_first, Tells};
+//! All rows of an outbox: looked at, copied, compared, and orders put in them.
+ghost use Rattle.std.specs.Prelude.{◌≡◌, ◌<◌, ◌≤◌, ◌↔◌, [], ℕ, IfOk, IsTrue, length, map, min, slice_index_or, slice_set, vec_capacity};
+ghost use Rattle.label.specs.Labels.{on};
+ghost use Rattle.outbox.specs.Orders.{orders_seen};
+ghost use Rattle.outbox.specs.Rows.{orders_in, receivers_in, put_in_row, all_put, filled, put_first, found_first, rows_seen, Tells};
 
+use crate::alike::Alike;
+use crate::orders::Orders;
 use crate::row::Row;
 use std::alloc::{AllocError, Global};
+use std::marker::Model;
+
+/// The rows of an outbox, by rank. As long as no receiver was put an order of his own, twelve bytes stand for a label's
+/// row; the memory for all orders is there from the start, and is written to only then.
+#[derive(Drop)]
+pub(crate) struct Rows {
+    /// The rows, as long as the others are empty.
+    alike: Vec<Alike>,
+    /// The rows once they are set apart.
+    apart: Vec<Row>,
+}
+
+impl Model for Rows {
+    ghost use Rattle.std.specs.Prelude.{◌≡◌, ◌≤◌, List, length, vec_capacity};
+    ghost use Rattle.outbox.specs.Rows.{RowOrders, rows_seen};
+
+    ghost Value = { List RowOrders };
+
+    ghost view = { λ r. rows_seen r.alike.items r.apart.items };
+
+    ghost invariant = { λ r. length r.apart.items ≡ 0 → length r.alike.items ≤ vec_capacity r.apart };
+}
+
+impl Rows {
+    /// These rows.
+    ///
+    /// # Errors
+    ///
+    /// `AllocError` where the memory for their orders is refused.
+    pub fn new(alloc: Global, alike: Vec<Alike>) -> Result<Rows, AllocError>
+        ensures { IfOk result (λ rows. rows ≡ alike.items) }
+    {
+        let apart = Vec::with_capacity(alloc, alike.len())?;
+        Ok(Rows { alike, apart })
+    }
+
+    /// No row.
+    pub fn none(alloc: Global) -> Rows
+        ensures { result ≡ [] }
+    {
+        Rows {
+            alike: Vec::new(alloc),
+            apart: Vec::new(alloc),
+        }
+    }
+
+    /// How many they are.
+    pub fn len(&self) -> usize
+        ensures { result ≡ length self.now }
+    {
+        if self.apart.is_empty() {
+            self.alike.len()
+        } else {
+            self.apart.len()
+        }
+    }
+
+    /// The row of that rank.
+    pub fn at(&self, rank: usize) -> Orders<'_>
+        requires { rank < length self.now }
+        ensures { orders_seen result ≡ slice_index_or self.now rank [] }
+    {
+        if self.apart.is_empty() {
+            Orders::Alike(&self.alike[rank])
+        } else {
+            Orders::Apart(&self.apart[rank])
+        }
+    }
+
+    /// Puts a receiver's order in the row of that rank: whether he is among its receivers.
+    pub fn put(&mut self, rank: usize, receiver: u32, order: u32) -> bool
+        requires { rank < length self.old }
+        ensures rows { self.new ≡ slice_set self.old rank
+            (put_in_row receiver order (slice_index_or self.old rank [])) }
+        ensures there { result ≡ on (receivers_in (slice_index_or self.old rank [])) receiver }
+    {
+        set_apart(self.alike.as_slice(), &mut self.apart);
+        self.apart[rank].put(receiver, order)
+    }
+
+    /// Puts orders in the row of that rank, for the first receivers, as many as there are: how many.
+    pub fn fill(&mut self, rank: usize, orders: &[u32]) -> u32
+        requires { rank < length self.old }
+        ensures rows { self.new ≡ slice_set self.old rank (filled orders.now (slice_index_or self.old rank [])) }
+        ensures count { result ≡ min (length (slice_index_or self.old rank [])) (length orders.now) }
+    {
+        set_apart(self.alike.as_slice(), &mut self.apart);
+        self.apart[rank].fill(orders)
+    }
+
+    /// Puts one order for all receivers of the row of that rank.
+    pub fn put_all(&mut self, rank: usize, order: u32)
+        requires { rank < length self.old }
+        ensures { self.new ≡ slice_set self.old rank (all_put order (slice_index_or self.old rank [])) }
+    {
+        if self.apart.is_empty() {
+            self.alike[rank].put_all(order);
+        } else {
+            self.apart[rank].put_all(order);
+        }
+    }
+
+    /// Puts a receiver's order in each row, told by its rank: how many were put.
+    pub fn put_in_each<F: Fn(usize) -> u32>(&mut self, receiver: u32, order: F) -> u32
+        requires few { length self.old ≤ 990 }
+        requires callable { (rank : ℕ) → rank < length self.old → F.pre order rank }
+        ensures rows { (f : ℕ → ℕ) → Tells (F.post order) f →
+            self.new ≡ put_first receiver f 0 (length self.old) self.old }
+        ensures count { result ≡ found_first receiver (length self.old) self.old }
+    {
+        set_apart(self.alike.as_slice(), &mut self.apart);
+        put_in_each(self.apart.as_mut_slice(), receiver, order)
+    }
+
+    /// The same rows.
+    ///
+    /// # Errors
+    ///
+    /// `AllocError` where the memory for them is refused.
+    pub fn copy(&self, alloc: Global) -> Result<Rows, AllocError>
+        ensures { IfOk result (λ copy. copy ≡ self.now) }
+    {
+        let alike = copied_alike(alloc, self.alike.as_slice())?;
+        if self.apart.is_empty() {
+            return Rows::new(alloc, alike);
+        }
+        Ok(Rows {
+            alike,
+            apart: copied(alloc, self.apart.as_slice())?,
+        })
+    }
+
+    /// Whether they have the same orders, place by place.
+    pub fn has_orders_of(&self, others: &Rows) -> bool
+        ensures { IsTrue result ↔ (map orders_in self.now ≡ map orders_in others.now) }
+    {
+        if self.len() != others.len() {
+            return false;
+        }
+        for rank in 0..self.len() {
+            let told = self.at(rank).told();
+            let other = others.at(rank).told();
+            if !are_same(told.as_slice(), other.as_slice()) {
+                return false;
+            }
+        }
+        true
+    }
+}
+
+/// Sets the rows apart, for which there is room, where they are not yet.
+fn set_apart(alike: &[Alike], apart: &mut Vec<Row>)
+    requires room { length apart.old.items ≡ 0 → length alike.now ≤ vec_capacity apart.old }
+    ensures rows { apart.new.items ≡ rows_seen alike.now apart.old.items }
+    ensures room { length apart.new.items ≡ 0 → length alike.now ≤ vec_capacity apart.new }
+{
+    if !apart.is_empty() {
+        return;
+    }
+    for row in alike {
+        apart.push_reserved(row.apart());
+    }
+}
 
 /// The same rows.
-pub(crate) fn copied(alloc: Global, rows: &[Row]) -> Result<Vec<Row>, AllocError>
+fn copied_alike(alloc: Global, rows: &[Alike]) -> Result<Vec<Alike>, AllocError>
     ensures { IfOk result (λ copy. copy.items ≡ rows.now) }
 {
     let mut copy = Vec::with_capacity(alloc, rows.len())?;
@@ -16,15 +183,26 @@ pub(crate) fn copied(alloc: Global, rows: &[Row]) -> Result<Vec<Row>, AllocError
     Ok(copy)
 }
 
-/// Whether the rows have the same orders, place by place.
-pub(crate) fn same_orders(rows: &[Row], others: &[Row]) -> bool
-    ensures { IsTrue result ↔ (map orders_in rows.now ≡ map orders_in others.now) }
+/// The same rows.
+fn copied(alloc: Global, rows: &[Row]) -> Result<Vec<Row>, AllocError>
+    ensures { IfOk result (λ copy. copy.items ≡ rows.now) }
 {
-    if rows.len() != others.len() {
+    let mut copy = Vec::with_capacity(alloc, rows.len())?;
+    for row in rows {
+        copy.push(row.copy())?;
+    }
+    Ok(copy)
+}
+
+/// Whether the orders are the same, one after the other.
+fn are_same(told: &[Option<u32>], others: &[Option<u32>]) -> bool
+    ensures { IsTrue result ↔ (told.now ≡ others.now) }
+{
+    if told.len() != others.len() {
         return false;
     }
-    for rank in 0..rows.len() {
-        if !rows[rank].has_orders_of(&others[rank]) {
+    for number in 0..told.len() {
+        if told[number] != others[number] {
             return false;
         }
     }
@@ -32,7 +210,7 @@ pub(crate) fn same_orders(rows: &[Row], others: &[Row]) -> bool
 }
 
 /// Puts a receiver's order in the row of each label, told by its rank: how many were put.
-pub(crate) fn put_in_each<F: Fn(usize) -> u32>(labels: &mut [Row], receiver: u32, order: F) -> u32
+fn put_in_each<F: Fn(usize) -> u32>(labels: &mut [Row], receiver: u32, order: F) -> u32
     requires few { length labels.old ≤ 990 }
     requires callable { (rank : ℕ) → rank < length labels.old → F.pre order rank }
     ensures rows { (f : ℕ → ℕ) → Tells (F.post order) f →

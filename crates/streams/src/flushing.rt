@@ -1,16 +1,19 @@
 ghost use Rattle.std.specs.Io.KnownBytes.{Keeps};
 
 use std::io::{self, Write};
+use std::marker::PhantomData;
 
-/// That a writer is to be flushed. It cannot be let go (it is no `Drop`): whoever has one flushes.
-pub(crate) struct Unflushed {
-    is_due: (),
+/// That a `W` is to be flushed. It cannot be let go (it is no `Drop`): whoever has one flushes a `W`.
+pub(crate) struct Unflushed<W> {
+    writer: PhantomData<W>,
 }
 
-impl Unflushed {
+impl<W: Write> Unflushed<W> {
     /// Of a writer to which a text was written.
-    pub(crate) fn new() -> Unflushed {
-        Unflushed { is_due: () }
+    pub(crate) fn new() -> Unflushed<W> {
+        Unflushed {
+            writer: PhantomData,
+        }
     }
 
     /// Flushes the writer.
@@ -18,10 +21,12 @@ impl Unflushed {
     /// # Errors
     ///
     /// A flush that failed.
-    pub(crate) fn flush<W: Write>(self, writer: &mut W) -> io::Result<()>
+    pub(crate) fn flush(self, writer: &mut W) -> io::Result<()>
         ensures { Keeps (W.contents writer.old) (W.contents writer.new) }
     {
-        let Unflushed { is_due: () } = self;
+        let Unflushed {
+            writer: PhantomData,
+        } = self;
         writer.flush()
     }
 }

@@ -28,7 +28,7 @@ pub trait Output {
         ensures begun { OnErr result (AppendsFront (contents self.old) (contents self.new) text.now) }
         ensures failed { OnErr result (fails self.old) };
 
-    /// Writes a line.
+    /// Writes a line. How much of it is written where that fails is not known.
     ///
     /// # Errors
     ///

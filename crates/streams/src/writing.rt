@@ -14,7 +14,7 @@ use std::io::{self, ErrorKind, Write};
 ///
 /// A write that failed, or that took nothing.
 #[tactic(auto, using(crate::proofs::WriteLemmas::writes))]
-pub(crate) fn write_whole<W: Write>(writer: &mut W, text: &[u8]) -> io::Result<Unflushed>
+pub(crate) fn write_whole<W: Write>(writer: &mut W, text: &[u8]) -> io::Result<Unflushed<W>>
     ensures whole { OnOk result (Appends (W.contents writer.old) (W.contents writer.new) text.now) }
     ensures begun { OnErr result (AppendsFront (W.contents writer.old) (W.contents writer.new) text.now) }
     ensures again { IfErr result (λ error. error_kind error ≢ ErrorKind.Interrupted) }

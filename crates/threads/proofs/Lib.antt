@@ -9,3 +9,4 @@ pub mod Concluded
 pub mod Among
 pub mod Numbered
 pub mod Popped
+pub mod Passing

@@ -9,6 +9,7 @@ use Rattle.threads.specs.declared.failure.Failure.TheVariants.{Memory as Refused
 use Rattle.threads.specs.declared.halt.Halt.{Halt}
 use Rattle.threads.specs.declared.halt.Halt.TheVariants.{Memory as RefusedToAll, Unstarted, Failed, Strayed}
 use Rattle.threads.specs.declared.resident.Answer.{Answer}
+use Rattle.threads.specs.declared.tally.Reported.{Reported}
 
 -- what the failure of a general is told as
 abbrev pub failure_as : Failure → MusterError
@@ -40,9 +41,9 @@ abbrev pub outcome_as : {T : Type 0} → Result T Halt → Result T MusterError
 outcome_as (Ok well) = Ok well
 outcome_as (Err halt) = Err (halt_as halt)
 
-abbrev pub error_of : {T : Type 0} → Result T Failure → Option MusterError
+abbrev pub error_of : {T : Type 0} → Result T Reported → Option MusterError
 error_of (Ok well) = None
-error_of (Err failure) = Some (failure_as failure)
+error_of (Err reported) = Some (failure_as reported.failed.failure)
 
 -- by what a general has failed, if he has
 abbrev pub failure_of : Answer → Option MusterError

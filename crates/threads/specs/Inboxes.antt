@@ -1,19 +1,14 @@
--- Whose an inbox is, what is taken out of it, and what is left (own).
-use Rattle.std.specs.Prelude.{ℕ, ◌≡◌, ◌<◌, List, length, slice_index_or, Option, Some, None}
+-- Whose an inbox is, and what is left in it (own).
+use Rattle.std.specs.Prelude.{ℕ, ◌≡◌, ◌<◌, List, length, slice_index_or}
 use Rattle.threads.specs.Duties.{Duty}
 use Rattle.threads.specs.declared.inbox.Inbox.{Inbox}
 use Rattle.threads.specs.declared.inbox.Phase.{Phase}
 use Rattle.threads.specs.declared.inbox.Phase.TheVariants.{Waiting, Given, Closed}
 
-abbrev pub task_in : Phase → Option Duty
-task_in (Given task) = Some task
-task_in Waiting = None
-task_in Closed = None
-
 abbrev pub left_in : Phase → Phase
 left_in (Given task) = Waiting
-left_in Waiting = Closed
-left_in Closed = Closed
+left_in Waiting = Waiting
+left_in (Closed home) = Closed home
 
 -- by general, ascending, each has an inbox of his own
 abbrev pub AreOwn : List Inbox → Type 0

@@ -1,16 +1,36 @@
 //! What the generals of a campaign share.
-ghost use Rattle.std.specs.Prelude.{◌≡◌, ℕ, ◌<◌, ◌≤◌, [], length, slice_index_or, IfOk};
+ghost use Rattle.std.specs.Prelude.{◌≡◌, ℕ, ◌<◌, ◌≤◌, ◌∷◌, [], List, length, slice_index_or, IfOk};
+ghost use Rattle.letter.specs.Letters.{Letter as LetterSeen};
+ghost use Rattle.delivery.specs.Told.{WasTold};
 ghost use Rattle.post.specs.Seen.{PosterSeen, poster_seen};
+ghost use Rattle.world.specs.World.{each};
+ghost use Rattle.threads.specs.Duties.{duty_of};
 ghost use Rattle.threads.specs.Inboxes.{AreByGeneral, AreOwn};
 
 use crate::inbox::Inbox;
 use crate::resident::Resident;
 use crate::tally::Tally;
 use crate::task::Task;
+use delivery::Told;
 use post::{Collector, Post, Poster};
+use roster::Scenario;
 use shared_board::{Room, SharedBoard};
 use std::alloc::{AllocError, Global};
+use std::snapshot::Snapshot;
 use std::sync::Wait;
+
+/// That the generals were given their tasks of a round, as `Camp::hand_out` alone tells.
+#[derive(Drop)]
+pub(crate) struct HandedOut {
+    /// Of which scenario.
+    scenario: Snapshot<Scenario>,
+    /// What the rounds before have told.
+    told: Snapshot<Told>,
+}
+
+/// That the generals are sent home, as `Camp::close` alone tells.
+#[derive(Clone, Copy)]
+pub(crate) struct Home(());
 
 /// What the generals share with one another and with the one who conducts the rounds: the gate and the board, the
 /// inboxes in which they are given their tasks, the post for their letters, and the tally of those who have posted.
@@ -69,6 +89,7 @@ impl<'a, G, J: Room> Camp<'a, G, J> {
         ensures general { result.general ≡ general }
         ensures gate { result.gate ≡ self.now.gate }
         ensures board { result.board ≡ self.now.board }
+        ensures tally { result.tally.now ≡ self.now.tally }
     {
         Resident {
             general: u32::from(general),
@@ -79,22 +100,38 @@ impl<'a, G, J: Room> Camp<'a, G, J> {
         }
     }
 
-    /// Puts each general's task into his inbox.
-    pub(crate) fn hand_out<R: Wait>(&self, rt: &R, mut tasks: Vec<Task>)
+    /// Puts each general's task into his inbox: what he is to do in the round to come, where this was told before.
+    pub(crate) fn hand_out<R: Wait>(
+        &self,
+        rt: &R,
+        scenario: &Scenario,
+        told: &Told,
+        mut tasks: Vec<Task>,
+    ) -> HandedOut
         requires few { length tasks.items ≤ length self.now.inboxes.items }
         requires own { AreOwn self.now.inboxes.items }
         requires tasks { AreByGeneral tasks.items }
+        requires duties { (before : List (List LetterSeen)) → WasTold scenario.now before told.now
+            → tasks.items ≡ each scenario.now.generals (λ g. duty_of scenario.now before g ∷ []) }
+        ensures scenario { result.scenario.value ≡ scenario.now }
+        ensures told { result.told.value ≡ told.now }
     {
         while let Some(task) = tasks.pop() {
             self.inboxes[tasks.len()].put(rt, task);
         }
+        HandedOut {
+            scenario: Snapshot::of(scenario),
+            told: Snapshot::of(told),
+        }
     }
 
     /// Closes all inboxes: the generals go home.
-    pub(crate) fn close<R: Wait>(&self, rt: &R) {
+    pub(crate) fn close<R: Wait>(&self, rt: &R) -> Home {
+        let home = Home(());
         for inbox in &self.inboxes {
-            inbox.close(rt);
+            inbox.close(rt, home);
         }
+        home
     }
 }
 

@@ -6,7 +6,7 @@ ghost use Rattle.threads.specs.Answers.{AreAscending};
 ghost use Rattle.threads.specs.Inboxes.{AreOwn};
 
 use crate::answers::{Refused, kept};
-use crate::camp::Camp;
+use crate::camp::{Camp, Home};
 use crate::conducting::conduct;
 use crate::ending::Ending;
 use crate::error::MusterError;
@@ -74,6 +74,7 @@ fn through_residents<R: Threads + Wait + Sync, G: Gate + Sync, J: Room + Send + 
     requires inboxes { length posters.items ≤ length camp.now.inboxes.items }
     requires generals { scenario.now.generals ≤ length camp.now.inboxes.items }
     requires own { AreOwn camp.now.inboxes.items }
+    requires tally { scenario.now.generals ≤ camp.now.tally.generals }
     requires collector { collector.table ≡ camp.now.post.table }
     ensures all { IfOk result (λ ending. ending.refused ≡ None → length ending.answers.items ≡ length posters.items) }
     ensures few { IfOk result (λ ending. length ending.answers.items ≤ 13) }
@@ -98,6 +99,7 @@ fn through_residents<R: Threads + Wait + Sync, G: Gate + Sync, J: Room + Send + 
             requires inboxes { length posters.items ≤ length camp.now.inboxes.items }
             requires generals { scenario.now.generals ≤ length camp.now.inboxes.items }
             requires own { AreOwn camp.now.inboxes.items }
+            requires tally { scenario.now.generals ≤ camp.now.tally.generals }
             requires collector { collector.table ≡ camp.now.post.table }
             ensures all { result.refused ≡ None → length result.answers.items ≡ length posters.entry.items }
             ensures few { length result.answers.items ≤ 13 }
@@ -116,6 +118,7 @@ fn through_residents<R: Threads + Wait + Sync, G: Gate + Sync, J: Room + Send + 
                     move || -> Answer
                         requires post { poster.table ≡ camp.now.post.table }
                         requires general { poster.general ≡ resident.general }
+                        requires tally { resident.tally.now ≡ camp.now.tally }
                         requires unposted { poster.posted ≡ [] }
                         requires unserved { me.made ≡ 0 }
                     { resident.stay(rt, alloc, &camp.post, poster, me) },
@@ -148,6 +151,7 @@ fn finish<R: Threads + Wait, G, J: Room>(
     requires collector { collector.table ≡ camp.now.post.table }
     requires inboxes { scenario.now.generals ≤ length camp.now.inboxes.items }
     requires own { AreOwn camp.now.inboxes.items }
+    requires tally { scenario.now.generals ≤ camp.now.tally.generals }
     requires fresh { answers.items ≡ [] }
     requires room { length handles.items ≤ vec_capacity answers }
     ensures refused { result.refused ≡ refused }
@@ -157,8 +161,8 @@ fn finish<R: Threads + Wait, G, J: Room>(
     ensures told { IfOk result.outcome (λ r. WasTold scenario.now r.0.items r.1) }
 {
     let outcome = conducted(rt, alloc, scenario, camp, collector, refused);
-    camp.close(rt);
-    let answers = by_general(joined(rt, handles, answers));
+    let home = camp.close(rt);
+    let answers = by_general(joined(rt, home, handles, answers));
     Ending::new(refused, answers, outcome)
 }
 
@@ -174,6 +178,7 @@ fn conducted<R: Wait, G, J: Room>(
     requires collector { collector.table ≡ camp.now.post.table }
     requires inboxes { scenario.now.generals ≤ length camp.now.inboxes.items }
     requires own { AreOwn camp.now.inboxes.items }
+    requires tally { scenario.now.generals ≤ camp.now.tally.generals }
     ensures rounds { IfOk result (λ r. length r.0.items ≡ suc scenario.now.bound) }
     ensures told { IfOk result (λ r. WasTold scenario.now r.0.items r.1) }
 {
@@ -183,9 +188,10 @@ fn conducted<R: Wait, G, J: Room>(
     }
 }
 
-/// Waits for the threads of the generals: an answer of each, in a list that has room for them.
+/// Waits for the threads of the generals, who are sent home: an answer of each, in a list that has room for them.
 fn joined<R: Threads>(
     rt: &R,
+    _home: Home,
     mut handles: Vec<JoinHandle<Answer>>,
     mut answers: Vec<Answer>,
 ) -> Vec<Answer>

@@ -37,6 +37,7 @@ pub(crate) fn conduct<R: Wait, G, J: Room>(
     requires collector { collector.table ≡ camp.now.post.table }
     requires inboxes { scenario.now.generals ≤ length camp.now.inboxes.items }
     requires own { AreOwn camp.now.inboxes.items }
+    requires tally { scenario.now.generals ≤ camp.now.tally.generals }
     ensures rounds { IfOk result (λ r. length r.0.items ≡ suc scenario.now.bound) }
     ensures told { IfOk result (λ r. WasTold scenario.now r.0.items r.1) }
     ensures started { IfErr result (λ halt. halt_as halt ≢ Spawn) }
@@ -46,8 +47,9 @@ pub(crate) fn conduct<R: Wait, G, J: Room>(
     let mut told = Told::new(alloc, scenario)?;
     let mut rows = Vec::with_capacity(alloc, usize::from(rounds))?;
     for _round in 0..rounds {
-        camp.hand_out(rt, tasks(alloc, scenario, &told)?);
-        let all = camp.tally.all_posted(rt)?;
+        let tasks = tasks(alloc, scenario, &told)?;
+        let out = camp.hand_out(rt, scenario, &told, tasks);
+        let all = camp.tally.all_posted(rt, out)?;
         let (again, letters) = receive(rt, alloc, scenario, &told, &camp.post, collector, all)?;
         collector = again;
         told.deliver(scenario, letters.as_slice());

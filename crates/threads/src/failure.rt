@@ -1,24 +1,17 @@
 //! By what a general has failed.
-ghost use Rattle.std.specs.Prelude.{◌≡◌, ◌≢◌, Ok, IsErrAnd, MatchResult};
+ghost use Rattle.std.specs.Prelude.{◌≡◌, ◌≢◌, MatchResult};
 ghost use Rattle.threads.specs.Answers.{failure_as};
 ghost use Rattle.threads.specs.declared.failure.Failure.TheVariants.{Memory, Foreign as NotHis, Returned as Back};
 
 use crate::error::MusterError;
+use crate::tally::Returned;
 use crate::task::Task;
-use letter::Letter;
 use std::alloc::AllocError;
 
 /// That a general was given another's task, as `is_his` alone tells.
 #[derive(Clone, Copy)]
 pub(crate) struct Foreign {
     /// Who was given it.
-    general: u32,
-}
-
-/// That a letter came back from the post, which had no room for it, as `posted` alone tells.
-#[derive(Clone, Copy)]
-pub(crate) struct Returned {
-    /// Whose it is.
     general: u32,
 }
 
@@ -79,18 +72,5 @@ pub(crate) fn is_his(task: &Task, general: u32) -> Result<(), Foreign>
         Ok(())
     } else {
         Err(Foreign { general })
-    }
-}
-
-/// Where a letter was not posted, it came back.
-pub(crate) fn posted(sent: Result<(), Letter>) -> Result<(), Returned>
-    ensures { MatchResult sent (λ _. result ≡ Ok tt) (λ back. IsErrAnd result (λ r. r.general ≡ back.general)) }
-{
-    match sent {
-        Ok(()) => Ok(()),
-        Err(back) => {
-            let general = back.general;
-            Err(Returned { general })
-        }
     }
 }

@@ -1,10 +1,10 @@
 //! What holds a general before each access.
-ghost use Rattle.std.specs.Prelude.{◌≡◌, ◌++◌, ◌∷◌, ◌<◌, [], true, vec_len, vec_capacity, IfOk, OnErr};
+ghost use Rattle.std.specs.Prelude.{◌≡◌, ℕ, ◌++◌, ◌∷◌, ◌<◌, ◌==◌, [], true, count_by, vec_len, vec_capacity, IfOk, OnErr};
 ghost use Rattle.semantics.specs.Call.{fits};
 ghost use Rattle.semantics.specs.Replies.{words_in};
 ghost use Rattle.board.specs.Requests.{IsReplyTo};
 ghost use Rattle.shared_board.specs.Witnessed.{Serves};
-ghost use Rattle.threads.specs.Served.{AreAmong, told_in};
+ghost use Rattle.threads.specs.Served.{AreAmong, told_in, HavePassed};
 
 use crate::made::{Made, Passed};
 use board::Access;
@@ -18,9 +18,13 @@ use std::sync::Wait;
 
 /// Holds generals before their accesses, for as long as it likes.
 pub trait Gate {
+    /// What holds of a general, a round and a number once that access has passed: what a gate says of it, if anything.
+    ghost passed: { Self → ℕ → ℕ → ℕ → Type 0 } = { λ _ _ _ _. Unit {0} };
+
     /// Called before each taking of the board's lock, and never while the lock is held; `nth` is counted from 0 for
     /// that general and round.
-    fn before_access(&self, general: u32, round: u32, nth: u64);
+    fn before_access(&self, general: u32, round: u32, nth: u64)
+        ensures { passed self.now general round nth };
 }
 
 /// Lets everyone pass at once.
@@ -32,9 +36,9 @@ impl Gate for Open {
 }
 
 /// The board as one general meets it: first the gate, then the lock, for one access. It is seen as what was served to
-/// him, and the beginning of the board's history that he has met.
+/// him, each access behind the gate, and the beginning of the board's history that he has met.
 #[derive(Drop)]
-pub(crate) struct Gated<'a, R, G, J: Room> {
+pub(crate) struct Gated<'a, R, G: Gate, J: Room> {
     pub(crate) rt: &'a R,
     pub(crate) gate: &'a G,
     pub(crate) board: &'a SharedBoard<J>,
@@ -44,18 +48,19 @@ pub(crate) struct Gated<'a, R, G, J: Room> {
     pub(crate) made: Made,
 }
 
-impl<'a, R, G, J: Room> Model for Gated<'a, R, G, J> {
-    ghost use Rattle.std.specs.Prelude.{◌≡◌, length};
-    ghost use Rattle.threads.specs.Served.{AreAmong, Served};
+impl<'a, R, G: Gate, J: Room> Model for Gated<'a, R, G, J> {
+    ghost use Rattle.std.specs.Prelude.{◌≡◌, [], length};
+    ghost use Rattle.threads.specs.Served.{AreAmong, HavePassed, Served};
 
     ghost Value = { Served };
 
     ghost view = { λ g. record { made = g.made.accesses.items; seen = g.me.seen } };
 
-    ghost invariant = { λ g. AreAmong g.made.accesses.items g.me.seen × (g.me.made ≡ length g.made.accesses.items) };
+    ghost invariant = { λ g. AreAmong g.made.accesses.items g.me.seen × (g.me.made ≡ length g.made.accesses.items)
+        × HavePassed (G.passed g.gate.now) [] g.made.accesses.items };
 }
 
-impl<'a, R, G, J: Room> Gated<'a, R, G, J> {
+impl<'a, R, G: Gate, J: Room> Gated<'a, R, G, J> {
     /// Does nothing. What was served to him stands in the history that he has met.
     pub(crate) fn recall(&self)
         ensures { AreAmong self.now.made self.now.seen }
@@ -66,7 +71,8 @@ impl<'a, R, G, J: Room> Gated<'a, R, G, J> {
     /// Ends with a poster, with which just the accesses that were served to him are told.
     pub(crate) fn settle(self, poster: Poster) -> Settled
         requires { self.made ≡ told_in poster.posted }
-        ensures { result.poster ≡ poster }
+        ensures poster { result.poster ≡ poster }
+        ensures passed { (gate : G) × HavePassed (G.passed gate) [] (told_in poster.posted) }
     {
         Settled { poster }
     }
@@ -117,6 +123,8 @@ fn serve_entered<R: Wait, G: Gate, J: Room>(
       request = request;
       reply = words_in r;
     } ∷ []) }
+    ensures passed { IfOk result (λ _.
+        G.passed gate.now general round (count_by (λ a. a.round == round) made.old.accesses.items)) }
     ensures unserved { OnErr result (me.new ≡ me.old) }
     ensures unentered { OnErr result (made.new.accesses.items ≡ made.old.accesses.items) }
 {

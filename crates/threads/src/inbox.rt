@@ -1,8 +1,9 @@
 //! Where a general waits for his next task.
-ghost use Rattle.std.specs.Prelude.{◌≡◌, IfErr};
-ghost use Rattle.threads.specs.Inboxes.{task_in, left_in};
-ghost use Rattle.threads.specs.declared.inbox.Phase.TheVariants.{Given, Closed as NoMore};
+ghost use Rattle.std.specs.Prelude.{◌≡◌, ◌≢◌, IfErr, MatchResult};
+ghost use Rattle.threads.specs.Inboxes.{left_in};
+ghost use Rattle.threads.specs.declared.inbox.Phase.TheVariants.{Waiting as NoneYet, Given, Closed as NoMore};
 
+use crate::camp::Home;
 use crate::task::Task;
 use std::mem;
 use std::sync::{Condvar, Mutex, Wait};
@@ -14,8 +15,8 @@ enum Phase {
     Waiting,
     /// A task that is to be done.
     Given(Task),
-    /// No task any more.
-    Closed,
+    /// No task any more, since its general is sent home.
+    Closed(Home),
 }
 
 impl Phase {
@@ -27,32 +28,40 @@ impl Phase {
     }
 
     /// No task will come any more.
-    fn close(&mut self)
-        ensures { self.new ≡ NoMore }
+    fn close(&mut self, home: Home)
+        ensures { self.new ≡ NoMore home }
     {
-        *self = Phase::Closed;
+        *self = Phase::Closed(home);
     }
 
-    /// Takes the task that is given; where none is, the inbox is closed.
-    fn take(&mut self) -> Option<Task>
-        ensures task { result ≡ task_in self.old }
+    /// Takes the task that is given, where one has not to be waited for.
+    ///
+    /// # Errors
+    ///
+    /// `Home` where no task will come any more.
+    fn take(&mut self) -> Result<Task, Home>
+        requires waited { self.old ≢ NoneYet }
+        ensures task { MatchResult result (λ task. self.old ≡ Given task) (λ home. self.old ≡ NoMore home) }
         ensures left { self.new ≡ left_in self.old }
     {
         match mem::replace(self, Phase::Waiting) {
-            Phase::Given(task) => Some(task),
-            Phase::Waiting | Phase::Closed => {
-                self.close();
-                None
+            Phase::Given(task) => Ok(task),
+            Phase::Closed(home) => {
+                self.close(home);
+                Err(home)
             }
+            Phase::Waiting => unreachable!(),
         }
     }
 }
 
-/// That an inbox is closed: only the inbox tells so.
+/// That an inbox was found closed, which only the camp does: the inbox alone tells so.
 #[derive(Drop)]
 pub(crate) struct Closed {
     /// Whose it is.
     general: u32,
+    /// That he is sent home.
+    home: Home,
 }
 
 /// An inbox of one general, in which he is given his tasks, one at a time.
@@ -85,8 +94,8 @@ impl Inbox {
     }
 
     /// Closes the inbox for good: who waits at it goes home.
-    pub(crate) fn close<R: Wait>(&self, rt: &R) {
-        self.phase.lock(rt).close();
+    pub(crate) fn close<R: Wait>(&self, rt: &R, home: Home) {
+        self.phase.lock(rt).close(home);
         self.changed.notify_one();
     }
 
@@ -101,11 +110,12 @@ impl Inbox {
         let mut phase = self.changed.wait_while(rt, self.phase.lock(rt), |phase| {
             matches!(phase, Phase::Waiting)
         });
-        let Some(task) = phase.take() else {
-            return Err(Closed {
+        match phase.take() {
+            Ok(task) => Ok(task),
+            Err(home) => Err(Closed {
                 general: self.general,
-            });
-        };
-        Ok(task)
+                home,
+            }),
+        }
     }
 }

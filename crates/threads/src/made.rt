@@ -21,6 +21,7 @@ impl Passed {
         ensures general { result.general ≡ general }
         ensures round { result.round ≡ round }
         ensures nth { result.nth ≡ nth }
+        ensures passed { G.passed gate.now general round nth }
     {
         gate.before_access(general, round, nth);
         Passed {

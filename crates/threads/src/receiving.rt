@@ -1,5 +1,5 @@
 //! The letters of a round, taken out of the post.
-ghost use Rattle.std.specs.Prelude.{◌≡◌, ◌≢◌, ◌++◌, suc, List, IsPermutation, IsSortedByKey, IfOk, OnOk, IfErr};
+ghost use Rattle.std.specs.Prelude.{◌≡◌, ◌≢◌, ◌≤◌, ◌++◌, suc, List, IsPermutation, IsSortedByKey, IfOk, OnOk, IfErr};
 ghost use Rattle.std.specs.Ordering.{nat_cmp};
 ghost use Rattle.letter.specs.Letters.{Letter as LetterSeen};
 ghost use Rattle.letter.specs.Origin.{AreLettersOf};
@@ -22,7 +22,7 @@ pub(crate) struct Strayed {
     round: u32,
 }
 
-/// The letters of the round to come, ascending by general, which all generals have posted.
+/// The letters of the round to come, ascending by general, which all generals have posted for their tasks of it.
 ///
 /// # Errors
 ///
@@ -36,7 +36,10 @@ pub(crate) fn receive<R: Wait>(
     collector: Collector,
     all: AllPosted,
 ) -> Result<(Collector, Vec<Letter>), Halt>
-    requires { collector.table ≡ post.now.table }
+    requires collector { collector.table ≡ post.now.table }
+    requires all { scenario.now.generals ≤ all.letters }
+    requires scenario { all.out.scenario.value ≡ scenario.now }
+    requires told { all.out.told.value ≡ told.now }
     ensures post { IfOk result (λ r. r.0.table ≡ post.now.table) }
     ensures letters { IfOk result (λ r. AreLettersOf scenario.now (suc told.now.rounds) r.1.items) }
     ensures ascending { IfOk result (λ r. IsSortedByKey (λ (letter : LetterSeen). letter.general) nat_cmp r.1.items) }

@@ -3,15 +3,15 @@ ghost use Rattle.std.specs.Prelude.{◌≡◌, ◌≢◌, ◌++◌, ◌∷◌, [
 ghost use Rattle.letter.specs.Letters.{Letter as LetterSeen};
 ghost use Rattle.threads.specs.Answers.{failure_of, failure_as, IsFailureOf};
 ghost use Rattle.threads.specs.Duties.{IsDone};
-ghost use Rattle.threads.specs.Served.{AreAmong, told_in};
+ghost use Rattle.threads.specs.Served.{AreAmong, told_in, HavePassed};
 ghost use Rattle.threads.specs.declared.error.MusterError.TheVariants.{Unaccounted, Post as PostFull};
 
 use crate::error::MusterError;
-use crate::failure::{Failure, is_his, posted};
+use crate::failure::{Failure, is_his};
 use crate::gate::{Gate, Gated, Settled};
 use crate::inbox::{Closed, Inbox};
 use crate::made::Made;
-use crate::tally::Tally;
+use crate::tally::{Reported, Tally, Uncounted, send};
 use crate::task::Task;
 use letter::Letter;
 use post::{Post, Poster};
@@ -19,14 +19,29 @@ use shared_board::{Room, SharedBoard, Witness};
 use std::alloc::Global;
 use std::sync::Wait;
 
+/// By what a general has failed for good, as `stay` alone tells.
+#[derive(Clone, Copy)]
+pub(crate) struct Failed {
+    failure: Failure,
+}
+
+impl Failed {
+    /// The error that tells it.
+    pub(crate) fn error(self) -> MusterError
+        ensures { result ≡ failure_as self.failure }
+    {
+        self.failure.error()
+    }
+}
+
 /// What a general's thread has answered, as `stay` alone does.
 #[derive(Drop)]
 pub(crate) struct Answer {
     /// Whose it is.
     general: u32,
     /// That his inbox was closed, with his poster, which a task that fails takes from him, and with which all that was
-    /// served to him is told; or by what he has failed.
-    ended: Result<(Closed, Settled), Failure>,
+    /// served to him is told; or by what he has failed, of which the one who waits for the letters was told.
+    ended: Result<(Closed, Settled), Reported>,
 }
 
 impl Answer {
@@ -43,7 +58,7 @@ impl Answer {
     {
         match &self.ended {
             Ok(_) => None,
-            Err(failure) => Some(failure.error()),
+            Err(reported) => Some(reported.error()),
         }
     }
 }
@@ -77,12 +92,14 @@ impl<'a, G: Gate, J: Room> Resident<'a, G, J> {
         ensures closed { IfOk result.ended (λ r. r.0.general ≡ self.entry.inbox.now.general) }
         ensures poster { IfOk result.ended (λ r. r.1.poster.table ≡ post.now.table) }
         ensures his { IfOk result.ended (λ r. r.1.poster.general ≡ self.entry.general) }
-        ensures failed { IfErr result.ended (IsFailureOf self.entry.general) }
+        ensures passed { IfOk result.ended
+            (λ r. (gate : G) × HavePassed (G.passed gate) [] (told_in r.1.poster.posted)) }
+        ensures failed { IfErr result.ended (λ reported. IsFailureOf self.entry.general reported.failed.failure) }
     {
-        let ended = self.do_tasks(rt, alloc, post, poster, me);
-        if ended.is_err() {
-            self.tally.failed(rt);
-        }
+        let ended = match self.do_tasks(rt, alloc, post, poster, me) {
+            Ok(closed) => Ok(closed),
+            Err(failure) => Err(self.tally.failed(rt, Failed { failure })),
+        };
         Answer {
             general: self.general,
             ended,
@@ -110,6 +127,7 @@ impl<'a, G: Gate, J: Room> Resident<'a, G, J> {
         ensures closed { IfOk result (λ r. r.0.general ≡ self.now.inbox.now.general) }
         ensures poster { IfOk result (λ r. r.1.poster.table ≡ post.now.table) }
         ensures his { IfOk result (λ r. r.1.poster.general ≡ self.now.general) }
+        ensures passed { IfOk result (λ r. (gate : G) × HavePassed (G.passed gate) [] (told_in r.1.poster.posted)) }
         ensures failed { IfErr result (IsFailureOf self.now.general) }
     {
         let mut server = Gated {
@@ -124,13 +142,13 @@ impl<'a, G: Gate, J: Room> Resident<'a, G, J> {
                 Ok(task) => task,
                 Err(closed) => return Ok((closed, server.settle(poster))),
             };
-            poster = self.do_task(rt, alloc, post, poster, &mut server, task)?;
-            self.tally.posted(rt);
+            let uncounted = self.do_task(rt, alloc, post, poster, &mut server, task)?;
+            poster = self.tally.posted(rt, uncounted);
         }
         unreachable!()
     }
 
-    /// Does a task: his letter for it is posted, and tells just what was served to him meanwhile.
+    /// Does a task: his letter for it is posted, to be counted, and tells just what was served to him meanwhile.
     ///
     /// # Errors
     ///
@@ -143,23 +161,22 @@ impl<'a, G: Gate, J: Room> Resident<'a, G, J> {
         poster: Poster,
         server: &mut Gated<'_, R, G, J>,
         task: Task,
-    ) -> Result<Poster, Failure>
+    ) -> Result<Uncounted, Failure>
         requires post { poster.table ≡ post.now.table }
         requires general { poster.general ≡ self.now.general }
         requires told { server.old.made ≡ told_in poster.posted }
-        ensures post { IfOk result (λ poster. poster.table ≡ post.now.table) }
-        ensures general { IfOk result (λ poster. poster.general ≡ self.now.general) }
-        ensures done { IfOk result (λ later. (letter : LetterSeen) × IsDone task letter
-            × (later.posted ≡ poster.posted ++ letter ∷ [])) }
-        ensures told { IfOk result (λ later. server.new.made ≡ told_in later.posted) }
+        ensures post { IfOk result (λ uncounted. uncounted.poster.table ≡ post.now.table) }
+        ensures general { IfOk result (λ uncounted. uncounted.poster.general ≡ self.now.general) }
+        ensures done { IfOk result (λ uncounted. (letter : LetterSeen) × IsDone task letter
+            × (uncounted.poster.posted ≡ poster.posted ++ letter ∷ [])) }
+        ensures told { IfOk result (λ uncounted. server.new.made ≡ told_in uncounted.poster.posted) }
         ensures theirs { task.general ≢ self.now.general → IsErrAnd result (λ f. failure_as f ≡ Unaccounted) }
         ensures own { IfErr result (λ f. failure_as f ≡ Unaccounted → task.general ≢ self.now.general) }
         ensures failed { IfErr result (IsFailureOf self.now.general) }
     {
         let letter = self.letter(alloc, server, task)?;
-        let (poster, sent) = post.post(rt, poster, letter);
-        posted(sent)?;
-        Ok(poster)
+        let uncounted = send(rt, post, poster, letter)?;
+        Ok(uncounted)
     }
 
     /// His letter for a task. It tells just the accesses that were served to him meanwhile, as they were asked and

@@ -8,7 +8,6 @@ pub mod DecisionLemmas
 pub mod Splitting
 pub mod PartingLemmas
 pub mod MarkLemmas
-pub mod ReceiverLemmas
 pub mod Plain
 pub mod Naming
 pub mod Generals

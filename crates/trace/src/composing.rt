@@ -1,10 +1,8 @@
 //! Lines that are put together before they are written.
 ghost use Rattle.std.specs.Prelude.{◌≡◌, IsFalse, ◌+◌, ◌*◌, ◌≤◌, ◌++◌, ◌∷◌, [], length, map, take, decimal};
-ghost use Rattle.outbox.specs.Rows.{order_in};
 ghost use Rattle.trace.specs.Text.{further, place};
 
 use itoa::write_digits;
-use outbox::Row;
 use std::marker::Model;
 
 /// The bytes of lines so far, at most 1,024. A label's row has at most 158: its rank and each of at most 13 orders take
@@ -61,16 +59,15 @@ impl LineBuffer {
         self.count = with_number(&mut self.bytes, self.count, number);
     }
 
-    /// Adds what the receivers were told: orders, or dashes for nothing, each behind a space.
-    pub fn add_orders(&mut self, orders: &Row, receivers: &[u8])
-        requires { length self.old + 11 * length receivers.now ≤ 1024 }
-        ensures added { self.new ≡ self.old ++ further (map (λ r. place (order_in r orders.now)) receivers.now) }
-        ensures short { length self.new ≤ length self.old + 11 * length receivers.now }
+    /// Adds what receivers were told: orders, or dashes for nothing, each behind a space.
+    pub fn add_orders(&mut self, orders: &[Option<u32>])
+        requires { length self.old + 11 * length orders.now ≤ 1024 }
+        ensures added { self.new ≡ self.old ++ further (map place orders.now) }
+        ensures short { length self.new ≤ length self.old + 11 * length orders.now }
     {
         let mut count = self.count;
-        for receiver in receivers {
-            let order = orders.order(u32::from(*receiver));
-            count = with_place(&mut self.bytes, count, order);
+        for order in orders {
+            count = with_place(&mut self.bytes, count, *order);
         }
         self.count = count;
     }

@@ -116,11 +116,7 @@ fn add_orders(line: &mut LineBuffer, outbox: &Outbox, rank: u32)
     ensures orders { line.new ≡ line.old ++ further (map place (slice_index_or outbox.now.rows rank [])) }
     ensures short { length line.new ≤ length line.old + 143 }
 {
-    let _generals = outbox.shape();
-    let Some(orders) = outbox.orders(rank) else {
-        return;
-    };
-    line.add_orders(orders, outbox.receivers(rank));
+    line.add_orders(outbox.told(rank).as_slice());
 }
 
 /// Adds the line of a label's row: its rank, and what its receivers were told.

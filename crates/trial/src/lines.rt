@@ -93,7 +93,8 @@ fn push_label(
         string_bytes text.new ≡ string_bytes text.old ++ label_lines outbox.now rank label) }
 {
     let _shape = outbox.shape();
-    for receiver in outbox.receivers(rank) {
+    let receivers = outbox.receivers(rank);
+    for receiver in receivers.as_slice() {
         let receiver = u32::from(*receiver);
         if let Some(order) = outbox.get(rank, receiver) {
             push_order(alloc, text, rank, receiver, order)?;

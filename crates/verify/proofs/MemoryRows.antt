@@ -17,8 +17,9 @@ use Rattle.absval.specs.declared.value.Offsets.{Offsets}
 use Rattle.absval.specs.declared.value.AbsVal.{AbsVal}
 use Rattle.absval.specs.Table.{loaded_known}
 use Rattle.absmem.specs.Known.{Known, byte_at}
-use Rattle.verify.specs.Reasons.{unless}
-use Rattle.verify.specs.MemoryTable.{pointer_in, all_bytes, unset_in, spilled, pointer_or, stack_given, load_from, load_given, signed_from, signed_load_given, write_refused}
+use Rattle.verify.specs.Reasons.{unless, outcome}
+use Rattle.verify.specs.MemoryTable.{pointer_in, all_bytes, unset_in, spilled, pointer_or, stack_given, load_from, signed_from, signed_load_given, write_refused, pointer_refused, store_refused}
+use Rattle.verify.specs.Transfer.{pointer_stored, stored}
 use Rattle.absval.specs.declared.value.AbsVal.TheVariants.{Unset, Number, Pointer}
 
 window_refused : (o : Option Window) → result_err (ok_or o Bounds) ≡ write_refused Stack o
@@ -77,13 +78,24 @@ pointer_found (Pointer other at) region offsets e =
     let same : (region, offsets) ≡ (other, at) = cc in ap (λ (p : Region × Offsets). Pointer p.0 p.1) (sym same)
 
 -- a window that leaves its region
-pub load_out : (known : Known) (size : Size) (base : AbsVal) (region : Region) (offsets : Offsets) (distance x : ℤ) (n : ℕ) (reason : Reason) → base ≡ Pointer region offsets → x ≡ distance → n ≡ bytes_of size →
-    Err reason ≡ ok_or (window_known region offsets.0 offsets.1 x n) Bounds → Err reason ≡ load_given known size base distance
-load_out known size base region offsets distance x n reason e f g h = rw e (by_window (window_known region offsets.0 offsets.1 distance (bytes_of size)) (rw (f, g) at h))
+pub load_out : (known : Known) (size : Size) (region other : Region) (low high distance x : ℤ) (n : ℕ) (reason : Reason) → region ≡ other → x ≡ distance → n ≡ bytes_of size →
+    Err reason ≡ ok_or (window_known other low high x n) Bounds → Err reason ≡ load_from known size region (window_known region low high distance (bytes_of size))
+load_out known size region other low high distance x n reason e f g h = rw e (by_window (window_known other low high distance (bytes_of size)) (rw (f, g) at h))
   where
-    by_window : (o : Option Window) → Err reason ≡ ok_or o Bounds → Err reason ≡ load_from known size region o
+    by_window : (o : Option Window) → Err reason ≡ ok_or o Bounds → Err reason ≡ load_from known size other o
     by_window None k = let same : reason ≡ Bounds = cc in rw same refl
     by_window (Some w) k = absurd cc
+
+-- one that lies in it
+window_there : (o : Option Window) (w : Window) → Ok w ≡ ok_or o Bounds → o ≡ Some w
+window_there None w e = absurd cc
+window_there (Some v) w e = let same : w ≡ v = cc in ap Some (sym same)
+
+pub given_by_stack : (known : Known) (size : Size) (region : Region) (low high distance x : ℤ) (n : ℕ) (w : Window) (given : Result AbsVal Reason) → region ≡ Stack → x ≡ distance → n ≡ bytes_of size →
+    Ok w ≡ ok_or (window_known Stack low high x n) Bounds → given ≡ stack_given known size w → given ≡ load_from known size region (window_known region low high distance (bytes_of size))
+given_by_stack known size region low high distance x n w given e f g h v =
+    let there : window_known Stack low high distance (bytes_of size) ≡ Some w = window_there (window_known Stack low high distance (bytes_of size)) w (rw (f, g) at h) in
+    rw e (v ∙ ap (load_from known size Stack) (sym there))
 
 pub signed_load_out : (known : Known) (part : Narrow) (base : AbsVal) (region : Region) (offsets : Offsets) (distance x : ℤ) (n : ℕ) (reason : Reason) → base ≡ Pointer region offsets → x ≡ distance → n ≡ part_bytes part →
     Err reason ≡ ok_or (window_known region offsets.0 offsets.1 x n) Bounds → Err reason ≡ signed_load_given known part base distance
@@ -92,3 +104,14 @@ signed_load_out known part base region offsets distance x n reason e f g h = rw 
     by_window : (o : Option Window) → Err reason ≡ ok_or o Bounds → Err reason ≡ signed_from known region o
     by_window None k = let same : reason ≡ Bounds = cc in rw same refl
     by_window (Some w) k = absurd cc
+
+-- ---- stores
+
+-- a pointer is stored, or why it is not
+pub pointer_left : (size : Size) (base value : AbsVal) (found other : Region × Offsets) (x distance : ℤ) (known new : Known) (r : Result (Unit {0}) Reason) →
+    Ok found ≡ pointer_in base → value ≡ Pointer other.0 other.1 → x ≡ distance →
+    outcome r new ≡ unless (pointer_refused size found.0 found.1 x other.1) (pointer_stored other.0 other.1.0 (window_known found.0 found.1.0 found.1.1 x 8) known) →
+    outcome r new ≡ unless (store_refused size base distance value) (stored size base distance value known)
+pointer_left size base value found other x distance known new r p v f h =
+    let pointer : base ≡ Pointer found.0 found.1 = pointer_found base found.0 found.1 p in
+    rw (pointer, v) (rw f at h)

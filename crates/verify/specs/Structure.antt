@@ -1,5 +1,5 @@
 -- Faults of a program's structure: where its jumps lead, and how it ends (own).
-use Rattle.std.specs.Prelude.{ℕ, ℤ, pos, negsuc, ◌+◌, ◌+ℤ◌, Bool, true, false, nat_le, if◌then◌else◌, List, [], ◌∷◌, ◌++◌, length, Option, Some, None, is_none, IsSome}
+use Rattle.std.specs.Prelude.{ℕ, ℤ, zero, suc, pos, negsuc, ◌+◌, ◌+ℤ◌, Bool, true, false, nat_le, if◌then◌else◌, List, [], ◌∷◌, ◌++◌, length, Option, Some, None, is_none, IsSome}
 use Rattle.insn.specs.declared.insn.Insn.{Insn}
 use Rattle.insn.specs.declared.insn.Insn.TheVariants.{Jump, LongJump, Branch, Exit}
 use Rattle.insn.specs.Insn.{units_of}
@@ -39,6 +39,12 @@ jump_checks program unit _ = []
 abbrev pub checks_from : List Insn → ℕ → List Insn → List Check
 checks_from program unit [] = []
 checks_from program unit (i ∷ is) = jump_checks program unit i ++ checks_from program (unit + units_of i) is
+
+-- those of the instruction of an index, where the first starts at a unit
+abbrev pub checks_at : List Insn → ℕ → List Insn → ℕ → List Check
+checks_at program unit [] index = []
+checks_at program unit (i ∷ is) zero = jump_checks program unit i
+checks_at program unit (i ∷ is) (suc index) = checks_at program (unit + units_of i) is index
 
 abbrev pub is_exit : Insn → Bool
 is_exit Exit = true

@@ -6,7 +6,7 @@ ghost use Rattle.verify.specs.KnownAtUnits.{IsSurvey};
 use crate::error::VerifyError;
 use crate::pass::{opened, pass_units};
 use crate::pending::kept;
-use crate::ready::halves;
+use crate::ready::blank_codes;
 use crate::state::AbsState;
 use crate::structure::find_fault;
 use insn::Program;
@@ -41,7 +41,7 @@ fn known_forward(alloc: Global, program: &Program) -> Result<Survey, AllocError>
     ensures { IfOk result (λ s. IsSurvey program.now s.states.items s.fault) }
 {
     let mut pending = opened(alloc, program)?;
-    let mut codes = halves(alloc, program.units())?;
+    let mut codes = blank_codes(alloc, program.units())?;
     let mut states = Vec::with_capacity(alloc, program.units())?;
     for unit in 0..program.units() {
         states.push(kept(&pending, unit))?;

@@ -6,7 +6,7 @@ ghost use Rattle.insn.specs.Insn.{bytes_of};
 ghost use Rattle.semantics.specs.Memory.{room_of};
 ghost use Rattle.absval.specs.Windows.{window_known};
 ghost use Rattle.verify.specs.Reasons.{unless, outcome};
-ghost use Rattle.verify.specs.MemoryTable.{pointer_in, unset_in, spilled, stack_given, load_given, signed_load_given, write_refused, pointer_refused, store_refused};
+ghost use Rattle.verify.specs.MemoryTable.{pointer_in, unset_in, spilled, stack_given, load_from, signed_load_given, write_refused, pointer_refused, store_refused};
 ghost use Rattle.verify.specs.Transfer.{number_stored, pointer_stored, stored};
 
 use crate::reason::Reason;
@@ -17,11 +17,11 @@ use semantics::Region;
 use word::Narrow;
 
 /// The pointer that a base is.
-fn pointer_of(base: AbsVal) -> Result<(Region, Offsets), Reason>
-    ensures { result ≡ pointer_in base }
+pub(crate) fn pointer_of(base: &AbsVal) -> Result<(Region, Offsets), Reason>
+    ensures { result ≡ pointer_in base.now }
 {
     match base {
-        AbsVal::Pointer(region, offsets) => Ok((region, offsets)),
+        AbsVal::Pointer(region, offsets) => Ok((*region, *offsets)),
         AbsVal::Unset | AbsVal::Number(_) => Err(Reason::PointerUse),
     }
 }
@@ -54,29 +54,50 @@ fn stored_pointer(stack: &AbsStack, size: Size, window: Window) -> Option<AbsVal
     Some(AbsVal::Pointer(region, Offsets::exactly(offset)))
 }
 
-/// What a load from the stack gives.
-fn load_stack(stack: &AbsStack, size: Size, window: Window) -> Result<AbsVal, Reason>
+/// A register takes what a load from the stack gives.
+fn load_stack(
+    register: &mut AbsVal,
+    stack: &AbsStack,
+    size: Size,
+    window: Window,
+) -> Result<(), Reason>
     requires { window.place + window.size ≤ 512 }
-    ensures { result ≡ stack_given stack.now size window }
+    ensures { outcome result register.new ≡ stack_given stack.now size window }
 {
     if let Some(pointer) = stored_pointer(stack, size, window) {
-        return Ok(pointer);
+        *register = pointer;
+        return Ok(());
     }
     if !stack.has_bytes(window.place, window.size) {
         return Err(Reason::StackUnset);
     }
-    Ok(loaded(size))
+    *register = loaded(size);
+    Ok(())
 }
 
-/// What a load gives.
-pub fn load(stack: &AbsStack, size: Size, base: AbsVal, distance: i16) -> Result<AbsVal, Reason>
-    ensures { result ≡ load_given stack.now size base distance }
+/// A register takes what a load gives. It is written where its region is known, so that no value is brought together
+/// from several ways.
+pub fn load_into(
+    register: &mut AbsVal,
+    stack: &AbsStack,
+    size: Size,
+    region: Region,
+    offsets: Offsets,
+    distance: i16,
+) -> Result<(), Reason>
+    ensures { outcome result register.new
+        ≡ load_from stack.now size region (window_known region offsets.0 offsets.1 distance (bytes_of size)) }
 {
-    let (region, offsets) = pointer_of(base)?;
-    let window = window(region, offsets, distance, size.bytes())?;
     match region {
-        Region::Context => Ok(loaded(size)),
-        Region::Stack => load_stack(stack, size, window),
+        Region::Context => {
+            window(Region::Context, offsets, distance, size.bytes())?;
+            *register = loaded(size);
+            Ok(())
+        }
+        Region::Stack => {
+            let cells = window(Region::Stack, offsets, distance, size.bytes())?;
+            load_stack(register, stack, size, cells)
+        }
     }
 }
 
@@ -105,7 +126,7 @@ pub fn load_signed(
 ) -> Result<AbsVal, Reason>
     ensures { result ≡ signed_load_given stack.now part base distance }
 {
-    let (region, offsets) = pointer_of(base)?;
+    let (region, offsets) = pointer_of(&base)?;
     let window = window(region, offsets, distance, bytes_of_part(part))?;
     check_bytes(stack, region, window)?;
     Ok(AbsVal::Number(NumberSet::any()))
@@ -131,7 +152,8 @@ fn stack_window(
 }
 
 /// A number is stored.
-fn store_number(
+#[inline(always)]
+pub(crate) fn store_number(
     stack: &mut AbsStack,
     size: Size,
     base: (Region, Offsets),
@@ -177,19 +199,19 @@ fn store_pointer(
 pub fn store(
     stack: &mut AbsStack,
     size: Size,
-    base: AbsVal,
+    base: &AbsVal,
     distance: i16,
-    value: AbsVal,
+    value: &AbsVal,
 ) -> Result<(), Reason>
     ensures { outcome result stack.new
-        ≡ unless (store_refused size base distance value) (stored size base distance value stack.old) }
+        ≡ unless (store_refused size base.now distance value.now) (stored size base.now distance value.now stack.old) }
 {
     let base = pointer_of(base)?;
     match value {
         AbsVal::Unset => Err(Reason::Unset),
         AbsVal::Number(_) => store_number(stack, size, base, distance),
         AbsVal::Pointer(region, offsets) => {
-            store_pointer(stack, size, base, distance, (region, offsets))
+            store_pointer(stack, size, base, distance, (*region, *offsets))
         }
     }
 }

@@ -15,7 +15,7 @@ ghost use Rattle.verify.specs.Ready.{IsMade, AreMade, ready_at};
 use crate::comparison::Comparison;
 use crate::error::VerifyError;
 use crate::pending::{Pending, boxed, come, empty, flow, put_back, second, take_next};
-use crate::ready::{Change, Other, Ready, halves, put_ready};
+use crate::ready::{Change, Other, Ready, blank_codes, put_ready};
 use crate::state::AbsState;
 use crate::structure::forward_target;
 use crate::{branches, registers, steps};
@@ -250,6 +250,6 @@ pub fn pass(alloc: Global, program: &Program, codes: &mut Vec<Ready>) -> Result<
 {
     let _named: Option<(Change, Other)> = None;
     let mut pending = opened(alloc, program)?;
-    *codes = halves(alloc, program.units())?;
+    *codes = blank_codes(alloc, program.units())?;
     pass_units(alloc, program, 0, program.units(), &mut pending, codes)
 }

@@ -53,10 +53,8 @@ pub fn empty(alloc: Global, units: usize) -> Result<Pending, AllocError>
     if units >= MANY_STATES {
         drop(room_for_states(alloc, units));
     }
-    let mut states = Vec::with_capacity(alloc, units)?;
-    for _unit in 0..units {
-        states.push(None)?;
-    }
+    let mut states = Vec::new(alloc);
+    states.resize_with(units, || None)?;
     Ok(Pending {
         states,
         spare: None,

@@ -42,6 +42,14 @@ pub fn read(registers: &[AbsVal; 11], r: Reg) -> AbsVal
     known_at(registers, r.number() as usize)
 }
 
+/// The same, where it stands.
+#[inline(always)]
+pub fn at(registers: &[AbsVal; 11], r: Reg) -> &AbsVal
+    ensures { result.now ≡ known_at registers.now r }
+{
+    &registers[r.number() as usize]
+}
+
 /// What is known of an operand.
 pub fn operand(registers: &[AbsVal; 11], operand: Operand) -> AbsVal
     ensures { result ≡ operand_known registers.now operand }

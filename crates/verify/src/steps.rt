@@ -6,12 +6,14 @@ ghost use Rattle.absval.specs.Table.{moved, combined};
 ghost use Rattle.verify.specs.Registers.{known_at, operand_known};
 ghost use Rattle.verify.specs.Reasons.{first_reason, is_unset, made_checks, write_checks, compare_checks, exit_checks, unless, outcome};
 ghost use Rattle.verify.specs.Instructions.{IsStraight};
-ghost use Rattle.verify.specs.Transfer.{assigned, stepped};
+ghost use Rattle.verify.specs.MemoryTable.{unset_or, store_refused};
+ghost use Rattle.verify.specs.Transfer.{assigned, stored, stepped};
 
 use crate::comparison::Comparison;
 use crate::reason::Reason;
 use crate::state::AbsState;
 use crate::{calls, memory, registers};
+use absmem::AbsStack;
 use absval::{AbsVal, NumberSet};
 use insn::{Insn, Operand, Reg, Size};
 use word::{ByteOrder, Narrow, Operation, SwapSize, Width};
@@ -235,12 +237,12 @@ fn load_immediate(state: &mut AbsState, dst: Reg, number: u64) -> Result<(), Rea
 fn load(state: &mut AbsState, size: Size, dst: Reg, base: Reg, offset: i16) -> Result<(), Reason>
     ensures { outcome result state.new ≡ stepped (Insn.Load size dst base offset) state.old }
 {
-    let pointer = registers::read(&state.registers, base);
-    check_set(&pointer)?;
+    let pointer = registers::at(&state.registers, base);
+    check_set(pointer)?;
     check_writable(dst)?;
-    let value = memory::load(&state.stack, size, pointer, offset)?;
-    put(state, dst, value);
-    Ok(())
+    let (region, offsets) = memory::pointer_of(pointer)?;
+    let register = &mut state.registers[dst.number() as usize];
+    memory::load_into(register, &state.stack, size, region, offsets, offset)
 }
 
 /// A load of a number that is extended by its sign.
@@ -261,6 +263,24 @@ fn load_signed(
     Ok(())
 }
 
+/// A store of a value by a base. Both are looked at where they stand: few are copied.
+#[inline(always)]
+fn store_value(
+    stack: &mut AbsStack,
+    size: Size,
+    base: &AbsVal,
+    offset: i16,
+    value: &AbsVal,
+) -> Result<(), Reason>
+    ensures { outcome result stack.new
+        ≡ unless (unset_or base.now (unset_or value.now (store_refused size base.now offset value.now)))
+        (stored size base.now offset value.now stack.old) }
+{
+    check_set(base)?;
+    check_set(value)?;
+    memory::store(stack, size, base, offset, value)
+}
+
 /// A store of a number or of a pointer.
 fn store(
     state: &mut AbsState,
@@ -271,11 +291,18 @@ fn store(
 ) -> Result<(), Reason>
     ensures { outcome result state.new ≡ stepped (Insn.Store size base offset source) state.old }
 {
-    let pointer = registers::read(&state.registers, base);
-    let value = registers::operand(&state.registers, source);
-    check_set(&pointer)?;
-    check_set(&value)?;
-    memory::store(&mut state.stack, size, pointer, offset, value)
+    let pointer = registers::at(&state.registers, base);
+    check_set(pointer)?;
+    match source {
+        Operand::Immediate(_) => {
+            let found = memory::pointer_of(pointer)?;
+            memory::store_number(&mut state.stack, size, found, offset)
+        }
+        Operand::Register(src) => {
+            let value = registers::at(&state.registers, src);
+            store_value(&mut state.stack, size, pointer, offset, value)
+        }
+    }
 }
 
 /// An instruction that goes on behind itself.

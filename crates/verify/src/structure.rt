@@ -1,7 +1,8 @@
 //! Where the jumps of a program lead, and how it ends.
-ghost use Rattle.std.specs.Prelude.{◌≡◌, ◌<◌, ◌≤◌, ◌+◌, ◌+ℤ◌, ◌<ℤ◌, pos, length};
+ghost use Rattle.std.specs.Prelude.{◌≡◌, ◌<◌, ◌≤◌, ◌+◌, ◌+ℤ◌, ◌<ℤ◌, ℕ, List, [], pos, length, false, is_some};
+ghost use Rattle.insn.specs.declared.insn.Insn.{Insn as InsnValue};
 ghost use Rattle.insn.specs.Program.{slots_of};
-ghost use Rattle.verify.specs.Structure.{first_fault, target_checks, jump_checks, checks_from, last_checks, structural_fault, is_exit};
+ghost use Rattle.verify.specs.Structure.{first_fault, target_checks, jump_checks, checks_at, checks_from, last_checks, structural_fault, is_exit};
 
 use crate::error::VerifyError;
 use crate::reason::Reason;
@@ -46,6 +47,7 @@ fn target_fault(program: &Program, end: usize, unit: usize, distance: i32) -> Op
 }
 
 /// The fault of the instruction at a unit, if it is a jump.
+#[inline(always)]
 fn jump_fault(program: &Program, end: usize, unit: usize, insn: &Insn) -> Option<VerifyError>
     requires end { end ≡ length (slots_of program.now) }
     requires bound { end ≤ 4096 }
@@ -60,17 +62,64 @@ fn jump_fault(program: &Program, end: usize, unit: usize, insn: &Insn) -> Option
     }
 }
 
+/// Whether an instruction is a jump.
+#[inline(always)]
+fn is_jump(insn: &Insn) -> bool
+    ensures { result ≡ false → (program : List InsnValue) (unit : ℕ) → jump_checks program unit insn.now ≡ [] }
+{
+    matches!(
+        insn,
+        Insn::Jump { .. } | Insn::LongJump { .. } | Insn::Branch { .. }
+    )
+}
+
+/// The fault of the instruction of an index, if it is a jump.
+#[inline(always)]
+fn fault_of(program: &Program, end: usize, index: usize) -> Option<VerifyError>
+    requires end { end ≡ length (slots_of program.now) }
+    requires bound { end ≤ 4096 }
+    requires inside { index < length program.now }
+    ensures { result ≡ first_fault (checks_at program.now 0 program.now index) }
+{
+    let unit = program.unit_of(index);
+    jump_fault(program, end, unit, &program.instructions()[index])
+}
+
+/// Whether it has one.
+#[inline(never)]
+fn is_faulty(program: &Program, end: usize, index: usize) -> bool
+    requires end { end ≡ length (slots_of program.now) }
+    requires bound { end ≤ 4096 }
+    requires inside { index < length program.now }
+    ensures { result ≡ is_some (first_fault (checks_at program.now 0 program.now index)) }
+{
+    fault_of(program, end, index).is_some()
+}
+
+/// Whether the instruction of an index is a jump with a fault. Most instructions are none, and are not looked at
+/// further: so where they start is not asked.
+#[inline(always)]
+fn has_fault(program: &Program, end: usize, index: usize) -> bool
+    requires end { end ≡ length (slots_of program.now) }
+    requires bound { end ≤ 4096 }
+    requires inside { index < length program.now }
+    ensures { result ≡ is_some (first_fault (checks_at program.now 0 program.now index)) }
+{
+    if !is_jump(&program.instructions()[index]) {
+        return false;
+    }
+    is_faulty(program, end, index)
+}
+
 /// The first fault of the jumps.
 fn first_jump_fault(program: &Program) -> Option<VerifyError>
     ensures { result ≡ first_fault (checks_from program.now 0 program.now) }
 {
     let end = program.units();
-    let mut unit = 0;
-    for insn in program.instructions() {
-        if let Some(fault) = jump_fault(program, end, unit, insn) {
-            return Some(fault);
+    for index in 0..program.len() {
+        if has_fault(program, end, index) {
+            return fault_of(program, end, index);
         }
-        unit += insn.units() as usize;
     }
     None
 }

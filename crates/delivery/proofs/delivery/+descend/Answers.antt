@@ -25,11 +25,8 @@ descend-requires t c =
     let size : c.with-longer.result.size ≡ f.size + 1 = child.size ∙ child_long c.args.generals c.requires.route.c x c.requires.route.w f c.requires.route.front in (
       let h = c.decreases in let m = c.requires.route.short in let e = c.if-front-size.false in omega arith,
       (
-        c.requires.nobody,
-        (
-          child_route c.args.generals c.args.letters.now c.args.indices.now c.args.size f c.with-longer.result c.args.trees.now c.loop-general.trees c.requires.route x c.if-front-size.false child c.loop-general.invariant.told,
-          table_up c.args.generals c.args.letters.now c.args.indices.now c.args.size f c.args.trees.now c.loop-general.trees c.requires.route x c.loop-general.invariant.told c.args.tree_indices.now c.requires.table,
-        ),
+        child_route c.args.generals c.args.letters.now c.args.indices.now c.args.size f c.with-longer.result c.args.trees.now c.loop-general.trees c.requires.route x c.if-front-size.false child c.loop-general.invariant.told,
+        table_up c.args.generals c.args.letters.now c.args.indices.now c.args.size f c.args.trees.now c.loop-general.trees c.requires.route x c.loop-general.invariant.told c.args.tree_indices.now c.requires.table,
       ),
     )
 

@@ -3,7 +3,7 @@ use Rattle.std.proofs.Common.{◌≡◌, ◌<◌, ◌∙◌, ℕ, length, ap, ar
 use Rattle.std.specs.Prelude.{slice_index_or}
 use Rattle.label.specs.Labels.{labels}
 use Rattle.label.proofs.Places.{first_label}
-use Rattle.outbox.specs.Rows.{order_of_row}
+use Rattle.outbox.specs.Orders.{order_of_row}
 use Rattle.delivery.specs.Delivery.{IsTold}
 use Rattle.delivery.proofs.EachTree.{done_next, done_all, not_done}
 use Rattle.delivery.proofs.Together.{first_done, stays_read}

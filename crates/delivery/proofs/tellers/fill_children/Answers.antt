@@ -1,9 +1,10 @@
 -- One run of the label's children.
 use Rattle.std.proofs.Common.{rules, ◌≡◌, ◌<◌, ◌≤◌, ◌+◌, ◌-◌, ◌*◌, ◌^◌, ◌∙◌, ℕ, suc, Some, length, sym, ap, arith}
 use Rattle.std.specs.Prelude.{slice_get, slice_index}
-use Rattle.std.specs.Borrow.{Bor}
 use Rattle.std.proofs.lemmas.Option.{slice_get_within}
-use Rattle.outbox.specs.Rows.{RowOrders, order_in}
+use Rattle.outbox.specs.Orders.{orders_seen}
+use Rattle.outbox.specs.Rows.{order_in}
+use Rattle.outbox.specs.declared.orders.Orders.{Orders}
 use Rattle.delivery.specs.Told.{lieutenant_at}
 use Rattle.delivery.proofs.Delivering.{told_each}
 use Rattle.delivery.proofs.Naming.{tells_past}
@@ -41,9 +42,9 @@ returns c row places walk a =
     (λ place v w there stands.
     let inside : place < length run.0 = slice_get_within run.0 place v there in
     let within : place < width = omega arith in
-    let answer : (r : Bor RowOrders) → slice_get c.args.rows.now (lieutenant_at c.args.own place) ≡ Some r → v ≡ order_in c.space-space.result.general r.now = (λ r at. let p = run.1.each place v there in search rules) in
+    let answer : (r : Orders) → slice_get c.args.rows.now (lieutenant_at c.args.own place) ≡ Some r → v ≡ order_in c.space-space.result.general (orders_seen r) = (λ r at. let p = run.1.each place v there in search rules) in
     tells_past t row places c.args.size f walk sp.kind c.args.own c.args.rows.now a last start width place ew ef within v
-    (λ r at. answer r at ∙ ap (λ (g : ℕ). order_in g r.now) sp.general) w stands)
+    (λ r at. answer r at ∙ ap (λ (g : ℕ). order_in g (orders_seen r)) sp.general) w stands)
     (omega arith) run.2 in
     let first : start ≡ r * (t.generals - c.args.size) = ef ∙ ap (λ (v : ℕ). r * v) ew in
     let past_all : start + length run.0 ≡ r * (t.generals - c.args.size) + (t.generals - c.args.size) = omega arith in

@@ -2,8 +2,9 @@
 use Rattle.std.proofs.Common.{◌≡◌, ◌≤◌, ◌+◌, ◌∙◌, ℕ, false, not, cond, refl, ap, arith, length-set}
 use mir.Val.{bool_byte}
 use Rattle.std.specs.Prelude.{slice_index, slice_index_or}
-use Rattle.std.specs.Borrow.{Bor}
-use Rattle.outbox.specs.Rows.{RowOrders, order_in}
+use Rattle.outbox.specs.Orders.{orders_seen}
+use Rattle.outbox.specs.Rows.{order_in}
+use Rattle.outbox.specs.declared.orders.Orders.{Orders}
 use Rattle.letter.specs.Letters.{letter_of}
 use Rattle.delivery.specs.Delivery.{order_in_letter}
 use Rattle.delivery.proofs.Gathering.{counted, next_gathered, one_at_most, or_nobody}
@@ -21,5 +22,5 @@ loop-general-preserved c =
       told = λ posted.
           next_gathered row c.args.generals f x _ (record { count = c.loop-general.count; generals = c.loop-general.names; rows = c.loop-general.rows }) c.unwrap_or.result (h.told posted) c.loop-general-test.true c.requires.few
           (ap (λ (m : ℕ). c.loop-general.count + m) one)
-          (λ p. ap (λ (r : Bor RowOrders). order_in p r.now) c.unwrap_or.ensures ∙ or_nobody c.row_in.result c.args.nobody p c.requires.nobody ∙ c.row_in.ensures p posted ∙ ap (λ (g : ℕ). order_in_letter (letter_of row x) (slice_index f.ranks g) p) c.from-number.ensures);
+          (λ p. ap (λ (r : Orders). order_in p (orders_seen r)) c.unwrap_or.ensures ∙ or_nobody c.row_in.result p ∙ c.row_in.ensures p posted ∙ ap (λ (g : ℕ). order_in_letter (letter_of row x) (slice_index f.ranks g) p) c.from-number.ensures);
     }

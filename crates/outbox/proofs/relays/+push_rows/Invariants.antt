@@ -6,5 +6,5 @@ use Rattle.outbox.proofs.relays.+push_rows.Given as goal
 abbrev pub decreases-push_rows : goal.decreases-push_rows
 decreases-push_rows l = l.more
 
-abbrev pub invariant-loop-place : goal.invariant-loop-place
-invariant-loop-place l = l.rows.items ≡ l.fn.rows.items ++ flat_map (λ j. rows_under (l.more - 1) (struck j l.hearing)) (take l.place l.hearing)
+abbrev pub invariant-loop-general : goal.invariant-loop-general
+invariant-loop-general l = l.rows.items ≡ l.fn.rows.items ++ flat_map (λ j. rows_under (l.more - 1) (struck j l.hearing)) (take l.general-index l.hearing)

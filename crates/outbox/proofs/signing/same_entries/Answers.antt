@@ -1,7 +1,7 @@
 -- The same entries, each at its place.
 use Rattle.std.proofs.Common.{arith, refl}
 use Rattle.semantics.specs.declared.entry.Entry.TheVariants.{Sign}
-use Rattle.outbox.proofs.Alike.{same_lists}
+use Rattle.outbox.proofs.Sameness.{same_lists}
 use Rattle.outbox.proofs.signing.same_entries.Goals as goal
 
 pub returns : goal.returns

@@ -1,4 +1,4 @@
-use Rattle.std.proofs.Common.{subst}
+use Rattle.std.proofs.Common.{Some, subst, sym, ap, ◌∙◌}
 use Rattle.std.specs.String.{string_bytes}
 use Rattle.label.specs.Relay.{IsShape}
 use Rattle.trial.proofs.Rows.{label_all}
@@ -6,5 +6,5 @@ use Rattle.trial.proofs.lines.push_label.Goals as goal
 
 pub returns : goal.returns
 returns c = λ label at.
-    label_all c.args.outbox.now c.args.rank c.loop-receiver.receiver-index c.receivers-receiver-items.result.now label (string_bytes c.args.text.now) (string_bytes c.loop-receiver.text)
-    (subst IsShape c.shape-shape.ensures.same c.shape-shape.ensures.within) c.receivers-receiver-items.ensures.row c.loop-receiver-test.false c.loop-receiver.invariant at
+    label_all c.args.outbox.now c.args.rank c.loop-receiver.receiver-index c.as_slice-receiver-items.result.now label (string_bytes c.args.text.now) (string_bytes c.loop-receiver.text)
+    (subst IsShape c.shape-shape.ensures.same c.shape-shape.ensures.within) (c.receivers-receivers.ensures.row ∙ ap Some (sym c.as_slice-receiver-items.ensures.value)) c.loop-receiver-test.false c.loop-receiver.invariant at

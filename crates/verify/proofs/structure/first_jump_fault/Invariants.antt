@@ -1,10 +1,7 @@
-use Rattle.std.proofs.Common.{◌≡◌, ◌+◌, drop, length}
-use Rattle.insn.specs.Program.{slots_of}
+use Rattle.std.proofs.Common.{◌≡◌}
 use Rattle.verify.specs.Structure.{first_fault, checks_from}
+use Rattle.verify.proofs.StructureLemmas.{rest_at}
 use Rattle.verify.proofs.structure.first_jump_fault.Given as goal
 
-abbrev pub invariant-loop-insn : goal.invariant-loop-insn
-invariant-loop-insn l = record {
-  same : first_fault (checks_from l.program 0 l.program) ≡ first_fault (checks_from l.program l.unit (drop l.insn-index l.insn-items));
-  walked : l.unit + length (slots_of (drop l.insn-index l.insn-items)) ≡ length (slots_of l.program);
-}
+abbrev pub invariant-loop-index : goal.invariant-loop-index
+invariant-loop-index l = first_fault (checks_from l.program 0 l.program) ≡ first_fault (rest_at l.program 0 l.program l.index)

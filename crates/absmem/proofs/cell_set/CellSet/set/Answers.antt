@@ -14,7 +14,7 @@ returns-then-is_in_word-clause-window c =
     let words = c.self.inside.words in
     let fits = c.if-is_in_word.ensures.0 refl in
     let lt : c.args.place / 64 < 8 = omega (arith, fits.0) in
-    let whole : min c.args.end (64 * (c.args.place / 64 + 1)) ≡ c.args.end = omega (arith, fits.1) in
+    let whole : min c.args.end (64 * (c.args.place / 64 + 1)) ≡ c.args.end = omega (arith, fits.2) in
     let put : IsPut c.args.value _ (word_at words (c.args.place / 64)) c.put.result =
     subst (λ (mask : ℕ). IsPut c.args.value mask (word_at words (c.args.place / 64)) c.put.result) c.in_word-mask.ensures c.put.ensures in
     let set : IsSetTo c.args.value (members words) (members (slice_set words (c.args.place / 64) c.put.result)) c.args.place c.args.end =

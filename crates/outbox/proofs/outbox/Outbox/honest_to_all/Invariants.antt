@@ -7,5 +7,5 @@ abbrev pub invariant-loop-rank : goal.invariant-loop-rank
 invariant-loop-rank l = record {
   shape : l.self-inside.shape ≡ l.initial.self-inside.shape;
   signing : l.self-inside.signing ≡ l.initial.self-inside.signing;
-  rows : l.self-inside.rows.items ≡ all_first (taken_value l.context) 0 l.rank l.initial.self-inside.rows.items;
+  rows : l.self-inside.rows ≡ all_first (taken_value l.context) 0 l.rank l.initial.self-inside.rows;
 }

@@ -1,30 +1,24 @@
 -- All rows.
-use Rattle.std.proofs.Common.{◌≡◌, ◌≤◌, refl, sym, ap, ◌∙◌, length, arith, rules}
+use Rattle.std.proofs.Common.{refl, length, rules}
 use Rattle.semantics.specs.Outbox.{at_receiver}
-use Rattle.outbox.specs.Rows.{found_first}
 use Rattle.outbox.specs.Contents.{entries_of, relay_of}
-use Rattle.outbox.proofs.Outcomes.{rows_few, each_put, sweep_stands, sweep_written, sweep_counted}
+use Rattle.outbox.proofs.Outcomes.{rows_few, sweep_stands, sweep_written, sweep_counted}
 use Rattle.outbox.proofs.outbox.Outbox.sway.Goals as goal
 
 pub put_in_each-requires-clause-few : goal.put_in_each-requires-clause-few
-put_in_each-requires-clause-few c =
-    let few : length c.self.inside.rows.items ≤ 990 = rows_few (relay_of c.self.inside.shape c.self.inside.signing) c.self.inside.rows.items c.self.invariant in
-    let lent : length c.as_mut_slice.result.now ≡ length c.self.inside.rows.items = ap length c.as_mut_slice.ensures.value in
-    omega arith
+put_in_each-requires-clause-few c = rows_few (relay_of c.self.inside.shape c.self.inside.signing) c.self.inside.rows c.self.invariant
 
 pub invariant_of-self : goal.invariant_of-self
 invariant_of-self c =
-    sweep_stands (relay_of c.self.inside.shape c.self.inside.signing) (relay_of c.self.inside.shape c.self.inside.signing) c.args.receiver (λ k. c.args.order) (length c.self.inside.rows.items) c.self.inside.rows.items _ c.self.invariant refl
-    (each_put c.self.inside.rows.len c.args.receiver (λ k. c.args.order) c.self.inside.rows.items c.as_mut_slice.result.now c.put_in_each.new.labels
-    (sym c.as_mut_slice.ensures.len ∙ ap length c.as_mut_slice.ensures.value) c.as_mut_slice.ensures.value (c.put_in_each.ensures.rows (λ k. c.args.order) (λ n r p. search rules)))
+    sweep_stands (relay_of c.self.inside.shape c.self.inside.signing) (relay_of c.self.inside.shape c.self.inside.signing) c.args.receiver (λ k. c.args.order) (length c.self.inside.rows) c.self.inside.rows _ c.self.invariant refl
+    (c.put_in_each.ensures.rows (λ k. c.args.order) (λ n r p. search rules))
 
 pub returns-clause-rows : goal.returns-clause-rows
 returns-clause-rows c =
-    sweep_written (at_receiver c.args.receiver c.args.order) c.args.self.now (relay_of c.self.inside.shape c.self.inside.signing) (entries_of c.self.inside.signing) c.args.receiver (λ k. c.args.order) (length c.self.inside.rows.items) c.self.inside.rows.items _ (λ k b n. refl) c.self.view_is c.self.invariant refl
-    (each_put c.self.inside.rows.len c.args.receiver (λ k. c.args.order) c.self.inside.rows.items c.as_mut_slice.result.now c.put_in_each.new.labels
-    (sym c.as_mut_slice.ensures.len ∙ ap length c.as_mut_slice.ensures.value) c.as_mut_slice.ensures.value (c.put_in_each.ensures.rows (λ k. c.args.order) (λ n r p. search rules)))
+    sweep_written (at_receiver c.args.receiver c.args.order) c.args.self.now (relay_of c.self.inside.shape c.self.inside.signing) (entries_of c.self.inside.signing) c.args.receiver (λ k. c.args.order) (length c.self.inside.rows) c.self.inside.rows _ (λ k b n. refl) c.self.view_is c.self.invariant refl
+    (c.put_in_each.ensures.rows (λ k. c.args.order) (λ n r p. search rules))
 
 pub returns-clause-count : goal.returns-clause-count
 returns-clause-count c =
-    sweep_counted (at_receiver c.args.receiver c.args.order) c.args.self.now (relay_of c.self.inside.shape c.self.inside.signing) (entries_of c.self.inside.signing) c.args.receiver (λ k. c.args.order) (length c.self.inside.rows.items) c.put_in_each.result c.self.inside.rows.items (λ k b n. refl) c.self.view_is c.self.invariant refl
-    (c.put_in_each.ensures.count ∙ ap (λ rows. found_first c.args.receiver (length rows) rows) c.as_mut_slice.ensures.value)
+    sweep_counted (at_receiver c.args.receiver c.args.order) c.args.self.now (relay_of c.self.inside.shape c.self.inside.signing) (entries_of c.self.inside.signing) c.args.receiver (λ k. c.args.order) (length c.self.inside.rows) c.put_in_each.result c.self.inside.rows (λ k b n. refl) c.self.view_is c.self.invariant refl
+    c.put_in_each.ensures.count

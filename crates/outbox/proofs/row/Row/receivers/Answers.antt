@@ -4,4 +4,4 @@ use Rattle.outbox.proofs.RowLemmas.{names_in}
 use Rattle.outbox.proofs.row.Row.receivers.Goals as goal
 
 pub returns : goal.returns
-returns c = c.generals.ensures.value ∙ (sym (names_in c.self.inside.orders c.self.inside.receivers) ∙ ap receivers_in c.self.view_is)
+returns c = c.list.ensures ∙ (sym (names_in c.self.inside.orders c.self.inside.receivers) ∙ ap receivers_in c.self.view_is)

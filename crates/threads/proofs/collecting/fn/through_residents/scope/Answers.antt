@@ -13,8 +13,11 @@ spawn_scoped-started-requires-after_bounds g c κs within =
       (
         search rules,
         (
-          ap (λ (p : PosterSeen). p.posted) his,
-          last_all (λ (w : Witnessed). w.made ≡ 0) c.loop-poster.witnesses.items c.pop-in-Some.new.self.items c.in-Some-pop.me c.loop-poster.invariant.unserved c.in-Some-pop.ensures.items,
+          c.resident-resident.ensures.tally,
+          (
+            ap (λ (p : PosterSeen). p.posted) his,
+            last_all (λ (w : Witnessed). w.made ≡ 0) c.loop-poster.witnesses.items c.pop-in-Some.new.self.items c.in-Some-pop.me c.loop-poster.invariant.unserved c.in-Some-pop.ensures.items,
+          ),
         ),
       ),
     )

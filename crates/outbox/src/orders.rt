@@ -1,0 +1,53 @@
+ghost use Rattle.std.specs.Prelude.{◌≡◌};
+ghost use Rattle.outbox.specs.Orders.{orders_seen};
+ghost use Rattle.outbox.specs.Rows.{orders_in, order_in, receivers_in};
+
+use crate::alike::Alike;
+use crate::row::Row;
+use arrayvec::ArrayVec;
+
+/// Lent: the places of one label, who may hear of it, each with the order put for him.
+#[derive(Clone, Copy)]
+pub enum Orders<'a> {
+    /// All who hear of it have one order, or none.
+    Alike(&'a Alike),
+    /// Each has his own, or none.
+    Apart(&'a Row),
+    /// Nobody hears of it: for a letter that is missing.
+    Nobody,
+}
+
+impl Orders<'_> {
+    /// The receiver's order, where there is one.
+    pub fn order(&self, receiver: u32) -> Option<u32>
+        ensures { result ≡ order_in receiver (orders_seen self.now) }
+    {
+        match self {
+            Orders::Alike(alike) => alike.order(receiver),
+            Orders::Apart(row) => row.order(receiver),
+            Orders::Nobody => None,
+        }
+    }
+
+    /// Who hears of the label, ascending.
+    pub(crate) fn receivers(&self) -> ArrayVec<u8, 13>
+        ensures { result.items ≡ receivers_in (orders_seen self.now) }
+    {
+        match self {
+            Orders::Alike(alike) => alike.receivers(),
+            Orders::Apart(row) => row.receivers(),
+            Orders::Nobody => ArrayVec::new(),
+        }
+    }
+
+    /// The orders, receiver by receiver.
+    pub(crate) fn told(&self) -> ArrayVec<Option<u32>, 13>
+        ensures { result.items ≡ orders_in (orders_seen self.now) }
+    {
+        match self {
+            Orders::Alike(alike) => alike.told(),
+            Orders::Apart(row) => row.told(),
+            Orders::Nobody => ArrayVec::new(),
+        }
+    }
+}

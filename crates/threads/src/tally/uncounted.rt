@@ -1,0 +1,37 @@
+//! A letter that is posted, and not yet counted.
+ghost use Rattle.std.specs.Prelude.{◌≡◌, ◌++◌, ◌∷◌, [], IfOk, IfErr};
+
+use crate::tally::returned::{Returned, posted};
+use letter::Letter;
+use post::{Post, Poster};
+use std::sync::Wait;
+
+/// A poster with which a letter was posted that is not yet counted: `send` alone makes one, and `Tally::posted` alone
+/// gives the poster back.
+#[derive(Drop)]
+pub(crate) struct Uncounted {
+    pub(super) poster: Poster,
+}
+
+/// Posts a letter, which is then to be counted.
+///
+/// # Errors
+///
+/// `Returned` where the post is full.
+pub(crate) fn send<R: Wait>(
+    rt: &R,
+    post: &Post,
+    poster: Poster,
+    letter: Letter,
+) -> Result<Uncounted, Returned>
+    requires post { poster.table ≡ post.now.table }
+    requires general { letter.general ≡ poster.general }
+    ensures post { IfOk result (λ uncounted. uncounted.poster.table ≡ poster.table) }
+    ensures general { IfOk result (λ uncounted. uncounted.poster.general ≡ poster.general) }
+    ensures posted { IfOk result (λ uncounted. uncounted.poster.posted ≡ poster.posted ++ letter ∷ []) }
+    ensures back { IfErr result (λ returned. returned.general ≡ letter.general) }
+{
+    let (poster, sent) = post.post(rt, poster, letter);
+    posted(sent)?;
+    Ok(Uncounted { poster })
+}
