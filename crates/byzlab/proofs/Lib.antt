@@ -1,3 +1,4 @@
 pub mod BesideLemmas
 pub mod KeptLemmas
+pub mod SeenLemmas
 pub mod UnaskedLemmas

@@ -1,14 +1,20 @@
 -- What is said where no task is served, and where a file or the output fails.
-use Rattle.std.specs.Prelude.{ℕ, ◌≡◌, ◌≢◌, ◌⊎◌, ◌++◌, List, Option, None, Some, Bool, true, codes}
+use Rattle.std.specs.Prelude.{ℕ, ◌≡◌, ◌≢◌, ◌⊎◌, ◌++◌, List, Option, None, Some, Bool, false, true, codes}
 use Rattle.clap.specs.Words.{kind_of}
 use Rattle.clap.specs.declared.error.kind.ErrorKind.{ErrorKind}
 use Rattle.clap.specs.declared.error.kind.ErrorKind.TheVariants.{DisplayHelp, DisplayVersion}
 use Rattle.std.specs.Borrow.{Bor}
 use Rattle.std.specs.Fmt.{◌++?◌}
 use Rattle.faults.specs.Reasons.{reason_text}
+use Rattle.faults.specs.declared.failure.Failure.{Failure}
+use Rattle.faults.specs.declared.failure.Failure.TheVariants.{Read}
 use Rattle.command_line.specs.Asked.{asked, words_of}
 use Rattle.command_line.specs.declared.errors.TaskError.{TaskError}
 use Rattle.command_line.specs.declared.errors.TaskError.TheVariants as task
+use Rattle.command_line.specs.declared.tasks.Request.{Request}
+use Rattle.desk.specs.Printing.{is_shaped}
+use Rattle.byzlab.specs.declared.ending.Ending.{Ending}
+use Rattle.byzlab.specs.declared.told.Said.{Said}
 use Rattle.std.specs.declared.io.ErrorKind.{ErrorKind as IoKind}
 use Rattle.std.specs.declared.io.ErrorKind.TheVariants.{OutOfMemory, InvalidData}
 
@@ -37,6 +43,21 @@ AsksNothing words = asked (words_of words) ≡ None
 abbrev pub IsStatus : ℕ → Type 0
 IsStatus status = (status ≡ 0) ⊎ ((status ≡ 1) ⊎ (status ≡ 3))
 
+-- the exit status behind a line that says that a task is not done, or behind what is told where memory was refused for
+-- the line's form
+abbrev pub status_said : Bool → ℕ
+status_said false = 1
+status_said true = 3
+
+-- unless JSON or one line is asked for, no memory is wanted for the line, and nothing is written to the output
+abbrev pub IsSaidOf : Request → Said → Type 0
+IsSaidOf request said = is_shaped request ≡ false → (said.is_lacking ≡ false) × (said.is_unwritten ≡ false)
+
+-- a request ends behind such a line
+abbrev pub IsTurnedDown : Request → Ending → Type 0
+IsTurnedDown request ending = ((ending.status ≡ 1) ⊎ (ending.status ≡ 3))
+    × (is_shaped request ≡ false → (ending.status ≡ 1) × (ending.is_unwritten ≡ false))
+
 -- lines, and behind them the sentence for an error of this kind, if one is to be told
 abbrev pub explained_text : Option (List ℕ) → Option IoKind → Option (List ℕ)
 explained_text lines None = lines
@@ -47,3 +68,8 @@ abbrev pub IsWhy : ℕ → Bool → Option IoKind → Option (List ℕ) → Type
 IsWhy status true (Some kind) why =
     ((status ≡ 1) × (why ≡ Some (reason_text kind))) ⊎ ((status ≢ 1) × (why ≡ None))
 IsWhy status _ _ why = why ≡ None
+
+-- it is told that the file of this name is not read
+abbrev pub IsUnreadable : Option (List ℕ) → Failure → Type 0
+IsUnreadable (Some name) (Read own) = own.now ≡ name
+IsUnreadable _ _ = ⊥

@@ -1,11 +1,12 @@
 -- Which file stands for a name; what an open file has is not known (own).
-use Rattle.std.specs.Prelude.{ℕ, ◌≡◌, ◌≢◌, List, [], Option, None, Some, codes, false}
+use Rattle.std.specs.Prelude.{ℕ, ◌≡◌, ◌≢◌, List, [], Option, None, Some, IfSome, codes, false}
 use Rattle.std.specs.Io.Cursor.{cursor_inner, cursor_position, cursor_remaining}
 use Rattle.chance.specs.Seeded.{seeded}
 use Rattle.command_line.specs.Tasks.{file_of, second_of, seed_of, target_of}
 use Rattle.command_line.specs.declared.tasks.Task.{Task}
 use Rattle.explore.specs.Text.{schedule_text}
-use Rattle.neighbours.specs.Seen.{reads_scenario}
+use Rattle.neighbours.specs.Seen.{Sees, reads_scenario}
+use Rattle.neighbours.specs.Story.{with_story}
 use Rattle.byzlab.specs.declared.input.Opened.{Opened}
 use Rattle.byzlab.specs.declared.input.Opened.TheVariants as input
 use Rattle.byzlab.specs.declared.target.Named.{Named}
@@ -26,10 +27,19 @@ IsInputIf None (Some input.Nothing) = Unit {0}
 IsInputIf None _ = ⊥
 IsInputIf (Some name) opened = IsInputOf name opened
 
+-- a file of this name has opened, or there is no name
+abbrev pub IsOpened : (F S : Type 0) → Option (List ℕ) → Type 0
+IsOpened F S name = (file : Opened F S) × IsInputIf name (Some file)
+
 -- a text that is read from its first byte on
 abbrev pub IsTextOf : {F S : Type 0} → List ℕ → Opened F S → Type 0
 IsTextOf bytes (input.Text text) = ((cursor_inner text).items ≡ bytes) × (cursor_position text ≡ 0)
 IsTextOf bytes _ = ⊥
+
+-- of a scenario's own bytes, where they are known, what is read of it with the files that it names, as they are known
+abbrev pub IsSeen : {F S : Type 0} → Option (List ℕ) → (List ℕ → Option (List ℕ)) → Task → Opened F S → Type 0
+IsSeen known beside task input = (own : List ℕ) × (bytes : List ℕ) × IfSome known (λ all. own ≡ all)
+    × Sees beside own bytes × IsTextOf (with_story task own bytes) input
 
 -- the random schedule of this seed; none where there is no seed
 abbrev pub IsSeededIf : {F S : Type 0} → Option ℕ → Option (Opened F S) → Type 0

@@ -1,11 +1,17 @@
 -- What is written of a file, its name, and which file or folder is told that it was not written (own).
-use Rattle.std.specs.Prelude.{ℕ, suc, ◌≡◌, ◌≢◌, ◌≤◌, ◌⊎◌, ◌++◌, List, [], ◌∷◌, Some, codes, decimal, string_bytes, ⊤}
+use Rattle.std.specs.Prelude.{ℕ, suc, ◌≡◌, ◌≢◌, ◌≤◌, ◌⊎◌, ◌++◌, List, [], ◌∷◌, Option, Result, Some, Vec, IfOk, codes, decimal, map, string_bytes, ⊤}
 use Rattle.std.specs.declared.io.ErrorKind.{ErrorKind}
 use Rattle.std.specs.declared.io.ErrorKind.TheVariants.{OutOfMemory}
+use Rattle.std.specs.Global.{Global}
 use Rattle.command_line.specs.declared.tasks.Task.{Task}
+use Rattle.command_line.specs.declared.tasks.Task.TheVariants.{Explore}
 use Rattle.command_line.specs.Tasks.{schedule_target_of, seed_of}
 use Rattle.chance.specs.Seeded.{seeded}
 use Rattle.explore.specs.Text.{schedule_text}
+use Rattle.campaign_tasks.specs.Exploring.{KeepsOrders}
+use Rattle.inputs.specs.Refusals.{RefusesScenario, RefusesText}
+use Rattle.inputs.specs.declared.refusal.Refusal.{Refusal}
+use Rattle.inputs.specs.declared.refusal.Refusal.TheVariants as refusal
 use Rattle.byzlab.specs.declared.filling.Filled.{Filled}
 use Rattle.byzlab.specs.declared.keeping.Unkept.{Unkept}
 use Rattle.byzlab.specs.declared.keeping.Unkept.TheVariants.{Memory, Unwritten}
@@ -63,3 +69,19 @@ IsScheduleIn folder count name =
 abbrev pub IsKeptIn : List ℕ → ℕ → List ℕ → Type 0
 IsKeptIn folder count name =
     (name ≡ folder) ⊎ ((name ≡ scenario_name folder) ⊎ IsScheduleIn folder count name)
+
+-- the task is an exploration of so many orders at most, which is kept in this folder
+abbrev pub KeepsIn : Task → Option ℕ → List ℕ → Type 0
+KeepsIn (Explore scenario own (Some folder)) most name = (own ≡ most) × (string_bytes folder ≡ name)
+KeepsIn _ most name = ⊥
+
+-- the text tells of the task's orders on this scenario, and it, with the schedule of each outcome that is told, was
+-- written to the task's folder, or a file was not
+abbrev pub IsExplorationKept : {O : Type 0} → Task → List ℕ → List ℕ → Result (Vec (Filled O) Global) Unkept → Type 0
+IsExplorationKept task scenario text kept = (most : Option ℕ) × (folder : List ℕ) × (schedules : List (List ℕ))
+    × KeepsIn task most folder × KeepsOrders most scenario text schedules
+    × IfOk kept (λ files. map file_of files.items ≡ kept_files folder scenario schedules)
+
+-- the scenario is refused, and not for want of memory
+abbrev pub IsUnexplored : List ℕ → Type 0
+IsUnexplored scenario = (why : Refusal) × (why ≢ refusal.Memory) × RefusesText RefusesScenario scenario why

@@ -1,21 +1,22 @@
 //! How requests come out. Only what is here makes an `Ending`: of a request that was served, of an exploration that was
 //! kept and printed, of a line that was told.
-ghost use Rattle.std.specs.Prelude.{◌≡◌, ◌≢◌, ◌⊎◌, IfErr, IfOk, IsOk, IsSomeAnd, None, Ok, codes, false, is_some, true};
+ghost use Rattle.std.specs.Prelude.{◌≡◌, ◌≢◌, ◌⊎◌, ℕ, List, IfErr, IfOk, IsOk, IsSomeAnd, None, Ok, codes, false, is_some, true};
 ghost use Rattle.std.specs.Io.KnownBytes.{Appends};
-ghost use Rattle.command_line.specs.Tasks.{schedule_target_of, seed_of};
+ghost use Rattle.command_line.specs.Tasks.{folder_of, schedule_target_of, seed_of, target_of};
 ghost use Rattle.streams.specs.Writing.{AppendsFront};
 ghost use Rattle.lab.specs.Serving.{IsFault, Tells, files};
 ghost use Rattle.desk.specs.Printing.{is_shaped};
 ghost use Rattle.desk.specs.Serving.{IsAnswerUnwritten, IsPrevented, IsRefusalShown, IsShown};
-ghost use Rattle.byzlab.specs.Failures.{IsStatus, failure_of};
-ghost use Rattle.byzlab.specs.Files.{IsServedFor};
-ghost use Rattle.byzlab.specs.Kept.{IsScheduleKept};
+ghost use Rattle.byzlab.specs.Failures.{IsStatus, IsTurnedDown, failure_of};
+ghost use Rattle.byzlab.specs.Files.{IsServedFor, IsTargetOf, IsTextOf};
+ghost use Rattle.byzlab.specs.Kept.{IsExplorationKept, IsScheduleKept, IsUnexplored};
 
 use crate::filling::Filled;
 use crate::input::Input;
 use crate::keeping::Unkept;
 use crate::target::Target;
-use crate::telling::{Said, tell_unkept, turn_down};
+use crate::telling::{tell_unkept, turn_down};
+use crate::told::Said;
 use crate::watched::Watched;
 use command_line::Request;
 use desk::serve;
@@ -39,6 +40,7 @@ pub struct Ending {
 
 impl Ending {
     ghost use Rattle.std.specs.Prelude.{◌≡◌, false};
+    ghost use Rattle.byzlab.specs.Failures.{IsStatus, status_said};
 
     /// With this status, and an output that did not fail.
     fn with(status: u8) -> Ending
@@ -52,11 +54,15 @@ impl Ending {
     }
 
     /// Of a request of which it was said that it is not done.
-    pub fn refused(_said: Said) -> Ending
-        ensures status { result.status ≡ 1 }
-        ensures written { result.is_unwritten ≡ false }
+    pub fn refused(said: Said) -> Ending
+        ensures status { result.status ≡ status_said said.is_lacking }
+        ensures either { IsStatus result.status }
+        ensures unwritten { result.is_unwritten ≡ said.is_unwritten }
     {
-        Ending::with(1)
+        Ending {
+            status: said.status(),
+            is_unwritten: said.is_unwritten(),
+        }
     }
 
     /// The exit status.
@@ -165,11 +171,22 @@ impl<'a, R: Source, W: Write + Drop> Served<'a, R, W> {
 }
 
 impl<'a> Served<'a, Input<'a>, Target<'a>> {
-    /// How it came out, where no schedule is to be written.
+    /// How it came out, where no schedule is to be written, and no exploration to be kept.
     pub fn alone(self) -> Ending
+        requires unkept { folder_of self.request.now.task ≡ None }
         requires its_own { IsServedFor self.request.now.task self.first.value self.second.value self.target.value.stream }
         requires unscheduled { (schedule_target_of self.request.now.task ≡ None)
             ⊎ ((seed_of self.request.now.task ≡ None) ⊎ (self.ending.status ≢ 0)) }
+        ensures { result ≡ self.entry.ending }
+    {
+        let Served { ending, .. } = self;
+        ending
+    }
+
+    /// How it came out, where no exploration is kept since its scenario is refused.
+    pub fn unexplored(self) -> Ending
+        requires refused { (scenario : List ℕ) × IsTextOf scenario self.first.value × IsUnexplored scenario }
+        requires its_own { IsServedFor self.request.now.task self.first.value self.second.value self.target.value.stream }
         ensures { result ≡ self.entry.ending }
     {
         let Served { ending, .. } = self;
@@ -185,7 +202,7 @@ impl<'a> Served<'a, Input<'a>, Target<'a>> {
         requires its_own { IsServedFor self.request.now.task self.first.value self.second.value self.target.value.stream }
         requires written { IfOk written (IsScheduleKept self.request.now.task) }
         ensures kept { IfOk written.entry (λ _. result ≡ Ok self.entry.ending) }
-        ensures unkept { IfErr written.entry (λ _. IfOk result (λ ending. ending.status ≡ 1)) }
+        ensures unkept { IfErr written.entry (λ _. IfOk result (IsTurnedDown self.entry.request.now)) }
     {
         let Served {
             request,
@@ -199,31 +216,77 @@ impl<'a> Served<'a, Input<'a>, Target<'a>> {
     }
 }
 
-/// Prints this text where its files are kept, and else says that they are not.
-pub fn kept_and_printed<O: Output>(
-    rt: &HostRuntime,
-    request: &Request,
-    kept: Result<Vec<Filled<'_, File>>, Unkept>,
-    text: &str,
-    out: &mut O,
-) -> Result<Ending, AllocError>
-    ensures status { IfOk result (λ ending. IsStatus ending.status) }
-    ensures kept { IfOk result (λ ending. ending.status ≡ 0 → IsOk kept.entry) }
-    ensures printed { IfOk result
-        (λ ending. ending.status ≡ 0 → Appends (O.contents out.old) (O.contents out.new) text.now) }
-    ensures unwritten { IfOk result (λ ending. ending.is_unwritten ≡ true → O.fails out.old) }
+/// An exploration that was kept and printed, or of which it was said that it was not: `Printed::of` alone makes one.
+/// With where it was printed, proofs see: that takes no bytes.
+#[derive(Drop)]
+pub struct Printed<'a, O> {
+    request: &'a Request,
+    target: Snapshot<O>,
+    ending: Ending,
+}
+
+impl<'a, O: Output> Printed<'a, O> {
+    /// Prints this text of the exploration of this scenario where its files are kept, and else says that they are not.
+    pub fn of(
+        rt: &HostRuntime,
+        request: &'a Request,
+        scenario: &[u8],
+        kept: Result<Vec<Filled<'_, File>>, Unkept>,
+        text: &str,
+        out: &mut O,
+    ) -> Result<Printed<'a, O>, AllocError>
+        requires { IsExplorationKept request.now.task scenario.now text.now kept }
+        ensures request { IfOk result (λ done. done.request ≡ request.entry) }
+        ensures target { IfOk result (λ done. done.target.value ≡ out.old) }
+        ensures status { IfOk result (λ done. IsStatus done.ending.status) }
+        ensures kept { IfOk result (λ done. done.ending.status ≡ 0 → IsOk kept.entry) }
+        ensures unkept { IfErr kept.entry (λ _. out.new ≡ out.old) }
+        ensures printed { IfOk result
+            (λ done. done.ending.status ≡ 0 → Appends (O.contents out.old) (O.contents out.new) text.now) }
+        ensures unwritten { IfOk kept.entry (λ _. IfOk result
+            (λ done. done.ending.is_unwritten ≡ true → (done.ending.status ≢ 0) × O.fails out.old)) }
+        ensures written { IfOk kept.entry (λ _. IfOk result
+            (λ done. done.ending.is_unwritten ≡ false → done.ending.status ≡ 0)) }
+    {
+        let target = Snapshot::of(&*out);
+        let ending = match kept {
+            Ok(_files) => put_text(rt, request, text, out),
+            Err(unkept) => Ending::refused(tell_unkept(rt, request, unkept)?),
+        };
+        Ok(Printed {
+            request,
+            target,
+            ending,
+        })
+    }
+}
+
+impl<'a> Printed<'a, Target<'a>> {
+    /// How it came out.
+    pub fn ending(self) -> Ending
+        requires its_own { IsTargetOf (target_of self.request.now.task) self.target.value }
+        ensures { result ≡ self.entry.ending }
+    {
+        let Printed { ending, .. } = self;
+        ending
+    }
+}
+
+/// Prints this text, or says that the output failed.
+fn put_text<O: Output>(rt: &HostRuntime, request: &Request, text: &str, out: &mut O) -> Ending
+    ensures status { IsStatus result.status }
+    ensures printed { result.status ≡ 0 → Appends (O.contents out.old) (O.contents out.new) text.now }
+    ensures unwritten { result.is_unwritten ≡ true → (result.status ≢ 0) × O.fails out.old }
+    ensures written { result.is_unwritten ≡ false → result.status ≡ 0 }
 {
-    if let Err(unkept) = kept {
-        return Ok(Ending::refused(tell_unkept(rt, request, unkept)?));
+    if out.put(text.as_bytes()).is_ok() {
+        return Ending::with(0);
     }
-    if out.put(text.as_bytes()).is_err() {
-        turn_down(rt, request, Failure::Write)?;
-        return Ok(Ending {
-            status: 1,
-            is_unwritten: true,
-        });
+    let said = turn_down(rt, request, Failure::Write).said();
+    Ending {
+        status: said.status(),
+        is_unwritten: true,
     }
-    Ok(Ending::with(0))
 }
 
 /// Says why nothing more is done. The result is the exit status.

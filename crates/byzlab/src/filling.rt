@@ -1,6 +1,7 @@
 //! Bytes that are written whole.
-ghost use Rattle.std.specs.Prelude.{IfOk, OnOk};
+ghost use Rattle.std.specs.Prelude.{IfOk, OnErr, OnOk};
 ghost use Rattle.std.specs.Io.KnownBytes.{Appends};
+ghost use Rattle.streams.specs.Writing.{AppendsFront};
 ghost use Rattle.byzlab.specs.Kept.{IsFilledBy};
 
 use std::alloc::Global;
@@ -28,6 +29,7 @@ pub fn fill<'a, O: Output>(
     bytes: &'a [u8],
 ) -> io::Result<Filled<'a, O>>
     ensures whole { OnOk result (Appends (O.contents file.old) (O.contents file.new) bytes.now) }
+    ensures begun { OnErr result (AppendsFront (O.contents file.old) (O.contents file.new) bytes.now) }
     ensures told { IfOk result (IsFilledBy name.now bytes.now) }
 {
     let name = String::from_str(alloc, name)?;

@@ -12,37 +12,42 @@ mod keeping;
 mod progress;
 mod target;
 mod telling;
+mod told;
 mod watched;
 
-ghost use Rattle.std.specs.Prelude.{◌≡◌, ◌≢◌, ◌≤◌, ◌⊎◌, ◌↔◌, Any, Ok, IfOk, IfErr, IfSome, IsErr, None, Some, false, length, option_map, true};
+ghost use Rattle.std.specs.Prelude.{◌≡◌, ◌≢◌, ◌≤◌, ◌⊎◌, ◌↔◌, Any, Ok, IfOk, IfErr, IfNone, IfSome, IsErr, IsUtf8, None, Some, false, length, option_map, true};
 ghost use Rattle.std.specs.Result.{result_ok};
-ghost use Rattle.command_line.specs.Tasks.{file_of, schedule_target_of, second_of, seed_of, target_of};
+ghost use Rattle.command_line.specs.Tasks.{file_of, folder_of, schedule_target_of, second_of, seed_of, target_of};
 ghost use Rattle.neighbours.specs.Seen.{reads_scenario};
 ghost use Rattle.neighbours.specs.Story.{with_story};
 ghost use Rattle.faults.specs.declared.failure.Failure.TheVariants.{Read as unreadable};
-ghost use Rattle.byzlab.specs.Files.{IsInputIf, IsSecondIf, IsSeededIf, IsServedFor, IsTargetOf, IsTextOf};
-ghost use Rattle.byzlab.specs.Failures.{AsksNothing, IsStatus, IsUnasked};
+ghost use Rattle.own_lines.specs.Refused.{IsTold};
+ghost use Rattle.byzlab.specs.Files.{IsInputIf, IsOpened, IsSecondIf, IsSeededIf, IsSeen, IsServedFor, IsTargetOf, IsTextOf};
+ghost use Rattle.byzlab.specs.Kept.{IsUnexplored, KeepsIn};
+ghost use Rattle.byzlab.specs.Failures.{AsksNothing, IsStatus, IsUnasked, IsUnreadable};
 
 use chance::seeded;
 use command_line::{Request, Task, TaskError, each};
-use ending::{Ending, Served, kept_and_printed, lacking, settled};
+use ending::{Ending, Printed, Served, lacking, settled};
 use endings::Endings;
 use failures::why_unwritten;
 use folder::FolderOf;
 use input::{Input, Opened};
 use keeping::{keep, write_whole};
 use lab::{Refusal, with_schedules};
-use neighbours::{Untaken, reads_scenario, with_files, with_story};
+use neighbours::{Folder, Untaken, reads_scenario, with_files, with_story};
 use own_lines::refused;
 use progress::Progress;
 use std::alloc::AllocError;
 use std::env;
-use std::io::{self, Cursor, ErrorKind, Read};
+use std::fs::File;
+use std::io::{self, Cursor, ErrorKind, Read, Stdin};
 use std::process::ExitCode;
 use std::sync::Wait;
 use std::thread::Threads;
 use target::{Target, target_of};
-use telling::{Said, Unread, tell_unread, tell_untaken, turn_down};
+use telling::{Unread, tell_unread, tell_untaken, turn_down};
+use told::Said;
 use watched::Watched;
 
 fn main(rt: HostRuntime) -> ExitCode {
@@ -141,7 +146,7 @@ fn answered<'a, T: Threads + Wait + Sync>(
         None => {
             let first = Opened::Text(Cursor::new(bytes));
             let done = served(rt, threads, request, first, second);
-            schedule_written(rt, request, done)
+            Ok(done.unexplored())
         }
     }
 }
@@ -155,13 +160,16 @@ fn explored(
     most: Option<u64>,
     folder: &str,
 ) -> Result<Option<Ending>, AllocError>
+    requires { KeepsIn request.now.task most folder.now }
     ensures status { IfOk result (λ done. IfSome done (λ ending. IsStatus ending.status)) }
+    ensures refused { IfOk result (λ done. IfNone done (IsUnexplored scenario.now)) }
 {
     match with_schedules(rt.alloc(), scenario, most) {
         Ok((text, schedules)) => {
             let kept = keep(rt, folder, scenario, schedules.as_slice());
-            let ending = kept_and_printed(rt, request, kept, text.as_str(), &mut rt.stdout())?;
-            Ok(Some(ending))
+            let mut target = target_of(rt, request.task.target());
+            let printed = Printed::of(rt, request, scenario, kept, text.as_str(), &mut target)?;
+            Ok(Some(printed.ending()))
         }
         Err(refusal) => unexplored(refusal),
     }
@@ -171,6 +179,7 @@ fn explored(
 fn unexplored(refusal: Refusal) -> Result<Option<Ending>, AllocError>
     ensures none { IfOk result (λ ending. ending ≡ None) }
     ensures memory { IsErr result ↔ (refusal ≡ Refusal.Memory) }
+    ensures refused { IfOk result (λ _. refusal ≢ Refusal.Memory) }
 {
     match refusal {
         Refusal::Memory => Err(AllocError),
@@ -217,6 +226,7 @@ fn schedule_written<'a>(
     done: Served<'a, Input<'a>, Target<'a>>,
 ) -> Result<Ending, AllocError>
     requires request { done.request.now ≡ request.now }
+    requires unkept { folder_of request.now.task ≡ None }
     requires its_own { IsServedFor request.now.task done.first.value done.second.value done.target.value.stream }
     ensures status { IsStatus done.entry.ending.status → IfOk result (λ ending. IsStatus ending.status) }
     ensures unasked { schedule_target_of request.now.task ≡ None → result ≡ Ok done.entry.ending }
@@ -241,6 +251,9 @@ fn files<'a>(
     ensures first { IfOk result (λ files. IfOk files (λ f. IsInputIf (file_of request.now.task) (Some f.0))) }
     ensures second { IfOk result
         (λ files. IfOk files (λ f. IsSecondIf (second_of request.now.task) (seed_of request.now.task) f.1)) }
+    ensures line { IfOk result (λ files. IfErr files (λ told. IsUnreadable (file_of request.now.task) told.line.lines
+        ⊎ (IsOpened File Stdin (file_of request.now.task)
+        × IsUnreadable (second_of request.now.task) told.line.lines))) }
 {
     let first = match opened(rt, request, request.task.file())? {
         Ok(file) => file,
@@ -296,21 +309,39 @@ fn completed<'a>(
     first: Input<'a>,
 ) -> Result<Result<Input<'a>, Said>, AllocError>
     ensures other { reads_scenario request.now.task ≡ false → result ≡ Ok (Ok first.entry) }
+    ensures seen { reads_scenario request.now.task ≡ true → IfSome (file_of request.now.task) (λ _. IfOk result
+        (λ input. IfOk input (IsSeen None (λ _. None) request.now.task))) }
 {
-    let name = match request.task.file() {
-        Some(name) if reads_scenario(&request.task) => name,
-        _ => return Ok(Ok(first)),
-    };
-    let bytes = match read(rt, request, name, first)? {
+    match request.task.file() {
+        Some(name) if reads_scenario(&request.task) => {
+            let folder = FolderOf { rt, scenario: name };
+            seen(rt, request, name, first, &folder)
+        }
+        _ => Ok(Ok(first)),
+    }
+}
+
+/// A scenario that is read from this file, with the files of the folder that it names; or that a line was told, where
+/// one of them is not taken.
+fn seen<'a, R: Read + Drop, D: Folder>(
+    rt: &HostRuntime,
+    request: &Request,
+    name: &str,
+    file: R,
+    folder: &D,
+) -> Result<Result<Input<'a>, Said>, AllocError>
+    ensures { IfOk result
+        (λ input. IfOk input (IsSeen (R.remaining file) (D.bytes folder.now) request.now.task)) }
+{
+    let bytes = match read(rt, request, name, file)? {
         Ok(bytes) => bytes,
         Err(told) => return Ok(Err(told.said())),
     };
-    let folder = FolderOf { rt, scenario: name };
     let own = bytes.clone()?;
-    match with_files(rt.alloc(), bytes, &folder) {
+    match with_files(rt.alloc(), bytes, folder) {
         Ok(bytes) => made(rt, request, own.as_slice(), bytes),
         Err(Untaken::Told { lines, kind }) => {
-            Ok(Err(tell_untaken(rt, request, lines.as_str(), kind)?))
+            Ok(Err(tell_untaken(rt, request, lines.as_str(), kind)))
         }
         Err(Untaken::Memory) => Err(AllocError),
     }
@@ -325,9 +356,12 @@ fn made<'a>(
     bytes: Vec<u8>,
 ) -> Result<Result<Input<'a>, Said>, AllocError>
     ensures text { IfOk result (λ input. IfOk input (IsTextOf (with_story request.now.task own.now bytes.items))) }
+    ensures taken { IfOk result (λ input. IfOk input (λ _.
+        own.now ≢ bytes.items → IsUtf8 own.now → IsUtf8 bytes.items →
+        IsTold request.now.task own.now bytes.items None)) }
 {
     if let Some(lines) = refused(rt.alloc(), &request.task, own, bytes.as_slice())? {
-        return Ok(Err(turn_down(rt, request, lines.as_str())?.said()));
+        return Ok(Err(turn_down(rt, request, lines.as_str()).said()));
     }
     let text = with_story(rt.alloc(), &request.task, own, bytes)?;
     Ok(Ok(Opened::Text(Cursor::new(text))))
@@ -361,6 +395,8 @@ fn opened<'a>(
     ensures input { IfOk result (λ input. IsInputIf (option_map (λ n. n.now) name.entry) (result_ok input)) }
     ensures line { IfOk result
         (λ input. IfErr input (λ told. option_map unreadable name.entry ≡ Some told.line.lines)) }
+    ensures name { IfOk result (λ input. IfErr input
+        (λ told. IsUnreadable (option_map (λ n. n.now) name.entry) told.line.lines)) }
 {
     let Some(name) = name else {
         return Ok(Ok(Opened::Nothing));

@@ -1,4 +1,6 @@
 //! How far a call with several files is.
+ghost use Rattle.std.specs.Prelude.{◌≡◌, ◌≤◌, IsOk, None};
+
 use std::io::{self, IsTerminal, Write};
 use std::time::Instant;
 
@@ -17,7 +19,10 @@ pub struct Progress<'a> {
 
 impl<'a> Progress<'a> {
     /// Of so many files.
-    pub fn of(rt: &'a HostRuntime, all: usize) -> Progress<'a> {
+    pub fn of(rt: &'a HostRuntime, all: usize) -> Progress<'a>
+        ensures all { result.all ≡ all }
+        ensures alone { all ≤ 1 → result.start ≡ None }
+    {
         let is_watched = 1 < all && rt.stderr().is_terminal();
         let start = if is_watched {
             Instant::now(rt).ok()
@@ -32,7 +37,9 @@ impl<'a> Progress<'a> {
     /// # Errors
     ///
     /// The clock cannot be read, or standard error not be written.
-    pub fn clear(&self) -> io::Result<()> {
+    pub fn clear(&self) -> io::Result<()>
+        ensures { self.now.start ≡ None → IsOk result }
+    {
         let Some(start) = self.start else {
             return Ok(());
         };
@@ -49,7 +56,9 @@ impl<'a> Progress<'a> {
     /// # Errors
     ///
     /// The clock cannot be read, or standard error not be written.
-    pub fn tell(&self, done: usize) -> io::Result<()> {
+    pub fn tell(&self, done: usize) -> io::Result<()>
+        ensures { self.now.start ≡ None → IsOk result }
+    {
         let Some(start) = self.start else {
             return Ok(());
         };

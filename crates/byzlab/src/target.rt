@@ -1,4 +1,4 @@
-ghost use Rattle.std.specs.Prelude.{◌≡◌, IfErr, IfOk, option_map};
+ghost use Rattle.std.specs.Prelude.{◌≡◌, ◌⊎◌, IfErr, IfOk, option_map};
 ghost use Rattle.std.specs.Io.{WritesAtMost};
 ghost use Rattle.std.specs.Io.KnownBytes.{Keeps, WriteAppends};
 ghost use Rattle.byzlab.specs.Files.{IsMadeOf, IsPlaceOf, IsTargetOf, contents_of};
@@ -92,6 +92,7 @@ impl<S: Write + Drop, U: Unmade> Write for Place<S, U> {
         ensures bytes { WriteAppends (contents_of S.contents U.contents U.Made.contents self.old)
             (contents_of S.contents U.contents U.Made.contents self.new) result buf.now }
         ensures place { IfOk result (λ _. IsPlaceOf self.old self.new) }
+        ensures failed { IfErr result (λ _. (self.new ≡ self.old) ⊎ IsPlaceOf self.old self.new) }
     {
         self.make()?;
         match self {
@@ -105,6 +106,7 @@ impl<S: Write + Drop, U: Unmade> Write for Place<S, U> {
         ensures bytes { Keeps (contents_of S.contents U.contents U.Made.contents self.old)
             (contents_of S.contents U.contents U.Made.contents self.new) }
         ensures place { IfOk result (λ _. IsPlaceOf self.old self.new) }
+        ensures failed { IfErr result (λ _. (self.new ≡ self.old) ⊎ IsPlaceOf self.old self.new) }
     {
         self.make()?;
         match self {
