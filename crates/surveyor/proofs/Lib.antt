@@ -4,3 +4,4 @@ mod SumLemmas
 mod CoverLemmas
 mod BrokenLemmas
 mod NumberLemmas
+mod FaultLemmas

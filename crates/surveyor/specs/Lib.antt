@@ -4,4 +4,6 @@ pub mod Words
 pub mod Printed
 pub mod Summed
 pub mod Broken
+pub mod Faults
+pub mod Ends
 pub mod Statuses

@@ -1,9 +1,11 @@
 //! The least of all campaigns in which agreement is broken.
-ghost use Rattle.std.specs.Prelude.{◌≡◌, ◌+◌, List, ℕ, IfOk, OnOk, length, option_map, string_bytes};
+ghost use Rattle.std.specs.Prelude.{◌≡◌, ◌+◌, List, ℕ, IfErr, IfOk, OnOk, is_some, length, option_map, string_bytes};
 ghost use Rattle.std.specs.Io.KnownBytes.{Appends};
-ghost use Rattle.shrink.specs.Breaches.{IsLeastBreach};
+ghost use Rattle.shrink.specs.Breaches.{IsLeastBreach, IsRefusedIn};
 ghost use Rattle.survey.specs.Plotting.{plot_of};
 ghost use Rattle.surveyor.specs.Asked.{IsSurvey};
+ghost use Rattle.surveyor.specs.Ends.{IsStopped};
+ghost use Rattle.surveyor.specs.Faults.{IsKeptIn};
 ghost use Rattle.surveyor.specs.Printed.{IsShrunken, least_head, least_text};
 
 use crate::asked::Survey;
@@ -24,6 +26,7 @@ use survey::{Family, Plot, plot_text};
 /// # Errors
 ///
 /// What keeps it from its end.
+#[tactic(auto, using(crate::proofs::FaultLemmas::stopped_printing, crate::proofs::FaultLemmas::stopped_by_memory))]
 pub fn shrunken<T: Threads + Sync, O: Output>(
     rt: &HostRuntime,
     threads: &T,
@@ -32,14 +35,16 @@ pub fn shrunken<T: Threads + Sync, O: Output>(
     family: &Family,
 ) -> Result<(), Fault>
     requires { IsSurvey asked.now }
-    ensures { OnOk result ((text : List ℕ) × IsShrunken asked.now family.now text
+    ensures printed { OnOk result ((text : List ℕ) × IsShrunken asked.now family.now text
         × Appends (O.contents out.old) (O.contents out.new) text) }
+    ensures stopped { IfErr result (IsStopped asked.now (IsRefusedIn (plot_of family.now))) }
 {
     let least = least_left(rt, threads, asked, family)?;
     print(out, least_text(rt.alloc(), least.as_ref())?.as_str())
 }
 
 /// The least of what is left of the seeds' campaigns; none where none is broken.
+#[tactic(auto, using(crate::proofs::FaultLemmas::stopped_keeping, crate::proofs::FaultLemmas::stopped_by_memory, crate::proofs::FaultLemmas::stopped_campaign))]
 fn least_left<T: Threads + Sync>(
     rt: &HostRuntime,
     threads: &T,
@@ -47,7 +52,8 @@ fn least_left<T: Threads + Sync>(
     family: &Family,
 ) -> Result<Option<Breach>, Fault>
     requires { IsSurvey asked.now }
-    ensures { IfOk result (IsLeastBreach (plot_of family.now) asked.now.first (asked.now.last + 1)) }
+    ensures least { IfOk result (IsLeastBreach (plot_of family.now) asked.now.first (asked.now.last + 1)) }
+    ensures stopped { IfErr result (IsStopped asked.now (IsRefusedIn (plot_of family.now))) }
 {
     let alloc = rt.alloc();
     let end = asked.last + 1;
@@ -71,7 +77,10 @@ fn least_left<T: Threads + Sync>(
 }
 
 /// Keeps what is left of campaigns, where a folder is named. The result is how many there are.
-fn kept(rt: &HostRuntime, asked: &Survey, found: &[Option<Breach>]) -> Result<u64, Fault> {
+#[tactic(auto, using(crate::proofs::FaultLemmas::kept_in, crate::proofs::FaultLemmas::kept_by_memory))]
+fn kept(rt: &HostRuntime, asked: &Survey, found: &[Option<Breach>]) -> Result<u64, Fault>
+    ensures { IfErr result (IsKeptIn (is_some asked.now.keep)) }
+{
     let mut broken: u64 = 0;
     for breach in found {
         if let Some(breach) = breach {
