@@ -241,6 +241,7 @@ impl<'a, O: Output> Printed<'a, O> {
         ensures status { IfOk result (λ done. IsStatus done.ending.status) }
         ensures kept { IfOk result (λ done. done.ending.status ≡ 0 → IsOk kept.entry) }
         ensures unkept { IfErr kept.entry (λ _. out.new ≡ out.old) }
+        ensures told { IfErr kept.entry (λ _. IfOk result (λ done. IsTurnedDown request.entry.now done.ending)) }
         ensures printed { IfOk result
             (λ done. done.ending.status ≡ 0 → Appends (O.contents out.old) (O.contents out.new) text.now) }
         ensures unwritten { IfOk kept.entry (λ _. IfOk result
