@@ -49,9 +49,11 @@ abbrev pub status_said : Bool → ℕ
 status_said false = 1
 status_said true = 3
 
--- unless JSON or one line is asked for, no memory is wanted for the line, and nothing is written to the output
+-- unless JSON or one line is asked for, no memory is wanted for the line, and nothing is written to the output; nor
+-- where memory is wanted
 abbrev pub IsSaidOf : Request → Said → Type 0
-IsSaidOf request said = is_shaped request ≡ false → (said.is_lacking ≡ false) × (said.is_unwritten ≡ false)
+IsSaidOf request said = (is_shaped request ≡ false → (said.is_lacking ≡ false) × (said.is_unwritten ≡ false))
+    × (said.is_lacking ≡ true → said.is_unwritten ≡ false)
 
 -- a request ends behind such a line
 abbrev pub IsTurnedDown : Request → Ending → Type 0

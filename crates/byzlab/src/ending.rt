@@ -203,6 +203,7 @@ impl<'a> Served<'a, Input<'a>, Target<'a>> {
         requires written { IfOk written (IsScheduleKept self.request.now.task) }
         ensures kept { IfOk written.entry (λ _. result ≡ Ok self.entry.ending) }
         ensures unkept { IfErr written.entry (λ _. IfOk result (IsTurnedDown self.entry.request.now)) }
+        ensures memory { IfErr written.entry (λ unkept. unkept ≢ Unkept.Memory → IsOk result) }
     {
         let Served {
             request,
@@ -241,6 +242,8 @@ impl<'a, O: Output> Printed<'a, O> {
         ensures status { IfOk result (λ done. IsStatus done.ending.status) }
         ensures kept { IfOk result (λ done. done.ending.status ≡ 0 → IsOk kept.entry) }
         ensures unkept { IfErr kept.entry (λ _. out.new ≡ out.old) }
+        ensures told { IfErr kept.entry (λ _. IfOk result (λ done. IsTurnedDown request.entry.now done.ending)) }
+        ensures memory { IfErr kept.entry (λ unkept. unkept ≢ Unkept.Memory → IsOk result) }
         ensures printed { IfOk result
             (λ done. done.ending.status ≡ 0 → Appends (O.contents out.old) (O.contents out.new) text.now) }
         ensures unwritten { IfOk kept.entry (λ _. IfOk result
