@@ -3,3 +3,5 @@ mod LeastLemmas
 mod SumLemmas
 mod CoverLemmas
 mod BrokenLemmas
+mod NumberLemmas
+mod FlagLemmas

@@ -1,5 +1,5 @@
 -- A word tells two numbers in one way at most.
-use Rattle.std.proofs.Common.{ℕ, ◌+◌, ◌*◌, ◌≤◌, ◌<◌, ◌≡◌, ◌≢◌, inl, inr, List, [], ◌∷◌, ◌++◌, refl, sym, ap, ◌∙◌, Option, None, Some, codes, cond, true, false, Bool, nat_eq}
+use Rattle.std.proofs.Common.{ℕ, ◌+◌, ◌*◌, ◌≤◌, ◌<◌, ◌≡◌, ◌≢◌, inl, inr, List, [], ◌∷◌, ◌++◌, refl, sym, ap, ◌∙◌, Option, None, Some, codes, cond, true, false, Bool, nat_eq, append_assoc, subst}
 use Rattle.text.specs.Number.{capped, decimal_of, digit_in, digits_on}
 use Rattle.text.specs.Options.{◌>>=◌}
 use Rattle.surveyor.specs.Numbers.{AreTold, IsNoSpan, IsSpread, IsTold}
@@ -59,16 +59,26 @@ both_told front back lo hi low high told e =
 -- what a word tells whose parts are these
 pub parted : (word lo hi : List ℕ) (low high : ℕ) → word ≡ lo ++ (codes ".." ++ hi) → IsTold word low high → AreTold lo hi low high
 parted word lo hi low high whole (inl told) = absurd (no_dot lo (46 ∷ hi) (subst Dotless whole (number_dotless word low told.0)))
-parted word lo hi low high whole (inr told) = both_told told.front told.back lo hi low high told.told (sym (spread told) ∙ whole)
-  where
-    spread : (t : IsSpread word low high) → word ≡ t.front ++ 46 ∷ 46 ∷ t.back
-    spread t = t.whole ∙ two t.front t.back
-      where
-        two : (front back : List ℕ) → front ++ codes ".." ++ back ≡ front ++ 46 ∷ 46 ∷ back
-        two [] back = refl
-        two (x ∷ front) back = ap (λ (l : List ℕ). x ∷ l) (two front back)
+parted word lo hi low high whole (inr told) =
+    both_told told.front told.back lo hi low high told.told (sym (append_assoc told.front (codes "..") told.back) ∙ (sym told.whole ∙ whole))
 
 -- what a word tells that has none
 pub whole : (word : List ℕ) (low high : ℕ) → ((xs ys : List ℕ) → word ≢ xs ++ (codes ".." ++ ys)) → IsTold word low high → AreTold word word low high
 whole word low high none (inl told) = told
-whole word low high none (inr told) = absurd (none told.front told.back told.whole)
+whole word low high none (inr told) = absurd (none told.front told.back (told.whole ∙ append_assoc told.front (codes "..") told.back))
+
+both_once : (front back : List ℕ) (a b c d : ℕ) → AreTold front back a b → AreTold front back c d → (a ≡ c) × (b ≡ d)
+both_once front back a b c d one other =
+    let low : Some a ≡ Some c = sym one.0 ∙ other.0 in
+    let high : Some b ≡ Some d = sym one.1 ∙ other.1 in
+    (cc, cc)
+
+told_once_spread : (word : List ℕ) (a b c d : ℕ) → IsSpread word a b → IsTold word c d → (a ≡ c) × (b ≡ d)
+told_once_spread word a b c d one other =
+    both_once one.front one.back a b c d one.told (parted word one.front one.back c d (one.whole ∙ append_assoc one.front (codes "..") one.back) other)
+
+pub told_once : (word : List ℕ) (a b c d : ℕ) → IsTold word a b → IsTold word c d → (a ≡ c) × (b ≡ d)
+told_once word a b c d (inl one) (inl other) = both_once word word a b c d one other
+told_once word a b c d (inl one) (inr other) =
+    let same = told_once_spread word c d a b other (inl one) in (sym same.0, sym same.1)
+told_once word a b c d (inr one) other = told_once_spread word a b c d one other

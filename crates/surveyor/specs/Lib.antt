@@ -1,7 +1,10 @@
 pub mod Numbers
 pub mod Asked
 pub mod Words
+pub mod Flags
+pub mod Meant
 pub mod Printed
 pub mod Summed
 pub mod Broken
+pub mod Faults
 pub mod Statuses

@@ -1,10 +1,11 @@
 //! What breaks agreement, for each number of generals and each bound.
-ghost use Rattle.std.specs.Prelude.{◌≡◌, ◌≤◌, ◌+◌, ◌-◌, min, Option, IfOk, OnOk};
+ghost use Rattle.std.specs.Prelude.{◌≡◌, ◌≤◌, ◌+◌, ◌-◌, min, Option, IfErr, IfOk, OnOk};
 ghost use Rattle.std.specs.Io.KnownBytes.{Appends};
 ghost use Rattle.shrink.specs.declared.breach.Breaking.{Breaking as Found};
 ghost use Rattle.survey_tables.specs.Breakings.{breaking_text};
 ghost use Rattle.surveyor.specs.Asked.{IsSurvey};
 ghost use Rattle.surveyor.specs.Broken.{IsBreakAnswered, IsBroken, IsSearched, break_header, cut_to, gap};
+ghost use Rattle.surveyor.specs.Faults.{IsSearchRefused, IsStopped, IsUnended};
 
 use crate::asked::Survey;
 use crate::family::family_of;
@@ -31,7 +32,8 @@ pub fn broken<T: Threads + Sync, O: Output>(
     is_table: bool,
 ) -> Result<(), Fault>
     requires { IsSurvey asked.now }
-    ensures { OnOk result (IsBreakAnswered asked.now is_table (O.contents out.old) (O.contents out.new)) }
+    ensures answered { OnOk result (IsBreakAnswered asked.now is_table (O.contents out.old) (O.contents out.new)) }
+    ensures refused { IfErr result (IsUnended asked.now (IsSearchRefused asked.now)) }
 {
     let family = family_of(rt, asked)?;
     put_entries(rt, threads, out, asked, &family, is_table)
@@ -47,7 +49,8 @@ fn put_entries<T: Threads + Sync, O: Output>(
     is_table: bool,
 ) -> Result<(), Fault>
     requires { IsSurvey asked.now }
-    ensures { OnOk result (IsBroken asked.now family.now is_table (O.contents out.old) (O.contents out.new)) }
+    ensures broken { OnOk result (IsBroken asked.now family.now is_table (O.contents out.old) (O.contents out.new)) }
+    ensures stopped { IfErr result (IsStopped asked.now (IsSearchRefused asked.now family.now)) }
 {
     print(out, break_header(is_table))?;
     let mut is_first = true;
@@ -102,8 +105,9 @@ fn put_entry<T: Threads + Sync, O: Output>(
     requires asked { IsSurvey asked.now }
     requires least { 2 ≤ generals }
     requires most { generals ≤ 13 }
-    ensures { OnOk result ((found : Option Found) × IsSearched asked.now family.now generals bound found
+    ensures entry { OnOk result ((found : Option Found) × IsSearched asked.now family.now generals bound found
         × Appends (O.contents out.old) (O.contents out.new) (breaking_text is_table generals bound found)) }
+    ensures stopped { IfErr result (IsStopped asked.now (IsSearchRefused asked.now family.now)) }
 {
     let found = searched(rt, threads, asked, family, generals, bound)?;
     let text = breaking_text(rt.alloc(), is_table, generals, bound, found.as_ref())?;
@@ -122,7 +126,8 @@ fn searched<T: Threads + Sync>(
     requires asked { IsSurvey asked.now }
     requires least { 2 ≤ generals }
     requires most { generals ≤ 13 }
-    ensures { IfOk result (IsSearched asked.now family.now generals bound) }
+    ensures searched { IfOk result (IsSearched asked.now family.now generals bound) }
+    ensures stopped { IfErr result (IsStopped asked.now (IsSearchRefused asked.now family.now)) }
 {
     let (first, end) = (asked.first, asked.last + 1);
     let traitors = cut_to(generals, asked.traitors);

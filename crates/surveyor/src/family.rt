@@ -1,12 +1,13 @@
 //! The family that is asked for.
-ghost use Rattle.std.specs.Prelude.{◌≡◌, ℕ, IfOk, List, string_bytes};
+ghost use Rattle.std.specs.Prelude.{◌≡◌, ℕ, IfErr, IfOk, List, string_bytes};
 ghost use Rattle.surveyor.specs.Asked.{IsSurvey};
+ghost use Rattle.surveyor.specs.Faults.{IsFile, IsRefusedText, IsUnsaid, IsUnsound, IsUntaken};
 ghost use Rattle.surveyor.specs.Words.{IsFamilyOf, IsNamed, IsProgramOf};
 
 use crate::asked::Survey;
 use crate::fault::Fault;
 use crate::input::bytes_of;
-use asm::assemble;
+use asm::{AsmError, assemble};
 use codec::encode;
 use std::alloc::Global;
 use survey::{Adversary, Family};
@@ -19,7 +20,10 @@ use verify::{VerifyError, verify};
 /// The file is not read, or refused.
 pub fn family_of(rt: &HostRuntime, survey: &Survey) -> Result<Family, Fault>
     requires { IsSurvey survey.now }
-    ensures { IfOk result (IsFamilyOf survey.now) }
+    ensures family { IfOk result (IsFamilyOf survey.now) }
+    // Only where a file is named does it fail.
+    ensures file { IfErr result (λ _. IsFile (string_bytes survey.now.adversary)) }
+    ensures refused { IfErr result (IsUntaken (string_bytes survey.now.adversary)) }
 {
     let adversary = adversary_of(rt, survey.adversary.as_str())?;
     Ok(Family::new(
@@ -34,7 +38,9 @@ pub fn family_of(rt: &HostRuntime, survey: &Survey) -> Result<Family, Fault>
 
 /// What the traitors do whom a word names.
 fn adversary_of(rt: &HostRuntime, word: &str) -> Result<Adversary, Fault>
-    ensures { IfOk result (IsNamed word.now) }
+    ensures named { IfOk result (IsNamed word.now) }
+    ensures file { IfErr result (λ _. IsFile word.now) }
+    ensures refused { IfErr result (IsUntaken word.now) }
 {
     match word {
         "lies" => Ok(Adversary::Lies),
@@ -46,7 +52,8 @@ fn adversary_of(rt: &HostRuntime, word: &str) -> Result<Adversary, Fault>
 
 /// The bytecode of a file of assembly, or of standard input, in hex.
 fn hex_of(rt: &HostRuntime, name: &str) -> Result<String, Fault>
-    ensures { IfOk result (λ hex. (text : List ℕ) × IsProgramOf text (string_bytes hex)) }
+    ensures program { IfOk result (λ hex. (text : List ℕ) × IsProgramOf text (string_bytes hex)) }
+    ensures refused { IfErr result (IsUntaken name.now) }
 {
     let alloc = rt.alloc();
     let bytes = bytes_of(rt, name)?;
@@ -58,11 +65,12 @@ fn hex_of(rt: &HostRuntime, name: &str) -> Result<String, Fault>
 
 /// The bytecode of a text of assembly, in hex. The verifier must accept it.
 fn program_hex(alloc: Global, text: &str) -> Result<String, Fault>
-    ensures { IfOk result (λ hex. IsProgramOf text.now (string_bytes hex)) }
+    ensures program { IfOk result (λ hex. IsProgramOf text.now (string_bytes hex)) }
+    ensures refused { IfErr result (IsRefusedText text.now) }
 {
     let program = match assemble(alloc, text) {
         Ok(program) => program,
-        Err(error) => return Err(Fault::Refused(format!(in alloc; "refused {error}")?)),
+        Err(error) => return Err(unsaid(alloc, error)),
     };
     let bytes = encode(alloc, &program)?;
     match verify(alloc, program) {
@@ -71,8 +79,23 @@ fn program_hex(alloc: Global, text: &str) -> Result<String, Fault>
     }
 }
 
+/// That a text says no program.
+fn unsaid(alloc: Global, error: AsmError) -> Fault
+    ensures { IsUnsaid error result }
+{
+    match error {
+        AsmError::Memory => Fault::Memory,
+        error => match format!(in alloc; "refused {error}") {
+            Ok(line) => Fault::Refused(line),
+            Err(_) => Fault::Memory,
+        },
+    }
+}
+
 /// That a program is refused.
-fn unsound(alloc: Global, fault: VerifyError) -> Fault {
+fn unsound(alloc: Global, fault: VerifyError) -> Fault
+    ensures { IsUnsound fault result }
+{
     match fault {
         VerifyError::Memory => Fault::Memory,
         fault => match format!(in alloc; "refused {fault}") {

@@ -24,12 +24,22 @@ pub enum Fault {
 }
 
 impl From<AllocError> for Fault {
+    ghost use Rattle.std.specs.Prelude.{◌≡◌};
+    ghost use Rattle.surveyor.specs.declared.fault.Fault.TheVariants.{Memory};
+
+    ghost from_gives = { λ _ fault. fault ≡ Memory };
+
     fn from(_error: AllocError) -> Fault {
         Fault::Memory
     }
 }
 
 impl<T: Drop> From<AllocFailed<T>> for Fault {
+    ghost use Rattle.std.specs.Prelude.{◌≡◌};
+    ghost use Rattle.surveyor.specs.declared.fault.Fault.TheVariants.{Memory};
+
+    ghost from_gives = { λ _ fault. fault ≡ Memory };
+
     fn from(_error: AllocFailed<T>) -> Fault {
         Fault::Memory
     }
@@ -56,7 +66,7 @@ fn status_of(fault: &Fault) -> u8
     }
 }
 
-/// Says why on standard error. The result is the exit status.
+/// Says why on standard error. The result is the exit status; what stands there no contract can say.
 pub fn tell(rt: &HostRuntime, fault: Fault) -> u8
     ensures { result ≡ status_of fault }
 {

@@ -1,4 +1,7 @@
 //! What may be asked for, as `clap` is told of it.
+ghost use Rattle.std.specs.Prelude.{◌≡◌, IfOk, false};
+ghost use Rattle.clap.specs.Words.{app_of, rule_of};
+ghost use Rattle.surveyor.specs.Flags.{rule_for, survey_app, with_flags};
 
 use clap::{Arg, ArgAction, Command};
 use combine::Rule;
@@ -100,7 +103,11 @@ const SUM: Flag<'static> = Flag {
 
 impl<'a> Flag<'a> {
     /// The flag as `clap` is told of it.
-    fn argument(&self, alloc: Global) -> Arg<'a> {
+    #[tactic(auto, unfolding(crate::specs::Flags::rule_for))]
+    fn argument(&self, alloc: Global) -> Arg<'a>
+        ensures rule { rule_of result ≡ rule_for self.now }
+        ensures local { result.global ≡ false }
+    {
         let argument = Arg::new(alloc, self.name).long(self.name).help(self.help);
         match self.value {
             Some(value) => argument.value_name(value),
@@ -114,7 +121,9 @@ fn with_flags<'a>(
     alloc: Global,
     mut command: Command<'a>,
     flags: &[Flag<'a>],
-) -> Result<Command<'a>, AllocError> {
+) -> Result<Command<'a>, AllocError>
+    ensures app { IfOk result (λ c. app_of c ≡ with_flags (app_of command.entry) flags.now) }
+{
     for flag in flags {
         command = command.arg(flag.argument(alloc))?;
     }
@@ -129,7 +138,9 @@ pub(crate) fn rules(alloc: Global) -> Result<String, AllocError> {
 }
 
 /// What may be asked for, where this is said of `--rule`.
-pub(crate) fn command<'a>(alloc: Global, rules: &'a str) -> Result<Command<'a>, AllocError> {
+pub(crate) fn command<'a>(alloc: Global, rules: &'a str) -> Result<Command<'a>, AllocError>
+    ensures { IfOk result (λ c. app_of c ≡ survey_app) }
+{
     let command = Command::new(alloc, "survey")
         .no_binary_name(true)
         .bin_name("byzlab survey")?;

@@ -1,14 +1,20 @@
 //! Files that are read.
+ghost use Rattle.std.specs.Prelude.{IfErr};
+ghost use Rattle.surveyor.specs.Faults.{IsUnread};
+
 use crate::fault::Fault;
 use std::fs::read;
 use std::io::{self, ErrorKind, Read};
 
-/// All bytes of the file of this name, or of standard input where that is a hyphen.
+/// All bytes of the file of this name, or of standard input where that is a hyphen. Which bytes these are no contract
+/// can say.
 ///
 /// # Errors
 ///
 /// It cannot be read.
-pub fn bytes_of(rt: &HostRuntime, name: &str) -> Result<Vec<u8>, Fault> {
+pub fn bytes_of(rt: &HostRuntime, name: &str) -> Result<Vec<u8>, Fault>
+    ensures { IfErr result (IsUnread name.now) }
+{
     match taken(rt, name) {
         Ok(bytes) => Ok(bytes),
         Err(error) if error.kind() == ErrorKind::OutOfMemory => Err(Fault::Memory),

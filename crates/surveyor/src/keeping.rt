@@ -1,4 +1,7 @@
-//! Campaigns that are kept in a folder.
+//! Campaigns that are kept in a folder. What files hold no contract can say.
+ghost use Rattle.std.specs.Prelude.{IfErr, string_bytes};
+ghost use Rattle.surveyor.specs.Faults.{IsUnkept, beside_name, kept_name, tried_name};
+
 use crate::fault::Fault;
 use std::fs::{File, OpenOptions, create_dir, metadata, remove_file, rename};
 use std::io::{self, ErrorKind, Write};
@@ -9,7 +12,9 @@ use std::io::{self, ErrorKind, Write};
 /// # Errors
 ///
 /// The file cannot be written, or one stands where it is to be written first, which is told then.
-pub fn keep(rt: &HostRuntime, folder: &str, seed: u64, text: &str) -> Result<(), Fault> {
+pub fn keep(rt: &HostRuntime, folder: &str, seed: u64, text: &str) -> Result<(), Fault>
+    ensures { IfErr result (IsUnkept (kept_name folder.now seed) (beside_name folder.now seed)) }
+{
     let alloc = rt.alloc();
     let name = format!(in alloc; "{folder}/{seed}.toml")?;
     let beside = format!(in alloc; "{folder}/.{seed}.toml.new")?;
@@ -29,7 +34,9 @@ pub fn keep(rt: &HostRuntime, folder: &str, seed: u64, text: &str) -> Result<(),
 /// # Errors
 ///
 /// It is no folder and cannot be made, or it takes no file.
-pub fn open_folder(rt: &HostRuntime, folder: &str, number: u64) -> Result<(), Fault> {
+pub fn open_folder(rt: &HostRuntime, folder: &str, number: u64) -> Result<(), Fault>
+    ensures { IfErr result (IsUnkept folder.now (tried_name folder.now number)) }
+{
     let alloc = rt.alloc();
     let name = String::from_str(alloc, folder)?;
     let tried = format!(in alloc; "{folder}/.{number}.survey.new")?;
@@ -40,7 +47,9 @@ pub fn open_folder(rt: &HostRuntime, folder: &str, number: u64) -> Result<(), Fa
 }
 
 /// That a file is not written: the one beside it is told where it stood there already.
-fn unwritten(kind: ErrorKind, name: String, beside: String) -> Fault {
+fn unwritten(kind: ErrorKind, name: String, beside: String) -> Fault
+    ensures { IsUnkept (string_bytes name) (string_bytes beside) result }
+{
     match kind {
         ErrorKind::OutOfMemory => Fault::Memory,
         ErrorKind::AlreadyExists => Fault::Unwritten(Some(beside)),

@@ -1,18 +1,23 @@
 //! The pieces in which a survey goes on.
-ghost use Rattle.std.specs.Prelude.{◌≤◌};
+ghost use Rattle.std.specs.Prelude.{◌≡◌, ◌≢◌, ◌<◌, ◌≤◌, ◌-◌};
 
 use crate::fault::Fault;
 use scenario::ScenarioError;
 
 /// How many campaigns of so many generals at most are played between two looks at what they come to.
 pub fn at_once(generals: u8) -> u64
-    ensures { 1024 ≤ result }
+    ensures least { 1024 ≤ result }
+    ensures few { generals < 8 → result ≡ 16384 }
+    ensures many { 8 ≤ generals → result ≡ 1024 }
 {
     if generals < 8 { 16_384 } else { 1_024 }
 }
 
 /// That one of the campaigns of the seeds from `first` up to `end`, without that, is refused.
-pub fn refused(first: u64, end: u64, error: ScenarioError) -> Fault {
+pub fn refused(first: u64, end: u64, error: ScenarioError) -> Fault
+    ensures memory { error ≡ ScenarioError.Memory → result ≡ Fault.Memory }
+    ensures campaign { error ≢ ScenarioError.Memory → result ≡ Fault.Campaign first (end - 1) error }
+{
     match error {
         ScenarioError::Memory => Fault::Memory,
         error => Fault::Campaign(first, end.saturating_sub(1), error),

@@ -1,11 +1,14 @@
 //! What is printed.
-ghost use Rattle.std.specs.Prelude.{◌≡◌, IfOk, OnOk, string_bytes};
+ghost use Rattle.std.specs.Prelude.{◌≡◌, IfErr, IfOk, OnErr, OnOk, string_bytes};
 ghost use Rattle.std.specs.Io.KnownBytes.{Appends};
+ghost use Rattle.streams.specs.Writing.{AppendsFront};
+ghost use Rattle.surveyor.specs.Faults.{IsUnprinted};
 ghost use Rattle.surveyor.specs.Printed.{summary_text};
 
 use crate::asked::Shape;
 use crate::fault::Fault;
 use std::alloc::{AllocError, Global};
+use std::io::ErrorKind;
 use streams::Output;
 use survey::Finding;
 use survey_tables::{picture, sums_text, table};
@@ -16,10 +19,25 @@ use survey_tables::{picture, sums_text, table};
 ///
 /// The output takes no more.
 pub fn print<O: Output>(out: &mut O, text: &str) -> Result<(), Fault>
-    ensures { OnOk result (Appends (O.contents out.old) (O.contents out.new) text.now) }
+    ensures written { OnOk result (Appends (O.contents out.old) (O.contents out.new) text.now) }
+    ensures begun { OnErr result (AppendsFront (O.contents out.old) (O.contents out.new) text.now) }
+    ensures failed { OnErr result (O.fails out.old) }
+    ensures refused { IfErr result IsUnprinted }
 {
-    out.put(text.as_bytes())?;
-    Ok(())
+    match out.put(text.as_bytes()) {
+        Ok(()) => Ok(()),
+        Err(error) => Err(unprinted(error.kind())),
+    }
+}
+
+/// That standard output takes no more.
+fn unprinted(kind: ErrorKind) -> Fault
+    ensures { IsUnprinted result }
+{
+    match kind {
+        ErrorKind::OutOfMemory => Fault::Memory,
+        _ => Fault::Unwritten(None),
+    }
 }
 
 /// What is told of campaigns in this shape, where it is told at the end.
@@ -49,7 +67,8 @@ pub fn put_summary<O: Output>(
     shape: Shape,
     findings: &[Finding],
 ) -> Result<(), Fault>
-    ensures { OnOk result (Appends (O.contents out.old) (O.contents out.new) (summary_text shape findings.now)) }
+    ensures written { OnOk result (Appends (O.contents out.old) (O.contents out.new) (summary_text shape findings.now)) }
+    ensures refused { IfErr result IsUnprinted }
 {
     let text = summary(alloc, shape, findings)?;
     print(out, text.as_str())

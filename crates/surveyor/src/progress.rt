@@ -1,4 +1,6 @@
-//! How far a survey has come.
+//! How far a survey has come. What is told on standard error, and when, no contract can say.
+ghost use Rattle.std.specs.Prelude.{◌≡◌};
+
 use std::alloc::{AllocError, Global};
 use std::io::{IsTerminal, Write};
 use std::time::Instant;
@@ -22,7 +24,11 @@ pub struct Progress<'a> {
 
 impl<'a> Progress<'a> {
     /// Of these seeds.
-    pub fn of(rt: &'a HostRuntime, first: u64, last: u64) -> Progress<'a> {
+    pub fn of(rt: &'a HostRuntime, first: u64, last: u64) -> Progress<'a>
+        ensures first { result.first ≡ first }
+        ensures last { result.last ≡ last }
+        ensures minutes { result.minutes ≡ 0 }
+    {
         Progress {
             rt,
             first,
@@ -37,7 +43,10 @@ impl<'a> Progress<'a> {
     /// # Errors
     ///
     /// `AllocError` where memory is refused.
-    pub fn tell(&mut self, done: u64, broken: u64) -> Result<(), AllocError> {
+    pub fn tell(&mut self, done: u64, broken: u64) -> Result<(), AllocError>
+        ensures first { self.new.first ≡ self.old.first }
+        ensures last { self.new.last ≡ self.old.last }
+    {
         let mut stderr = self.rt.stderr();
         let (first, last) = (self.first, self.last);
         if !stderr.is_terminal() {
@@ -64,7 +73,10 @@ impl<'a> Progress<'a> {
     }
 
     /// Whether a minute has gone since it was told last.
-    fn is_time(&mut self) -> bool {
+    fn is_time(&mut self) -> bool
+        ensures first { self.new.first ≡ self.old.first }
+        ensures last { self.new.last ≡ self.old.last }
+    {
         let Some(start) = self.start else {
             return false;
         };

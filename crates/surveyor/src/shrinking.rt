@@ -1,9 +1,10 @@
 //! The least of all campaigns in which agreement is broken.
-ghost use Rattle.std.specs.Prelude.{◌≡◌, ◌+◌, List, ℕ, IfOk, OnOk, length, option_map, string_bytes};
+ghost use Rattle.std.specs.Prelude.{◌≡◌, ◌+◌, List, ℕ, IfErr, IfOk, OnOk, is_some, length, option_map, string_bytes};
 ghost use Rattle.std.specs.Io.KnownBytes.{Appends};
-ghost use Rattle.shrink.specs.Breaches.{IsLeastBreach};
+ghost use Rattle.shrink.specs.Breaches.{IsLeastBreach, IsRefusedIn};
 ghost use Rattle.survey.specs.Plotting.{plot_of};
 ghost use Rattle.surveyor.specs.Asked.{IsSurvey};
+ghost use Rattle.surveyor.specs.Faults.{IsKeptIn, IsStopped};
 ghost use Rattle.surveyor.specs.Printed.{IsShrunken, least_head, least_text};
 
 use crate::asked::Survey;
@@ -32,8 +33,9 @@ pub fn shrunken<T: Threads + Sync, O: Output>(
     family: &Family,
 ) -> Result<(), Fault>
     requires { IsSurvey asked.now }
-    ensures { OnOk result ((text : List ℕ) × IsShrunken asked.now family.now text
+    ensures printed { OnOk result ((text : List ℕ) × IsShrunken asked.now family.now text
         × Appends (O.contents out.old) (O.contents out.new) text) }
+    ensures stopped { IfErr result (IsStopped asked.now (IsRefusedIn (plot_of family.now))) }
 {
     let least = least_left(rt, threads, asked, family)?;
     print(out, least_text(rt.alloc(), least.as_ref())?.as_str())
@@ -47,7 +49,8 @@ fn least_left<T: Threads + Sync>(
     family: &Family,
 ) -> Result<Option<Breach>, Fault>
     requires { IsSurvey asked.now }
-    ensures { IfOk result (IsLeastBreach (plot_of family.now) asked.now.first (asked.now.last + 1)) }
+    ensures least { IfOk result (IsLeastBreach (plot_of family.now) asked.now.first (asked.now.last + 1)) }
+    ensures stopped { IfErr result (IsStopped asked.now (IsRefusedIn (plot_of family.now))) }
 {
     let alloc = rt.alloc();
     let end = asked.last + 1;
@@ -71,7 +74,9 @@ fn least_left<T: Threads + Sync>(
 }
 
 /// Keeps what is left of campaigns, where a folder is named. The result is how many there are.
-fn kept(rt: &HostRuntime, asked: &Survey, found: &[Option<Breach>]) -> Result<u64, Fault> {
+fn kept(rt: &HostRuntime, asked: &Survey, found: &[Option<Breach>]) -> Result<u64, Fault>
+    ensures { IfErr result (IsKeptIn (is_some asked.now.keep)) }
+{
     let mut broken: u64 = 0;
     for breach in found {
         if let Some(breach) = breach {

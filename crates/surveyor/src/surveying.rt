@@ -1,7 +1,9 @@
 //! The campaigns of a survey.
-ghost use Rattle.std.specs.Prelude.{◌≡◌, ◌≢◌, ◌++◌, IfOk, OnOk};
+ghost use Rattle.std.specs.Prelude.{◌≡◌, ◌≢◌, ◌++◌, IfErr, IfOk, OnOk, Some, is_some, true};
 ghost use Rattle.std.specs.Io.KnownBytes.{Appends};
 ghost use Rattle.surveyor.specs.Asked.{IsSurvey};
+ghost use Rattle.survey.specs.Judging.{IsRefusedIn};
+ghost use Rattle.surveyor.specs.Faults.{IsKeptIn, IsStopped, IsUnprinted, IsUnsurveyed};
 ghost use Rattle.surveyor.specs.Printed.{IsPrinted, IsSurveyed, added, broken_seeds, head_in, lines_in};
 
 use crate::asked::{Shape, Survey};
@@ -30,7 +32,8 @@ pub fn surveyed<T: Threads + Sync, O: Output>(
     asked: &Survey,
 ) -> Result<(), Fault>
     requires { IsSurvey asked.now }
-    ensures { OnOk result (IsSurveyed asked.now (O.contents out.old) (O.contents out.new)) }
+    ensures answered { OnOk result (IsSurveyed asked.now (O.contents out.old) (O.contents out.new)) }
+    ensures refused { IfErr result (IsUnsurveyed asked.now) }
 {
     let family = family_of(rt, asked)?;
     if let Some(folder) = &asked.keep {
@@ -52,7 +55,8 @@ fn played<T: Threads + Sync, O: Output>(
 ) -> Result<(), Fault>
     requires asked { IsSurvey asked.now }
     requires shape { asked.now.shape ≢ Shape.Least }
-    ensures { OnOk result (IsPrinted asked.now family.now (O.contents out.old) (O.contents out.new)) }
+    ensures printed { OnOk result (IsPrinted asked.now family.now (O.contents out.old) (O.contents out.new)) }
+    ensures stopped { IfErr result (IsStopped asked.now (IsRefusedIn family.now)) }
 {
     let alloc = rt.alloc();
     let end = asked.last + 1;
@@ -95,7 +99,8 @@ fn broken_seeds(alloc: Global, found: &[Finding]) -> Result<Vec<u64>, AllocError
 
 /// Adds campaigns to those that are summed, unless lines are printed alone.
 fn add(shape: Shape, all: &mut Vec<Finding>, found: &[Finding]) -> Result<(), Fault>
-    ensures { OnOk result (all.new.items ≡ all.old.items ++ added shape found.now) }
+    ensures added { OnOk result (all.new.items ≡ all.old.items ++ added shape found.now) }
+    ensures memory { IfErr result (λ fault. fault ≡ Fault.Memory) }
 {
     if shape == Shape::Lines {
         return Ok(());
@@ -111,7 +116,8 @@ fn put_head<O: Output>(
     shape: Shape,
     family: &Family,
 ) -> Result<(), Fault>
-    ensures { OnOk result (Appends (O.contents out.old) (O.contents out.new) (head_in shape family.now)) }
+    ensures written { OnOk result (Appends (O.contents out.old) (O.contents out.new) (head_in shape family.now)) }
+    ensures refused { IfErr result IsUnprinted }
 {
     if shape != Shape::Lines {
         return Ok(());
@@ -126,7 +132,8 @@ fn put_lines<O: Output>(
     shape: Shape,
     found: &[Finding],
 ) -> Result<(), Fault>
-    ensures { OnOk result (Appends (O.contents out.old) (O.contents out.new) (lines_in shape found.now)) }
+    ensures written { OnOk result (Appends (O.contents out.old) (O.contents out.new) (lines_in shape found.now)) }
+    ensures refused { IfErr result IsUnprinted }
 {
     if shape != Shape::Lines {
         return Ok(());
@@ -135,7 +142,9 @@ fn put_lines<O: Output>(
 }
 
 /// Keeps the campaigns of these seeds, where a folder is named.
-fn keep_all(rt: &HostRuntime, asked: &Survey, family: &Family, seeds: &[u64]) -> Result<(), Fault> {
+fn keep_all(rt: &HostRuntime, asked: &Survey, family: &Family, seeds: &[u64]) -> Result<(), Fault>
+    ensures { IfErr result (IsKeptIn (is_some asked.now.keep)) }
+{
     let Some(folder) = &asked.keep else {
         return Ok(());
     };

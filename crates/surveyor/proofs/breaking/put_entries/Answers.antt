@@ -12,7 +12,7 @@ loop-generals-init g c =
     let start = g.O.Output.contents c.args.out.now in
     let now = g.O.Output.contents c.print.new.out in
     so_begins s c.args.family.now c.args.is_table start now (sizes_upto s.bound low (min low (s.generals.high + 1) - low)) (ap (sizes_upto s.bound low) none)
-    (subst (λ (l : List ℕ). Appends start now l) c.break_header.ensures c.in_ok-print.ensures)
+    (subst (λ (l : List ℕ). Appends start now l) c.break_header.ensures c.in_ok-print.ensures.written)
 
 pub loop-bound-init : goal.loop-bound-init
 loop-bound-init g c =
@@ -37,9 +37,9 @@ loop-bound-preserved g c =
     let now = g.O.Output.contents c.loop-bound.out in
     let mid = g.O.Output.contents c.print-in-loop-bound.new.out in
     so_more s c.args.family.now c.args.is_table (g.O.Output.contents c.args.out.now) now mid (g.O.Output.contents c.put_entry.new.out) c.loop-bound.is_first
-    (front ++ bounds_upto n s.bound.low (min m most - s.bound.low)) (front ++ bounds_upto n s.bound.low (min (m + 1) most - s.bound.low)) n m c.in_ok-put_entry.ensures.0 c.loop-bound.invariant
+    (front ++ bounds_upto n s.bound.low (min m most - s.bound.low)) (front ++ bounds_upto n s.bound.low (min (m + 1) most - s.bound.low)) n m c.in_ok-put_entry.ensures.entry.0 c.loop-bound.invariant
     (bounds_more front n s.bound.low m (min m most - s.bound.low) (min (m + 1) most - s.bound.low) (omega arith) (omega arith) (omega arith))
-    (subst (λ (l : List ℕ). Appends now mid l) c.gap.ensures c.in_ok-print-2.ensures) c.in_ok-put_entry.ensures.1 c.in_ok-put_entry.ensures.2
+    (subst (λ (l : List ℕ). Appends now mid l) c.gap.ensures c.in_ok-print-2.ensures.written) c.in_ok-put_entry.ensures.entry.1 c.in_ok-put_entry.ensures.entry.2
 
 pub loop-generals-preserved : goal.loop-generals-preserved
 loop-generals-preserved g c =
@@ -52,8 +52,8 @@ loop-generals-preserved g c =
     so_same s c.args.family.now c.args.is_table (g.O.Output.contents c.args.out.now) (g.O.Output.contents c.loop-bound.out) c.loop-bound.is_first _ _
     (sizes_more s.bound low n (n - low) (min (n + 1) (s.generals.high + 1) - low) (min b most - s.bound.low) (omega arith) (omega arith) (omega arith) (omega arith)) c.loop-bound.invariant
 
-pub returns : goal.returns
-returns g c =
+pub returns-clause-broken : goal.returns-clause-broken
+returns-clause-broken g c =
     let s = c.args.asked.now in
     let low = s.generals.low in
     let all : min c.loop-generals.generals (s.generals.high + 1) - low ≡ s.generals.high + 1 - low = omega arith in

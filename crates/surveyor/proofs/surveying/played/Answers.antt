@@ -14,17 +14,17 @@ loop-next-preserved g c =
     let a = c.min-until.ensures in
     let b = c.saturating_add.ensures in
     let t = c.loop-next-test.true in
-    let m = c.at_once-many.ensures in
+    let m = c.at_once-many.ensures.least in
     let i = c.requires.asked.inside in
     let low : c.loop-next.next ≤ c.min-until.result = omega arith in
     let high : c.min-until.result ≤ s.last + 1 = omega arith in
     goes s c.args.family.now (g.O.Output.contents c.args.out.now) now later c.loop-next.next c.min-until.result c.loop-next.all.items c.in-Ok.found.items c.add.new.all.items
     c.loop-next.invariant low high c.in-Ok.ensures.found
-    (subst (λ (l : List Finding). Appends now later (lines_in s.shape l)) c.as_slice.ensures.value c.in_ok-put_lines.ensures)
-    (c.in_ok-add.ensures ∙ ap (λ (l : List Finding). c.loop-next.all.items ++ added s.shape l) c.as_slice-in-loop-next-3.ensures.value)
+    (subst (λ (l : List Finding). Appends now later (lines_in s.shape l)) c.as_slice.ensures.value c.in_ok-put_lines.ensures.written)
+    (c.in_ok-add.ensures.added ∙ ap (λ (l : List Finding). c.loop-next.all.items ++ added s.shape l) c.as_slice-in-loop-next-3.ensures.value)
 
-pub returns : goal.returns
-returns g c =
+pub returns-clause-printed : goal.returns-clause-printed
+returns-clause-printed g c =
     let s = c.args.asked.now in
     let now = g.O.Output.contents c.loop-next.out in
     let last = g.O.Output.contents c.put_summary.new.out in
@@ -34,4 +34,4 @@ returns g c =
     (λ (told : Appends now last (summary_text s.shape c.as_slice-told.result.now)).
     ends s c.args.family.now (g.O.Output.contents c.args.out.now) now last c.loop-next.next c.loop-next.all.items c.requires.shape c.loop-next.invariant done
     (subst (λ (l : List Finding). Appends now last (summary_text s.shape l)) c.as_slice-told.ensures.value told))
-    c.put_summary.ensures
+    c.put_summary.ensures.written
