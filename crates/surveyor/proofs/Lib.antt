@@ -5,3 +5,5 @@ mod CoverLemmas
 mod BrokenLemmas
 mod NumberLemmas
 mod FlagLemmas
+mod FaultLemmas
+mod MeantLemmas

@@ -1,5 +1,6 @@
 -- A word tells two numbers in one way at most.
 use Rattle.std.proofs.Common.{ℕ, ◌+◌, ◌*◌, ◌≤◌, ◌<◌, ◌≡◌, ◌≢◌, inl, inr, List, [], ◌∷◌, ◌++◌, refl, sym, ap, ◌∙◌, Option, None, Some, codes, cond, true, false, Bool, nat_eq, append_assoc, subst}
+use Rattle.std.specs.Prelude.{IfNone}
 use Rattle.text.specs.Number.{capped, decimal_of, digit_in, digits_on}
 use Rattle.text.specs.Options.{◌>>=◌}
 use Rattle.surveyor.specs.Numbers.{AreTold, IsNoSpan, IsSpread, IsTold}
@@ -82,3 +83,16 @@ told_once word a b c d (inl one) (inl other) = both_once word word a b c d one o
 told_once word a b c d (inl one) (inr other) =
     let same = told_once_spread word c d a b other (inl one) in (sym same.0, sym same.1)
 told_once word a b c d (inr one) other = told_once_spread word a b c d one other
+
+-- where the parts of a word tell no span, it tells none
+pub no_span_parted : (limit : ℕ) (word : List ℕ) (r : Option (ℕ × ℕ)) (lo hi : List ℕ) → word ≡ lo ++ (codes ".." ++ hi) → IfNone r ((a b : ℕ) → AreTold lo hi a b → a ≤ b → b < limit → ⊥) → IfNone r (IsNoSpan limit word)
+no_span_parted limit word None lo hi is none = λ a b told ordered inside. none a b (parted word lo hi a b is told) ordered inside
+no_span_parted limit word (Some r) lo hi is none = tt
+
+pub no_span_whole : (limit : ℕ) (word : List ℕ) (r : Option (ℕ × ℕ)) → ((xs ys : List ℕ) → word ≢ xs ++ (codes ".." ++ ys)) → IfNone r ((a b : ℕ) → AreTold word word a b → a ≤ b → b < limit → ⊥) → IfNone r (IsNoSpan limit word)
+no_span_whole limit word None parts none = λ a b told ordered inside. none a b (whole word a b parts told) ordered inside
+no_span_whole limit word (Some r) parts none = tt
+
+pub any_none : {X : Type 0} (r : Option X) (P : Type 0) → P → IfNone r P
+any_none None P h = h
+any_none (Some x) P h = tt

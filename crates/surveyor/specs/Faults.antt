@@ -1,22 +1,14 @@
--- Why a survey comes to no end (docs/SURVEYS.md): which fault may be told of what.
-use Rattle.std.specs.Prelude.{⊤, Bool, ℕ, ◌≡◌, ◌≢◌, ◌⊎◌, ◌+◌, ◌++◌, ◌≤◌, List, codes, decimal, is_some, true, None, Some, string_bytes}
+-- Which fault is told of what (docs/FORMATS.md, "Surveys").
+use Rattle.std.specs.Prelude.{⊤, ℕ, ◌≡◌, ◌≢◌, ◌⊎◌, ◌++◌, Bool, true, List, codes, decimal, None, Some, string_bytes}
+use Rattle.std.specs.List.{Any}
 use Rattle.asm.specs.declared.fault.AsmError.{AsmError}
 use Rattle.asm.specs.declared.fault.AsmError.TheVariants as asm
 use Rattle.verify.specs.declared.error.VerifyError.{VerifyError}
 use Rattle.verify.specs.declared.error.VerifyError.TheVariants as verifier
-use Rattle.scenario.specs.declared.fault.ScenarioError.{ScenarioError}
-use Rattle.survey.specs.Family.{Family}
-use Rattle.survey.specs.Judging.{IsRefusedIn}
-use Rattle.survey.specs.Plotting.{plot_of}
-use Rattle.shrink.specs.Breaches as Lessened
-use Rattle.shrink.specs.Breaches.{IsRefusedWith}
-use Rattle.surveyor.specs.Broken.{cut_to}
-use Rattle.surveyor.specs.declared.asked.Shape.{Shape}
-use Rattle.surveyor.specs.declared.asked.Shape.TheVariants.{Least}
-use Rattle.surveyor.specs.declared.asked.Survey.{Survey}
+use Rattle.surveyor.specs.declared.asked.Merge.{Merge}
 use Rattle.surveyor.specs.declared.fault.Fault.{Fault}
 use Rattle.surveyor.specs.declared.fault.Fault.TheVariants.{Unread, Unwritten, Refused, Campaign, Words, Memory}
-use Rattle.surveyor.specs.Words.{IsFamilyOf, IsProgramOf}
+use Rattle.surveyor.specs.Words.{IsProgramOf}
 
 -- a file of this name cannot be read
 abbrev pub IsUnread : List ℕ → Fault → Type 0
@@ -60,32 +52,9 @@ pub record IsFile (word : List ℕ) : Type 0 where
 -- it is not read, or what it says is refused
 abbrev pub IsUntaken : List ℕ → Fault → Type 0
 IsUntaken name (Unread own) = string_bytes own ≡ name
-IsUntaken name (Refused line) = (text : List ℕ) × IsNoProgram text
+IsUntaken name (Refused line) = ⊤
 IsUntaken name Memory = ⊤
 IsUntaken name _ = ⊥
-
--- ---- a survey whose family is had
-
--- one of its campaigns is refused, as it is told below
-pub record IsCampaign (s : Survey) (Refuses : ℕ → ℕ → ScenarioError → Type 0) (first last : ℕ) (e : ScenarioError)
-    : Type 0 where
-  pub from : s.first ≤ first
-  pub up_to : last ≤ s.last
-  pub refused : Refuses first (last + 1) e
-
--- or standard output cannot be written, or, where campaigns are kept, a file
-abbrev pub IsStopped : Survey → (ℕ → ℕ → ScenarioError → Type 0) → Fault → Type 0
-IsStopped s Refuses (Campaign first last e) = IsCampaign s Refuses first last e
-IsStopped s Refuses (Unwritten None) = ⊤
-IsStopped s Refuses (Unwritten (Some name)) = is_some s.keep ≡ true
-IsStopped s Refuses Memory = ⊤
-IsStopped s Refuses _ = ⊥
-
--- only where campaigns are kept a file cannot be written
-abbrev pub IsKeptIn : Bool → Fault → Type 0
-IsKeptIn is_kept (Unwritten (Some name)) = is_kept ≡ true
-IsKeptIn is_kept Memory = ⊤
-IsKeptIn is_kept _ = ⊥
 
 -- ---- a folder
 
@@ -106,30 +75,29 @@ IsUnkept name beside (Unwritten (Some own)) = (string_bytes own ≡ name) ⊎ (s
 IsUnkept name beside Memory = ⊤
 IsUnkept name beside _ = ⊥
 
--- ---- a whole survey
+-- only where campaigns are kept a file cannot be written
+abbrev pub IsKeptIn : Bool → Fault → Type 0
+IsKeptIn is_kept (Unwritten (Some name)) = is_kept ≡ true
+IsKeptIn is_kept Memory = ⊤
+IsKeptIn is_kept _ = ⊥
 
--- the file of the word for the traitors is at fault; or, with the family that is asked for, what stops it
-abbrev pub IsUnended : Survey → (Family → ℕ → ℕ → ScenarioError → Type 0) → Fault → Type 0
-IsUnended s Refuses (Unread name) =
-    IsFile (string_bytes s.adversary) × (string_bytes name ≡ string_bytes s.adversary)
-IsUnended s Refuses (Refused line) = IsFile (string_bytes s.adversary) × ((text : List ℕ) × IsNoProgram text)
-IsUnended s Refuses (Campaign first last e) =
-    (f : Family) × IsFamilyOf s f × IsCampaign s (Refuses f) first last e
-IsUnended s Refuses (Unwritten None) = ⊤
-IsUnended s Refuses (Unwritten (Some name)) = is_some s.keep ≡ true
-IsUnended s Refuses Memory = ⊤
-IsUnended s Refuses Words = ⊥
+-- ---- files that are summed
 
--- a campaign as it is drawn, one that is lessened, one of so many generals and traitors
-abbrev pub IsDrawnRefused : Shape → Family → ℕ → ℕ → ScenarioError → Type 0
-IsDrawnRefused Least f = Lessened.IsRefusedIn (plot_of f)
-IsDrawnRefused _ f = IsRefusedIn f
+-- a file's lines are refused
+abbrev pub IsNoPart : Fault → Type 0
+IsNoPart (Refused line) = ⊤
+IsNoPart Memory = ⊤
+IsNoPart _ = ⊥
 
-abbrev pub IsUnsurveyed : Survey → Fault → Type 0
-IsUnsurveyed s = IsUnended s (IsDrawnRefused s.shape)
+-- or one of the files cannot be read
+abbrev pub IsUntold : Merge → Fault → Type 0
+IsUntold m (Unread name) = Any (λ own. string_bytes own ≡ string_bytes name) m.names.items
+IsUntold m (Refused line) = ⊤
+IsUntold m Memory = ⊤
+IsUntold m _ = ⊥
 
--- of generals of some numbers and as many traitors as are asked for
-pub record IsSearchRefused (s : Survey) (f : Family) (first end : ℕ) (e : ScenarioError) : Type 0 where
-  pub generals : ℕ
-  pub bound : ℕ
-  pub refused : IsRefusedWith f generals bound (cut_to generals s.traitors) first end e
+-- or standard output cannot be written
+abbrev pub IsUnsummed : Merge → Fault → Type 0
+IsUnsummed m (Unwritten None) = ⊤
+IsUnsummed m (Unwritten (Some name)) = ⊥
+IsUnsummed m fault = IsUntold m fault

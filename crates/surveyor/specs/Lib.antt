@@ -7,4 +7,5 @@ pub mod Printed
 pub mod Summed
 pub mod Broken
 pub mod Faults
+pub mod Ends
 pub mod Statuses

@@ -5,7 +5,7 @@ ghost use Rattle.shrink.specs.declared.breach.Breaking.{Breaking as Found};
 ghost use Rattle.survey_tables.specs.Breakings.{breaking_text};
 ghost use Rattle.surveyor.specs.Asked.{IsSurvey};
 ghost use Rattle.surveyor.specs.Broken.{IsBreakAnswered, IsBroken, IsSearched, break_header, cut_to, gap};
-ghost use Rattle.surveyor.specs.Faults.{IsSearchRefused, IsStopped, IsUnended};
+ghost use Rattle.surveyor.specs.Ends.{IsSearchRefused, IsStopped, IsUnended};
 
 use crate::asked::Survey;
 use crate::family::family_of;
@@ -24,6 +24,7 @@ use survey_tables::breaking_text;
 /// # Errors
 ///
 /// What keeps it from its end.
+#[tactic(auto, using(crate::proofs::FaultLemmas::unended, crate::proofs::FaultLemmas::untaken))]
 pub fn broken<T: Threads + Sync, O: Output>(
     rt: &HostRuntime,
     threads: &T,
@@ -40,6 +41,7 @@ pub fn broken<T: Threads + Sync, O: Output>(
 }
 
 /// Prints it of the family's campaigns.
+#[tactic(auto, using(crate::proofs::FaultLemmas::stopped_printing))]
 fn put_entries<T: Threads + Sync, O: Output>(
     rt: &HostRuntime,
     threads: &T,
@@ -92,6 +94,7 @@ fn gap(is_table: bool, is_first: bool) -> &'static str
 }
 
 /// Prints it for these numbers.
+#[tactic(auto, using(crate::proofs::FaultLemmas::stopped_printing, crate::proofs::FaultLemmas::stopped_by_memory))]
 fn put_entry<T: Threads + Sync, O: Output>(
     rt: &HostRuntime,
     threads: &T,
@@ -115,6 +118,7 @@ fn put_entry<T: Threads + Sync, O: Output>(
 }
 
 /// What breaks agreement of generals of these numbers, if something does.
+#[tactic(auto, using(crate::proofs::FaultLemmas::stopped_campaign))]
 fn searched<T: Threads + Sync>(
     rt: &HostRuntime,
     threads: &T,

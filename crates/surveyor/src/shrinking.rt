@@ -4,7 +4,8 @@ ghost use Rattle.std.specs.Io.KnownBytes.{Appends};
 ghost use Rattle.shrink.specs.Breaches.{IsLeastBreach, IsRefusedIn};
 ghost use Rattle.survey.specs.Plotting.{plot_of};
 ghost use Rattle.surveyor.specs.Asked.{IsSurvey};
-ghost use Rattle.surveyor.specs.Faults.{IsKeptIn, IsStopped};
+ghost use Rattle.surveyor.specs.Ends.{IsStopped};
+ghost use Rattle.surveyor.specs.Faults.{IsKeptIn};
 ghost use Rattle.surveyor.specs.Printed.{IsShrunken, least_head, least_text};
 
 use crate::asked::Survey;
@@ -25,6 +26,7 @@ use survey::{Family, Plot, plot_text};
 /// # Errors
 ///
 /// What keeps it from its end.
+#[tactic(auto, using(crate::proofs::FaultLemmas::stopped_printing, crate::proofs::FaultLemmas::stopped_by_memory))]
 pub fn shrunken<T: Threads + Sync, O: Output>(
     rt: &HostRuntime,
     threads: &T,
@@ -42,6 +44,7 @@ pub fn shrunken<T: Threads + Sync, O: Output>(
 }
 
 /// The least of what is left of the seeds' campaigns; none where none is broken.
+#[tactic(auto, using(crate::proofs::FaultLemmas::stopped_keeping, crate::proofs::FaultLemmas::stopped_by_memory, crate::proofs::FaultLemmas::stopped_campaign))]
 fn least_left<T: Threads + Sync>(
     rt: &HostRuntime,
     threads: &T,
@@ -74,6 +77,7 @@ fn least_left<T: Threads + Sync>(
 }
 
 /// Keeps what is left of campaigns, where a folder is named. The result is how many there are.
+#[tactic(auto, using(crate::proofs::FaultLemmas::kept_in, crate::proofs::FaultLemmas::kept_by_memory))]
 fn kept(rt: &HostRuntime, asked: &Survey, found: &[Option<Breach>]) -> Result<u64, Fault>
     ensures { IfErr result (IsKeptIn (is_some asked.now.keep)) }
 {

@@ -1,6 +1,7 @@
 //! What files tell.
-ghost use Rattle.std.specs.Prelude.{◌≡◌, ◌≢◌, IfOk, length};
+ghost use Rattle.std.specs.Prelude.{◌≡◌, ◌≢◌, IfErr, IfOk, length};
 ghost use Rattle.survey.specs.Parts.{AreOf};
+ghost use Rattle.surveyor.specs.Faults.{IsNoPart, IsUnsummed, IsUntold};
 ghost use Rattle.surveyor.specs.Summed.{AreEnds, IsAskedFor, IsCoveredBy, IsSummed, IsTold, span_of, with_seed};
 
 use crate::asked::Merge;
@@ -19,7 +20,8 @@ use survey_tables::{Stretch, doubles, holes};
 ///
 /// What keeps it from its end.
 pub fn summed<O: Output>(rt: &HostRuntime, out: &mut O, asked: &Merge) -> Result<u8, Fault>
-    ensures { IfOk result (IsSummed asked.now (O.contents out.old) (O.contents out.new)) }
+    ensures summed { IfOk result (IsSummed asked.now (O.contents out.old) (O.contents out.new)) }
+    ensures refused { IfErr result (IsUnsummed asked.now) }
 {
     let alloc = rt.alloc();
     let parts = told(rt, asked)?;
@@ -30,7 +32,8 @@ pub fn summed<O: Output>(rt: &HostRuntime, out: &mut O, asked: &Merge) -> Result
 
 /// What the lines of the files tell.
 fn told(rt: &HostRuntime, asked: &Merge) -> Result<Parts, Fault>
-    ensures { IfOk result (λ parts. IsTold asked.now parts.head.items parts.findings.items) }
+    ensures told { IfOk result (λ parts. IsTold asked.now parts.head.items parts.findings.items) }
+    ensures refused { IfErr result (IsUntold asked.now) }
 {
     let alloc = rt.alloc();
     let mut parts = Parts {
@@ -65,7 +68,9 @@ fn span_of(seeds: Option<(u64, u64)>) -> (u64, u64)
 }
 
 /// Why a file is no part of the survey that the first one with lines begins.
-fn refused(alloc: Global, name: &str, first: &str, error: PartError) -> Fault {
+fn refused(alloc: Global, name: &str, first: &str, error: PartError) -> Fault
+    ensures { IsNoPart result }
+{
     match refusal(alloc, name, first, error) {
         Ok(fault) => fault,
         Err(_) => Fault::Memory,
@@ -73,7 +78,9 @@ fn refused(alloc: Global, name: &str, first: &str, error: PartError) -> Fault {
 }
 
 /// The line that says why.
-fn refusal(alloc: Global, name: &str, first: &str, error: PartError) -> Result<Fault, AllocError> {
+fn refusal(alloc: Global, name: &str, first: &str, error: PartError) -> Result<Fault, AllocError>
+    ensures { IfOk result IsNoPart }
+{
     let line = match error {
         PartError::Line(number) => format!(in alloc; "refused {name} line {number}")?,
         PartError::Family(number) => format!(in alloc;
@@ -137,7 +144,8 @@ fn status_of(holes: &[Stretch], doubles: &[Stretch]) -> u8
 /// Says which seeds lack, and which stand there more than once. The result is the exit status.
 fn covered(rt: &HostRuntime, seeds: Option<(u64, u64)>, all: &[Finding]) -> Result<u8, Fault>
     requires { AreOf (span_of seeds).0 (span_of seeds).1 all.now }
-    ensures { IfOk result (IsCoveredBy seeds all.now) }
+    ensures covered { IfOk result (IsCoveredBy seeds all.now) }
+    ensures memory { IfErr result (λ fault. fault ≡ Fault.Memory) }
 {
     let alloc = rt.alloc();
     let span = asked_for(seeds, all);

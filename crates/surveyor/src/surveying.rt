@@ -3,7 +3,8 @@ ghost use Rattle.std.specs.Prelude.{◌≡◌, ◌≢◌, ◌++◌, IfErr, IfOk,
 ghost use Rattle.std.specs.Io.KnownBytes.{Appends};
 ghost use Rattle.surveyor.specs.Asked.{IsSurvey};
 ghost use Rattle.survey.specs.Judging.{IsRefusedIn};
-ghost use Rattle.surveyor.specs.Faults.{IsKeptIn, IsStopped, IsUnprinted, IsUnsurveyed};
+ghost use Rattle.surveyor.specs.Ends.{IsStopped, IsUnsurveyed};
+ghost use Rattle.surveyor.specs.Faults.{IsKeptIn, IsUnprinted};
 ghost use Rattle.surveyor.specs.Printed.{IsPrinted, IsSurveyed, added, broken_seeds, head_in, lines_in};
 
 use crate::asked::{Shape, Survey};
@@ -25,6 +26,7 @@ use survey_tables::lines_text;
 /// # Errors
 ///
 /// What keeps it from its end.
+#[tactic(auto, using(crate::proofs::FaultLemmas::unended, crate::proofs::FaultLemmas::untaken))]
 pub fn surveyed<T: Threads + Sync, O: Output>(
     rt: &HostRuntime,
     threads: &T,
@@ -46,6 +48,7 @@ pub fn surveyed<T: Threads + Sync, O: Output>(
 }
 
 /// Plays the campaigns, and prints their lines or what they come to.
+#[tactic(auto, using(crate::proofs::FaultLemmas::stopped_printing, crate::proofs::FaultLemmas::stopped_keeping, crate::proofs::FaultLemmas::stopped_by_memory, crate::proofs::FaultLemmas::stopped_campaign))]
 fn played<T: Threads + Sync, O: Output>(
     rt: &HostRuntime,
     threads: &T,
@@ -142,6 +145,7 @@ fn put_lines<O: Output>(
 }
 
 /// Keeps the campaigns of these seeds, where a folder is named.
+#[tactic(auto, using(crate::proofs::FaultLemmas::kept_in, crate::proofs::FaultLemmas::kept_by_memory))]
 fn keep_all(rt: &HostRuntime, asked: &Survey, family: &Family, seeds: &[u64]) -> Result<(), Fault>
     ensures { IfErr result (IsKeptIn (is_some asked.now.keep)) }
 {
