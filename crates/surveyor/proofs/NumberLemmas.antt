@@ -6,7 +6,7 @@ use Rattle.text.specs.Options.{◌>>=◌}
 use Rattle.surveyor.specs.Numbers.{AreTold, IsNoSpan, IsSpread, IsTold}
 
 -- no full stop stands in it
-pub Dotless : List ℕ → Type 0
+abbrev pub Dotless : List ℕ → Type 0
 Dotless [] = Unit {0}
 Dotless (c ∷ cs) = (c ≢ 46) × Dotless cs
 

@@ -1,9 +1,13 @@
-use Rattle.std.proofs.Common.{arith}
+use Rattle.std.proofs.Common.{ℕ, ◌-◌, ◌<◌, ◌≤◌, arith}
+use Rattle.surveyor.specs.Numbers.{IsTold}
 use Rattle.surveyor.proofs.NumberLemmas.{any_none, told_once}
 use Rattle.surveyor.proofs.numbers.seeds.Goals as goal
 
 pub returns-in_err-first-clause-refused : goal.returns-in_err-first-clause-refused
-returns-in_err-first-clause-refused c = any_none _ _ (λ first last told ordered inside few. c.in_err-first.ensures.refused first last told ordered inside)
+returns-in_err-first-clause-refused c =
+    let none : (first last : ℕ) → IsTold c.args.word.now first last → first ≤ last → last < 18446744073709551615 → last - first < 10000000 → ⊥ =
+    λ first last told ordered inside few. c.in_err-first.ensures.refused first last told ordered inside in
+    any_none _ _ none
 
 pub returns-else-last-first-lt10000000-clause-refused : goal.returns-else-last-first-lt10000000-clause-refused
 returns-else-last-first-lt10000000-clause-refused c = λ first last told ordered inside few.
