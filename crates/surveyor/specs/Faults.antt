@@ -60,14 +60,14 @@ IsUntaken name _ = ⊥
 
 -- the file of a seed's campaign, and where it is written first
 abbrev pub kept_name : List ℕ → ℕ → List ℕ
-kept_name folder seed = folder ++ codes "/" ++ decimal seed ++ codes ".toml"
+kept_name folder seed = folder ++ (codes "/" ++ (decimal seed ++ codes ".toml"))
 
 abbrev pub beside_name : List ℕ → ℕ → List ℕ
-beside_name folder seed = folder ++ codes "/." ++ decimal seed ++ codes ".toml.new"
+beside_name folder seed = folder ++ (codes "/." ++ (decimal seed ++ codes ".toml.new"))
 
 -- the file by which it is tried whether a folder takes files
 abbrev pub tried_name : List ℕ → ℕ → List ℕ
-tried_name folder number = folder ++ codes "/." ++ decimal number ++ codes ".survey.new"
+tried_name folder number = folder ++ (codes "/." ++ (decimal number ++ codes ".survey.new"))
 
 -- a file of one of these names cannot be written
 abbrev pub IsUnkept : List ℕ → List ℕ → Fault → Type 0
