@@ -1,14 +1,21 @@
 -- Why a survey comes to no end.
-use Rattle.std.proofs.Common.{ℕ, ◌+◌, ◌-◌, ◌<◌, ◌≤◌, ◌≡◌, ◌≢◌, arith, refl, subst, sym, true, is_some, Bool, List, None, Some}
-use Rattle.std.specs.Prelude.{string_bytes}
+use Rattle.std.proofs.Common.{ℕ, ◌+◌, ◌-◌, ◌<◌, ◌≤◌, ◌≡◌, ◌≢◌, arith, refl, subst, sym, true, is_some, Bool, List, None, Some, get_or, length}
+use Rattle.std.specs.Prelude.{String, string_bytes}
+use Rattle.std.specs.Global.{Global}
 use Rattle.scenario.specs.declared.fault.ScenarioError.{ScenarioError}
 use Rattle.scenario.specs.declared.fault.ScenarioError.TheVariants as scenario
 use Rattle.survey.specs.Family.{Family}
+use Rattle.survey.specs.Judging.{IsRefusedIn}
+use Rattle.survey.specs.Plotting.{plot_of}
+use Rattle.shrink.specs.Breaches as Lessened
+use Rattle.surveyor.specs.declared.asked.Shape.{Shape}
+use Rattle.surveyor.specs.declared.asked.Shape.TheVariants.{Sums, Lines, Table, Picture, Least}
 use Rattle.surveyor.specs.declared.asked.Survey.{Survey}
 use Rattle.surveyor.specs.declared.fault.Fault.{Fault}
 use Rattle.surveyor.specs.declared.fault.Fault.TheVariants.{Unread, Unwritten, Refused, Campaign, Words, Memory}
-use Rattle.surveyor.specs.Ends.{IsStopped, IsUnended}
-use Rattle.surveyor.specs.Faults.{IsFile, IsKeptIn, IsUnkept, IsUnprinted, IsUntaken}
+use Rattle.surveyor.specs.Ends.{IsDrawnRefused, IsStopped, IsUnended, IsUnsurveyed}
+use Rattle.surveyor.specs.declared.asked.Merge.{Merge}
+use Rattle.surveyor.specs.Faults.{IsFile, IsKeptIn, IsNoPart, IsUnkept, IsUnprinted, IsUnread, IsUnsummed, IsUntaken, IsUntold}
 use Rattle.surveyor.specs.Words.{IsFamilyOf}
 
 pub stopped_printing : (s : Survey) (R : ℕ → ℕ → ScenarioError → Type 0) (fault : Fault) → IsUnprinted fault → IsStopped s R fault
@@ -80,3 +87,65 @@ kept_in name beside is_kept Words some h = absurd h
 
 pub kept_by_memory : (is_kept : Bool) (fault : Fault) → fault ≡ Memory → IsKeptIn is_kept fault
 kept_by_memory is_kept fault is = subst (IsKeptIn is_kept) (sym is) tt
+
+-- a folder that is named takes no file
+pub unopened : (s : Survey) (R : Family → ℕ → ℕ → ScenarioError → Type 0) (name beside : List ℕ) (fault : Fault) → is_some s.keep ≡ true → IsUnkept name beside fault → IsUnended s R fault
+unopened s R name beside (Unwritten None) some h = absurd h
+unopened s R name beside (Unwritten (Some own)) some h = some
+unopened s R name beside Memory some h = tt
+unopened s R name beside (Unread own) some h = absurd h
+unopened s R name beside (Refused line) some h = absurd h
+unopened s R name beside (Campaign first last e) some h = absurd h
+unopened s R name beside Words some h = absurd h
+
+-- campaigns that are lessened, and as they are drawn
+pub unended_least : (s : Survey) (f : Family) (fault : Fault) → s.shape ≡ Least → IsFamilyOf s f → IsStopped s (Lessened.IsRefusedIn (plot_of f)) fault → IsUnsurveyed s fault
+unended_least s f fault is family h = unended s (IsDrawnRefused s.shape) f fault family (subst (λ (shape : Shape). IsStopped s (IsDrawnRefused shape f) fault) (sym is) h)
+
+drawn : (shape : Shape) (s : Survey) (f : Family) (fault : Fault) → shape ≢ Least → IsStopped s (IsRefusedIn f) fault → IsStopped s (IsDrawnRefused shape f) fault
+drawn Sums s f fault not h = h
+drawn Lines s f fault not h = h
+drawn Table s f fault not h = h
+drawn Picture s f fault not h = h
+drawn Least s f fault not h = absurd (not refl)
+
+pub unended_drawn : (s : Survey) (f : Family) (fault : Fault) → s.shape ≢ Least → IsFamilyOf s f → IsStopped s (IsRefusedIn f) fault → IsUnsurveyed s fault
+unended_drawn s f fault not family h = unended s (IsDrawnRefused s.shape) f fault family (drawn s.shape s f fault not h)
+
+-- one of the files that are summed cannot be read, or is refused
+pub unread_one : (m : Merge) (k : ℕ) (own : String Global) (fault : Fault) → k < length m.names.items → get_or m.names.items k own ≡ own → IsUnread (string_bytes own) fault → IsUntold m fault
+unread_one m k own (Unread name) less at h = (k, own, less, at, sym h)
+unread_one m k own (Unwritten name) less at h = absurd h
+unread_one m k own Memory less at h = tt
+unread_one m k own (Refused line) less at h = absurd h
+unread_one m k own (Campaign first last e) less at h = absurd h
+unread_one m k own Words less at h = absurd h
+
+pub no_part_told : (m : Merge) (fault : Fault) → IsNoPart fault → IsUntold m fault
+no_part_told m (Unread name) h = absurd h
+no_part_told m (Unwritten name) h = absurd h
+no_part_told m Memory h = tt
+no_part_told m (Refused line) h = tt
+no_part_told m (Campaign first last e) h = absurd h
+no_part_told m Words h = absurd h
+
+-- or their sums are not printed
+pub untold_summed : (m : Merge) (fault : Fault) → IsUntold m fault → IsUnsummed m fault
+untold_summed m (Unread name) h = h
+untold_summed m (Unwritten name) h = absurd h
+untold_summed m Memory h = tt
+untold_summed m (Refused line) h = tt
+untold_summed m (Campaign first last e) h = absurd h
+untold_summed m Words h = absurd h
+
+pub unprinted_summed : (m : Merge) (fault : Fault) → IsUnprinted fault → IsUnsummed m fault
+unprinted_summed m (Unwritten None) h = tt
+unprinted_summed m (Unwritten (Some name)) h = absurd h
+unprinted_summed m Memory h = tt
+unprinted_summed m (Unread name) h = absurd h
+unprinted_summed m (Refused line) h = absurd h
+unprinted_summed m (Campaign first last e) h = absurd h
+unprinted_summed m Words h = absurd h
+
+pub unsummed_by_memory : (m : Merge) (fault : Fault) → fault ≡ Memory → IsUnsummed m fault
+unsummed_by_memory m fault is = subst (IsUnsummed m) (sym is) tt

@@ -1,5 +1,6 @@
 //! What the words ask for that `clap` has found.
 ghost use Rattle.std.specs.Prelude.{◌≡◌, ◌≢◌, ◌<◌, ◌≤◌, ◌↔◌, ℕ, Bool, IfErr, IfOk, IsTrue, MatchOption, MatchResult, Option, codes, count_by, map, option_map, string_bytes};
+ghost use Rattle.std.specs.List.{list_any};
 ghost use Rattle.std.specs.Str.{bytes_eq};
 ghost use Rattle.clap.specs.Words.{found_of, rows_of};
 ghost use Rattle.surveyor.specs.Asked.{IsAsked, IsSurvey};
@@ -218,22 +219,31 @@ fn break_of(alloc: Global, found: &ArgMatches) -> Result<(Survey, bool), AskedEr
     Ok((survey, is_table))
 }
 
+/// Whether one of these options and switches stands there.
+fn has_any(found: &ArgMatches, names: &[&str]) -> bool
+    ensures { result ≡ list_any (λ name. has name.now (rows_of (found_of found.now))) names.now }
+{
+    names.iter().any(|name| has(found, name))
+}
+
 /// Whether a word stands there that speaks of campaigns to be played.
 fn does_play(found: &ArgMatches) -> bool
     ensures { result ≡ does_play (rows_of (found_of found.now)) }
 {
-    let names = [
-        "generals",
-        "bound",
-        "traitors",
-        "rule",
-        "patience",
-        "adversary",
-        "keep",
-        "signed",
-        "break",
-    ];
-    names.iter().any(|name| has(found, name))
+    has_any(
+        found,
+        &[
+            "generals",
+            "bound",
+            "traitors",
+            "rule",
+            "patience",
+            "adversary",
+            "keep",
+            "signed",
+            "break",
+        ],
+    )
 }
 
 /// The names of files.

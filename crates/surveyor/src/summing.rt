@@ -19,6 +19,7 @@ use survey_tables::{Stretch, doubles, holes};
 /// # Errors
 ///
 /// What keeps it from its end.
+#[tactic(auto, using(crate::proofs::FaultLemmas::untold_summed, crate::proofs::FaultLemmas::unprinted_summed, crate::proofs::FaultLemmas::unsummed_by_memory))]
 pub fn summed<O: Output>(rt: &HostRuntime, out: &mut O, asked: &Merge) -> Result<u8, Fault>
     ensures summed { IfOk result (IsSummed asked.now (O.contents out.old) (O.contents out.new)) }
     ensures refused { IfErr result (IsUnsummed asked.now) }
@@ -31,6 +32,7 @@ pub fn summed<O: Output>(rt: &HostRuntime, out: &mut O, asked: &Merge) -> Result
 }
 
 /// What the lines of the files tell.
+#[tactic(auto, using(crate::proofs::FaultLemmas::unread_one, crate::proofs::FaultLemmas::no_part_told))]
 fn told(rt: &HostRuntime, asked: &Merge) -> Result<Parts, Fault>
     ensures told { IfOk result (λ parts. IsTold asked.now parts.head.items parts.findings.items) }
     ensures refused { IfErr result (IsUntold asked.now) }

@@ -26,7 +26,7 @@ use survey_tables::lines_text;
 /// # Errors
 ///
 /// What keeps it from its end.
-#[tactic(auto, using(crate::proofs::FaultLemmas::unended, crate::proofs::FaultLemmas::untaken))]
+#[tactic(auto, using(crate::proofs::FaultLemmas::untaken, crate::proofs::FaultLemmas::unopened, crate::proofs::FaultLemmas::unended_least, crate::proofs::FaultLemmas::unended_drawn))]
 pub fn surveyed<T: Threads + Sync, O: Output>(
     rt: &HostRuntime,
     threads: &T,
