@@ -164,6 +164,7 @@ fn owned(alloc: Global, found: &ArgMatches, name: &str) -> Result<Option<String>
 }
 
 /// The survey that is asked for, where so many traitors stand for none that are said.
+#[tactic(auto, using(crate::proofs::MeantLemmas::no_generals, crate::proofs::MeantLemmas::no_bound, crate::proofs::MeantLemmas::no_traitors, crate::proofs::MeantLemmas::no_seeds, crate::proofs::MeantLemmas::no_manner, crate::proofs::MeantLemmas::no_patience, crate::proofs::MeantLemmas::no_shape))]
 fn survey_of<'a>(alloc: Global, found: &ArgMatches<'a>, some: &'a str) -> Result<Survey, AskedError>
     ensures survey { IfOk result IsSurvey }
     ensures told { IfOk result (IsSurveying some.entry.now (rows_of (found_of found.now))) }
@@ -203,6 +204,7 @@ fn is_table(shape: Shape) -> Option<bool>
 }
 
 /// The survey of what breaks agreement that is asked for.
+#[tactic(auto, using(crate::proofs::MeantLemmas::no_break, crate::proofs::MeantLemmas::no_break_shape, crate::proofs::MeantLemmas::no_break_kept))]
 fn break_of(alloc: Global, found: &ArgMatches) -> Result<(Survey, bool), AskedError>
     ensures survey { IfOk result (λ r. IsSurvey r.0) }
     ensures told { IfOk result (λ r. IsBreaking (rows_of (found_of found.now)) r.0 r.1) }
@@ -290,6 +292,7 @@ fn is_summary(shape: Shape) -> bool
 }
 
 /// What is to be told of these files.
+#[tactic(auto, using(crate::proofs::MeantLemmas::no_merge_shape, crate::proofs::MeantLemmas::no_merge_seeds, crate::proofs::MeantLemmas::no_merge_played, crate::proofs::MeantLemmas::no_merge_summary, crate::proofs::MeantLemmas::no_merge_twice))]
 fn merge_of(alloc: Global, found: &ArgMatches, names: &[&str]) -> Result<Merge, AskedError>
     ensures told { IfOk result (IsMerging (map (λ name. name.now) names.now) (rows_of (found_of found.now))) }
     ensures refused { IfErr result (λ e. IsRefused e ((m : Merge) →
@@ -315,6 +318,7 @@ fn merge_of(alloc: Global, found: &ArgMatches, names: &[&str]) -> Result<Merge, 
 /// # Errors
 ///
 /// Why they ask for nothing.
+#[tactic(auto, using(crate::proofs::MeantLemmas::no_merge_asked, crate::proofs::MeantLemmas::no_break_asked, crate::proofs::MeantLemmas::no_survey_asked))]
 pub fn meant(alloc: Global, found: &ArgMatches) -> Result<Asked, AskedError>
     ensures asked { IfOk result IsAsked }
     ensures told { IfOk result (Asks (rows_of (found_of found.now))) }
