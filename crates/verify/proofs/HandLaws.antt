@@ -24,6 +24,13 @@ pub given_back : (reached kept : KnownSoFar) (unit : ℕ) (o : Option AbsState) 
 given_back reached kept unit o e f =
     ap₂ (λ (r : KnownSoFar) (p : Option AbsState). slice_set r unit p) f e ∙ (set-set reached unit None (reached_at reached unit) ∙ set-get_or reached unit None)
 
+-- what was taken out comes back joined
+pub comes_back : (old between : KnownSoFar) (unit : ℕ) (a b : AbsState) (kept : Option AbsState) → between ≡ slice_set old unit None → kept ≡ reached_at old unit → b ≡ joined_with kept a →
+    slice_set between unit (Some b) ≡ along (pos unit, a) old
+comes_back old between unit a b kept e f g =
+    ap₂ (λ (r : KnownSoFar) (c : AbsState). slice_set r unit (Some c)) e (g ∙ ap (λ (o : Option AbsState). joined_with o a) f)
+    ∙ set-set old unit None (Some (joined_with (reached_at old unit) a))
+
 pub taken_next : (wanted : Result KnownSoFar VerifyError) (next : ℕ) (items kept : KnownSoFar) (hand : Option (Box AbsState Global)) → wanted ≡ Ok items → unboxed hand ≡ reached_at items next →
     kept ≡ slice_set items next None → Comes wanted next (Ok hand) kept
 taken_next wanted next items kept hand e h rest = (items, e, record { here = h; rest = rest })

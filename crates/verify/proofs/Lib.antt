@@ -22,7 +22,7 @@ pub mod CallLemmas
 pub mod MemoryRows
 pub mod StepReasons
 pub mod OwnReasons
-pub mod Boxes
+pub mod Padded
 pub mod Taken
 pub mod StraightLemmas
 pub mod PassLaws
