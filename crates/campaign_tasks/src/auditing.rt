@@ -6,11 +6,11 @@ ghost use Rattle.inputs.specs.Refusals.{RefusesChronicle, RefusesText};
 
 use crate::chronicle::{with_decisions, with_signed_decisions};
 use command_line::Lieutenants;
-use inputs::{Refusal, as_text};
+use inputs::{Refusal, sound_chronicle, sound_signed_chronicle};
 use roster::Scenario;
 use scenario::Campaign;
 use std::alloc::{AllocError, Global};
-use trace::{Latch, sound_chronicle, sound_signed_chronicle, write_verdict};
+use trace::{Latch, write_verdict};
 use world::Verdict;
 
 /// The audit of the bytes: that they are the text of a chronicle of the campaign, and the verdict on it; behind them
@@ -46,7 +46,7 @@ fn oral_audited(
     ensures refused { IfErr result (RefusesText (RefusesChronicle (Oral scenario.now)) bytes.now) }
 {
     scenario.recall();
-    let chronicle = sound_chronicle(alloc, scenario, as_text(bytes)?)?;
+    let chronicle = sound_chronicle(alloc, scenario, bytes)?;
     let lines = sound_text(alloc, chronicle.verdict())?;
     Ok(with_decisions(alloc, lines, &chronicle, explained)?)
 }
@@ -62,7 +62,7 @@ fn signed_audited(
     ensures audited { IfOk result (λ text. IsSignedAudited scenario.now explained bytes.now text.items) }
     ensures refused { IfErr result (RefusesText (RefusesChronicle (Signed scenario.now)) bytes.now) }
 {
-    let chronicle = sound_signed_chronicle(alloc, scenario, as_text(bytes)?)?;
+    let chronicle = sound_signed_chronicle(alloc, scenario, bytes)?;
     let front = sound_text(alloc, chronicle.verdict())?;
     Ok(with_signed_decisions(alloc, front, &chronicle, explained)?)
 }

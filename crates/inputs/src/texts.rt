@@ -11,6 +11,7 @@ use crate::refusal::Refusal;
 /// That they are none.
 pub fn as_text(bytes: &[u8]) -> Result<&str, Refusal>
     ensures text { IfOk result (λ text. text.now ≡ bytes.now) }
+    ensures utf8 { IfOk result (λ _. IsUtf8 bytes.now) }
     ensures none { IfErr result (λ refusal. (refusal ≡ NotText) × (IsUtf8 bytes.now → ⊥)) }
 {
     match str::from_utf8(bytes) {

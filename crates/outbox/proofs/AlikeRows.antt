@@ -1,6 +1,7 @@
 -- Rows in which all have one order, and rows that are set apart.
-use Rattle.std.proofs.Common.{ℕ, zero, suc, ◌+◌, ◌<◌, ◌≡◌, ◌≢◌, Bool, true, false, ◌||◌, List, [], ◌∷◌, ◌++◌, map, length, get_or, set, replicate, refl, sym, ap, ◌∙◌, arith, Some, None, Option, length-set}
+use Rattle.std.proofs.Common.{ℕ, zero, suc, ◌+◌, ◌<◌, ◌≤◌, ◌≡◌, ◌≢◌, Bool, true, false, ◌||◌, List, [], ◌∷◌, ◌++◌, map, length, get_or, set, replicate, refl, sym, ap, ◌∙◌, arith, Some, None, Option, length-set}
 use Rattle.std.specs.Prelude.{◌==◌, if◌then◌else◌}
+use Rattle.std.proofs.lemmas.List.{length-replicate}
 use Rattle.label.specs.Labels.{on}
 use Rattle.outbox.specs.Rows.{RowOrders, receivers_in, orders_in, order_in, alike_row, empty_row, all_put, row_of, rows_seen}
 use Rattle.outbox.proofs.Single.{same_default}
@@ -34,6 +35,9 @@ order_seen o ns now r there seen e = sym (ap (order_in r) (sym seen) ∙ (alike_
 
 pub told_seen : (o : Option ℕ) (ns : List ℕ) (now : RowOrders) (count : ℕ) → alike_row o ns ≡ now → count ≡ length ns → replicate count o ≡ orders_in now
 told_seen o ns now count seen e = ap (λ (k : ℕ). replicate k o) e ∙ (sym (alike_orders o ns) ∙ ap orders_in seen)
+
+pub told_long : (o : Option ℕ) (count : ℕ) → count ≤ 13 → length (replicate count o) ≤ 13
+told_long o count few = rw (length-replicate count o) few
 
 pub one_more : (o : Option ℕ) (k : ℕ) → replicate k o ++ o ∷ [] ≡ replicate (k + 1) o
 one_more o k = let e : k + 1 ≡ suc k = omega arith in behind o k ∙ ap (λ (i : ℕ). replicate i o) (sym e)

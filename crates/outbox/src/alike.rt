@@ -1,8 +1,10 @@
-ghost use Rattle.std.specs.Prelude.{◌≡◌};
+ghost use Rattle.std.specs.Prelude.{◌≡◌, ◌≤◌, length};
 ghost use Rattle.outbox.specs.Rows.{empty_row, orders_in, receivers_in, all_put, order_in};
+ghost use Rattle.outbox.specs.Told.{orders_told};
 
 use crate::receivers::Receivers;
 use crate::row::Row;
+use crate::told::Told;
 use arrayvec::ArrayVec;
 use std::marker::Model;
 
@@ -69,6 +71,17 @@ impl Alike {
             told.push(order);
         }
         told
+    }
+
+    /// The same, all at once.
+    pub(crate) fn told_at_once(&self) -> Told
+        ensures orders { orders_told result ≡ orders_in self.now }
+        ensures few { length (orders_told result) ≤ 13 }
+    {
+        Told::Alike {
+            order: self.order,
+            times: self.receivers.count(),
+        }
     }
 
     /// The same places, with an order for each receiver.

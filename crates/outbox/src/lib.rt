@@ -12,9 +12,11 @@ mod relays;
 mod row;
 mod rows;
 mod signing;
+mod told;
 
 pub use label::Shape;
 pub use laws::last_orders_are_given;
 pub use orders::Orders;
 pub use outbox::Outbox;
 pub use semantics::Entry;
+pub use told::Told;

@@ -1,9 +1,11 @@
-ghost use Rattle.std.specs.Prelude.{◌≡◌};
+ghost use Rattle.std.specs.Prelude.{◌≡◌, ◌≤◌, length};
 ghost use Rattle.outbox.specs.Orders.{orders_seen};
 ghost use Rattle.outbox.specs.Rows.{orders_in, order_in, receivers_in};
+ghost use Rattle.outbox.specs.Told.{orders_told};
 
 use crate::alike::Alike;
 use crate::row::Row;
+use crate::told::Told;
 use arrayvec::ArrayVec;
 
 /// Lent: the places of one label, who may hear of it, each with the order put for him.
@@ -48,6 +50,21 @@ impl Orders<'_> {
             Orders::Alike(alike) => alike.told(),
             Orders::Apart(row) => row.told(),
             Orders::Nobody => ArrayVec::new(),
+        }
+    }
+
+    /// The same, alike orders at once.
+    pub(crate) fn told_at_once(&self) -> Told
+        ensures orders { orders_told result ≡ orders_in (orders_seen self.now) }
+        ensures few { length (orders_told result) ≤ 13 }
+    {
+        match self {
+            Orders::Alike(alike) => alike.told_at_once(),
+            Orders::Apart(row) => Told::Apart(row.told()),
+            Orders::Nobody => Told::Alike {
+                order: None,
+                times: 0,
+            },
         }
     }
 }

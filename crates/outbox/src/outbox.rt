@@ -5,11 +5,13 @@ ghost use Rattle.semantics.specs.Entries.{is_entered, entered};
 ghost use Rattle.semantics.specs.Outbox.{places, taken_value as value_in, empty_outbox, written, places_set, at_place, along_row, at_receiver, as_taken};
 ghost use Rattle.outbox.specs.Contents.{HasPlaces, order_at};
 ghost use Rattle.outbox.specs.Orders.{order_of_row};
+ghost use Rattle.outbox.specs.Told.{orders_told};
 
 use crate::orders::Orders;
 use crate::relays::rows_of;
 use crate::rows::Rows;
 use crate::signing::{Signing, copied_signing, same_signing};
+use crate::told::Told;
 use arrayvec::ArrayVec;
 use contexts::taken_value;
 use label::Shape;
@@ -231,14 +233,18 @@ impl Outbox {
     }
 
     /// The orders for the label of that rank, receiver by receiver, ascending; none where there is no such label.
-    pub fn told(&self, rank: u32) -> ArrayVec<Option<u32>, 13>
-        ensures { result.items ≡ slice_index_or self.now.rows rank [] }
+    pub fn told(&self, rank: u32) -> Told
+        ensures orders { orders_told result ≡ slice_index_or self.now.rows rank [] }
+        ensures few { length (orders_told result) ≤ 13 }
     {
         let rank = rank as usize;
         if rank >= self.rows.len() {
-            return ArrayVec::new();
+            return Told::Alike {
+                order: None,
+                times: 0,
+            };
         }
-        self.rows.at(rank).told()
+        self.rows.at(rank).told_at_once()
     }
 
     /// The same outbox.

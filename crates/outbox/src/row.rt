@@ -81,7 +81,8 @@ impl Row {
 
     /// The orders, receiver by receiver.
     pub(crate) fn told(&self) -> ArrayVec<Option<u32>, 13>
-        ensures { result.items ≡ orders_in self.now }
+        ensures orders { result.items ≡ orders_in self.now }
+        ensures few { length result.items ≤ 13 }
     {
         told(self.receivers.list().as_slice(), &self.orders)
     }
@@ -100,7 +101,8 @@ impl Row {
 /// The orders, by number, of the receivers.
 fn told(receivers: &[u8], kept: &OrdersByNumber) -> ArrayVec<Option<u32>, 13>
     requires few { length receivers.now ≤ 13 }
-    ensures { result.items ≡ orders_in (row_of kept.now receivers.now) }
+    ensures orders { result.items ≡ orders_in (row_of kept.now receivers.now) }
+    ensures few { length result.items ≤ 13 }
 {
     let mut told = ArrayVec::new();
     for receiver in receivers {

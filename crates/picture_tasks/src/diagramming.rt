@@ -8,7 +8,7 @@ ghost use Rattle.scenario.specs.declared.messages.Campaign.TheVariants.{Oral, Si
 ghost use Rattle.signed_diagram.specs.Svg.{signed_svg};
 
 use diagram::campaign_svg;
-use inputs::{Refusal, as_text};
+use inputs::{Refusal, sound_chronicle, sound_signed_chronicle};
 use retold::{hearing, told_table};
 use roster::Scenario;
 use scenario::Campaign;
@@ -16,7 +16,6 @@ use signed::{SignedChronicle, play_signed};
 use signed_diagram::signed_campaign_svg;
 use std::alloc::{AllocError, Global};
 use tables::recall_orders;
-use trace::{sound_chronicle, sound_signed_chronicle};
 use world::{Chronicle, Schedule, play};
 
 /// The campaign by this schedule, as a space-time diagram in SVG.
@@ -94,7 +93,7 @@ fn oral_record_diagrammed(
     ensures refused { IfErr result (RefusesText (RefusesChronicle (Oral scenario.now)) bytes.now) }
 {
     scenario.recall();
-    let chronicle = sound_chronicle(alloc, scenario, as_text(bytes)?)?;
+    let chronicle = sound_chronicle(alloc, scenario, bytes)?;
     Ok(diagram_of(alloc, &chronicle)?)
 }
 
@@ -108,7 +107,7 @@ fn signed_record_diagrammed(
     ensures refused { IfErr result (RefusesText (RefusesChronicle (Signed scenario.now)) bytes.now) }
 {
     scenario.recall();
-    let chronicle = sound_signed_chronicle(alloc, scenario, as_text(bytes)?)?;
+    let chronicle = sound_signed_chronicle(alloc, scenario, bytes)?;
     Ok(signed_diagram_of(alloc, &chronicle)?)
 }
 

@@ -8,7 +8,7 @@ ghost use Rattle.scenario.specs.declared.messages.Campaign.TheVariants.{Oral, Si
 ghost use Rattle.signed_page.specs.Account.{signed_page_text};
 
 use campaign_page::page_text;
-use inputs::{Refusal, as_text};
+use inputs::{Refusal, sound_chronicle, sound_signed_chronicle};
 use retold::{hearing, told_table};
 use roster::Scenario;
 use scenario::Campaign;
@@ -16,7 +16,6 @@ use signed::{SignedChronicle, play_signed};
 use signed_page::signed_page_text;
 use std::alloc::{AllocError, Global};
 use tables::recall_orders;
-use trace::{sound_chronicle, sound_signed_chronicle};
 use world::{Chronicle, Schedule, play};
 
 /// The campaign by this schedule, whose scenario this text tells, as a page of HTML.
@@ -99,7 +98,7 @@ fn oral_record_paged(
     ensures refused { IfErr result (RefusesText (RefusesChronicle (Oral scenario.now)) bytes.now) }
 {
     scenario.recall();
-    let chronicle = sound_chronicle(alloc, scenario, as_text(bytes)?)?;
+    let chronicle = sound_chronicle(alloc, scenario, bytes)?;
     Ok(page_of(alloc, text, None, &chronicle)?)
 }
 
@@ -114,7 +113,7 @@ fn signed_record_paged(
     ensures refused { IfErr result (RefusesText (RefusesChronicle (Signed scenario.now)) bytes.now) }
 {
     scenario.recall();
-    let chronicle = sound_signed_chronicle(alloc, scenario, as_text(bytes)?)?;
+    let chronicle = sound_signed_chronicle(alloc, scenario, bytes)?;
     Ok(signed_page_of(alloc, text, None, &chronicle)?)
 }
 

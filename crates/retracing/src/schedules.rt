@@ -32,7 +32,7 @@ pub fn retraced(alloc: Global, scenario: &Scenario, text: &str) -> Result<String
     ensures fault { IfErr result (λ e. e ≢ Memory → IsFaultOf scenario.now text.now e) }
 {
     scenario.recall();
-    let chronicle = sound_chronicle(alloc, scenario, text)?;
+    let chronicle = sound_chronicle(alloc, scenario, text.as_bytes())?;
     let schedule = schedule_of(alloc, scenario, chronicle.accesses())?;
     Ok(schedule_text(alloc, &schedule)?)
 }

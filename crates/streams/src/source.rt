@@ -53,9 +53,7 @@ impl<R: Read + Drop> Source for R {
     ghost fails = { λ _. Unit {0} };
 
     fn read_all(mut self, alloc: Global) -> io::Result<Vec<u8>> {
-        let mut all = Vec::new(alloc);
-        self.read_to_end(&mut all)?;
-        Ok(all)
+        read_front(&mut self, alloc, usize::MAX)
     }
 
     fn read_within(mut self, alloc: Global, most: usize) -> io::Result<Within> {

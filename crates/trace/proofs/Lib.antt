@@ -1,5 +1,6 @@
 pub mod EntryLemmas
 pub mod WrittenLemmas
+pub mod Repeating
 pub mod LineLemmas
 pub mod RoundLemmas
 pub mod ChainLemmas

@@ -1,5 +1,5 @@
 -- Single lines of a chronicle, by the numbers that they tell, and parts of them.
-use Rattle.std.specs.Prelude.{ℕ, Bool, true, false, List, [], ◌∷◌, ◌++◌, ◌==◌, map, filter, flat_map, decimal, codes, Option, None, Some}
+use Rattle.std.specs.Prelude.{ℕ, zero, suc, Bool, true, false, List, [], ◌∷◌, ◌++◌, ◌==◌, map, filter, flat_map, decimal, codes, Option, None, Some}
 use Rattle.board.specs.Board.{Access}
 use Rattle.letter.specs.Letters.{Letter}
 use Rattle.roster.specs.Scenario.{Scenario, is_traitor}
@@ -27,3 +27,8 @@ one_round r xs letters = round_told letter_lines r xs letters
 abbrev pub decided_lines : Scenario → ℕ → Option ℕ → List Line
 decided_lines s g None = []
 decided_lines s g (Some d) = decision_line g (is_traitor s g) d ∷ []
+
+-- a piece so many times
+abbrev pub repeated : ℕ → List ℕ → List ℕ
+repeated zero piece = []
+repeated (suc times) piece = piece ++ repeated times piece

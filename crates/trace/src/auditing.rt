@@ -88,7 +88,7 @@ pub fn check(alloc: Global, scenario: &Scenario, text: &str) -> Result<Verdict, 
     ensures unsound { IfErr result (λ e. e ≢ Memory → IsSoundText scenario.now text.now → ⊥) }
     ensures fault { IfErr result (λ e. e ≢ Memory → IsFaultOf scenario.now text.now e) }
 {
-    let chronicle = sound_chronicle(alloc, scenario, text)?;
+    let chronicle = sound_chronicle(alloc, scenario, text.as_bytes())?;
     Ok(chronicle.verdict())
 }
 
@@ -104,14 +104,13 @@ pub fn check(alloc: Global, scenario: &Scenario, text: &str) -> Result<Verdict, 
 pub fn sound_chronicle(
     alloc: Global,
     scenario: &Scenario,
-    text: &str,
+    text: &[u8],
 ) -> Result<Chronicle, TraceError>
     ensures sound { IfOk result (λ _. IsSoundText scenario.now text.now) }
     ensures chronicle { IfOk result (λ chronicle. chronicle ≡ chronicle_told scenario.now text.now) }
     ensures unsound { IfErr result (λ e. e ≢ Memory → IsSoundText scenario.now text.now → ⊥) }
     ensures fault { IfErr result (λ e. e ≢ Memory → IsFaultOf scenario.now text.now e) }
 {
-    let text = text.as_bytes();
     let Some(version) = version_named(scenario.rule(), text) else {
         return Err(refusal(text, 0));
     };

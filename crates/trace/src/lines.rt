@@ -10,7 +10,7 @@ use crate::sink::Sink;
 use crate::writing::{put_all, put_headed, put_next};
 use asking::{numbers, worded};
 use board::Access;
-use outbox::Outbox;
+use outbox::{Outbox, Told};
 use semantics::{Reply, Request};
 use world::Verdict;
 
@@ -116,7 +116,10 @@ fn add_orders(line: &mut LineBuffer, outbox: &Outbox, rank: u32)
     ensures orders { line.new ≡ line.old ++ further (map place (slice_index_or outbox.now.rows rank [])) }
     ensures short { length line.new ≤ length line.old + 143 }
 {
-    line.add_orders(outbox.told(rank).as_slice());
+    match outbox.told(rank) {
+        Told::Alike { order, times } => line.add_alike(order, times),
+        Told::Apart(orders) => line.add_orders(orders.as_slice()),
+    }
 }
 
 /// Adds the line of a label's row: its rank, and what its receivers were told.

@@ -40,8 +40,8 @@ fn access(number: &[u8]) -> Mark
     }
 }
 
-/// What a line says.
-fn said(line: &[u8]) -> Mark
+/// What a line says, by its words.
+fn said_by_words(line: &[u8]) -> Mark
     ensures { (rest : Named) → marked result rest ≡ with_line (pieces space line.now) rest }
 {
     let (word, Some(rest)) = piece(SPACE, line) else {
@@ -54,6 +54,16 @@ fn said(line: &[u8]) -> Mark
         access(number)
     } else {
         Mark::Other
+    }
+}
+
+/// What a line says. Most lines are rows, which tell it by their first bytes.
+fn said(line: &[u8]) -> Mark
+    ensures { (rest : Named) → marked result rest ≡ with_line (pieces space line.now) rest }
+{
+    match line {
+        [b'r', b'o', b'w', ..] => Mark::Other,
+        _ => said_by_words(line),
     }
 }
 

@@ -66,7 +66,7 @@ pub fn check_signed(alloc: Global, scenario: &Scenario, text: &str) -> Result<Ve
     ensures unsound { IfErr result (λ e. e ≢ Memory → IsSoundSignedText scenario.now text.now → ⊥) }
     ensures fault { IfErr result (λ e. e ≢ Memory → IsSignedFaultOf scenario.now text.now e) }
 {
-    let chronicle = sound_signed_chronicle(alloc, scenario, text)?;
+    let chronicle = sound_signed_chronicle(alloc, scenario, text.as_bytes())?;
     Ok(chronicle.verdict())
 }
 
@@ -78,14 +78,13 @@ pub fn check_signed(alloc: Global, scenario: &Scenario, text: &str) -> Result<Ve
 pub fn sound_signed_chronicle(
     alloc: Global,
     scenario: &Scenario,
-    text: &str,
+    text: &[u8],
 ) -> Result<SignedChronicle, TraceError>
     ensures sound { IfOk result (λ _. IsSoundSignedText scenario.now text.now) }
     ensures chronicle { IfOk result (λ chronicle. chronicle ≡ signed_chronicle_told scenario.now text.now) }
     ensures unsound { IfErr result (λ e. e ≢ Memory → IsSoundSignedText scenario.now text.now → ⊥) }
     ensures fault { IfErr result (λ e. e ≢ Memory → IsSignedFaultOf scenario.now text.now e) }
 {
-    let text = text.as_bytes();
     if !is_third_version(text) {
         return Err(refusal(text, 0));
     }

@@ -18,7 +18,10 @@ loop-receiver-preserved c =
       few = (let e = ap length c.push.ensures.items in let long = length-append before (c.at.result ∷ []) in let few = c.loop-receiver.invariant.few in omega arith);
     }
 
-pub returns : goal.returns
-returns c =
+pub returns-clause-orders : goal.returns-clause-orders
+returns-clause-orders c =
     c.loop-receiver.invariant.told
     ∙ (ap (map (λ n. get_or c.args.kept.now n None)) (take_all c.loop-receiver.receiver-index c.args.receivers.now (let h = c.loop-receiver-test.false in omega arith)) ∙ sym (row_told c.args.kept.now c.args.receivers.now))
+
+pub returns-clause-few : goal.returns-clause-few
+returns-clause-few c = let few = c.loop-receiver.invariant.few in let most = c.requires in omega (arith, few, most)

@@ -1,7 +1,8 @@
+use Rattle.std.proofs.Common.{refl}
 use Rattle.picture_tasks.proofs.DiagramLemmas.{signed_told_drawn}
 use Rattle.picture_tasks.proofs.diagramming.signed_record_diagrammed.Goals as goal
 
 pub returns-clause-drawn : goal.returns-clause-drawn
 returns-clause-drawn c =
-    signed_told_drawn c.args.scenario.now c.in_ok-as_text.field-0.now c.args.bytes.now c.in_ok-chronicle.chronicle c.in_ok-signed_diagram_of.field-0.items
-    c.recall.ensures c.in_ok-as_text.ensures.text c.in_ok-chronicle.ensures.sound c.in_ok-chronicle.ensures.chronicle c.in_ok-signed_diagram_of.ensures
+    signed_told_drawn c.args.scenario.now c.args.bytes.now c.args.bytes.now c.in_ok-chronicle.chronicle c.in_ok-signed_diagram_of.field-0.items
+    c.recall.ensures refl c.in_ok-chronicle.ensures.sound c.in_ok-chronicle.ensures.chronicle c.in_ok-signed_diagram_of.ensures

@@ -1,7 +1,8 @@
+use Rattle.std.proofs.Common.{refl}
 use Rattle.picture_tasks.proofs.PageLemmas.{signed_told_paged}
 use Rattle.picture_tasks.proofs.paging.signed_record_paged.Goals as goal
 
 pub returns-clause-told : goal.returns-clause-told
 returns-clause-told c =
-    signed_told_paged c.args.scenario.now c.args.text.now c.in_ok-as_text.field-0.now c.args.bytes.now c.in_ok-chronicle.chronicle c.in_ok-signed_page_of.field-0.items
-    c.recall.ensures c.in_ok-as_text.ensures.text c.in_ok-chronicle.ensures.sound c.in_ok-chronicle.ensures.chronicle c.in_ok-signed_page_of.ensures
+    signed_told_paged c.args.scenario.now c.args.text.now c.args.bytes.now c.args.bytes.now c.in_ok-chronicle.chronicle c.in_ok-signed_page_of.field-0.items
+    c.recall.ensures refl c.in_ok-chronicle.ensures.sound c.in_ok-chronicle.ensures.chronicle c.in_ok-signed_page_of.ensures

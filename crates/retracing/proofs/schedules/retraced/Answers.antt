@@ -1,12 +1,13 @@
 use Rattle.std.proofs.Common.{ap, ◌∙◌}
 use Rattle.retracing.proofs.Retracing.{ledger_at, retraced_by}
+use Rattle.trace.specs.Names.{chronicle_told}
 use Rattle.retracing.proofs.schedules.retraced.Goals as goal
 
 pub schedule_of-requires : goal.schedule_of-requires
 schedule_of-requires c =
-    ledger_at c.args.scenario.now c.args.text.now c.accesses.result.now c.recall.ensures (c.accesses.ensures ∙ ap (λ chronicle. chronicle.accesses) c.in_ok-chronicle.ensures.chronicle)
+    ledger_at c.args.scenario.now c.args.text.now c.accesses.result.now c.recall.ensures (c.accesses.ensures ∙ ap (λ chronicle. chronicle.accesses) (c.in_ok-chronicle.ensures.chronicle ∙ ap (chronicle_told c.args.scenario.now) c.as_bytes.ensures.value))
 
 pub returns-clause-retraced : goal.returns-clause-retraced
 returns-clause-retraced c =
-    retraced_by c.args.scenario.now c.args.text.now c.accesses.result.now c.in_ok-schedule.schedule c.recall.ensures (c.accesses.ensures ∙ ap (λ chronicle. chronicle.accesses) c.in_ok-chronicle.ensures.chronicle)
+    retraced_by c.args.scenario.now c.args.text.now c.accesses.result.now c.in_ok-schedule.schedule c.recall.ensures (c.accesses.ensures ∙ ap (λ chronicle. chronicle.accesses) (c.in_ok-chronicle.ensures.chronicle ∙ ap (chronicle_told c.args.scenario.now) c.as_bytes.ensures.value))
     c.in_ok-schedule.ensures.again c.in_ok-schedule.ensures.entries c.in_ok-schedule.ensures.read c.in_ok-schedule_text.ensures

@@ -1,5 +1,6 @@
 use Rattle.std.proofs.Common.{rules, arith, refl, replicate, ap, take, ◌++◌, ◌∙◌, length}
 use Rattle.std.proofs.lemmas.Fmt.{length-decimal-le}
+use Rattle.trace.specs.Lines.{repeated}
 use Rattle.trace.proofs.WrittenLemmas.{next_digits}
 use Rattle.trace.proofs.composing.with_digits.Goals as goal
 
@@ -12,21 +13,14 @@ overflow_sub-digits c = let few = length-decimal-le 10 c.args.number (omega arit
 pub overflow_sub-start : goal.overflow_sub-start
 overflow_sub-start c = let few = length-decimal-le 10 c.args.number (omega arith) (omega arith) (omega arith) in omega (arith, c.write_digits-start.ensures.start)
 
-pub with_piece-requires : goal.with_piece-requires
-with_piece-requires c =
+pub with_copies-requires-clause-short : goal.with_copies-requires-clause-short
+with_copies-requires-clause-short c =
     let few = length-decimal-le 10 c.args.number (omega arith) (omega arith) (omega arith) in
     let e = next_digits 32 c.args.number c.write_digits-start.result (replicate 21 32) c.write_digits-start.new.buf c.write_digits-start.ensures.start (omega (arith, c.write_digits-start.ensures.start)) (search rules) refl c.write_digits-start.ensures.written in
     let long = ap length e in
     omega (arith, c.requires)
 
-pub returns-clause-count : goal.returns-clause-count
-returns-clause-count c =
-    let few = length-decimal-le 10 c.args.number (omega arith) (omega arith) (omega arith) in
-    let e = next_digits 32 c.args.number c.write_digits-start.result (replicate 21 32) c.write_digits-start.new.buf c.write_digits-start.ensures.start (omega (arith, c.write_digits-start.ensures.start)) (search rules) refl c.write_digits-start.ensures.written in
-    let long = ap length e in
-    omega (arith, c.with_piece.ensures.count)
-
 pub returns-clause-bytes : goal.returns-clause-bytes
 returns-clause-bytes c =
     let few = length-decimal-le 10 c.args.number (omega arith) (omega arith) (omega arith) in
-    c.with_piece.ensures.bytes ∙ ap (λ t. take c.args.count c.args.bytes.now ++ t) (next_digits 32 c.args.number c.write_digits-start.result (replicate 21 32) c.write_digits-start.new.buf c.write_digits-start.ensures.start (omega (arith, c.write_digits-start.ensures.start)) (search rules) refl c.write_digits-start.ensures.written)
+    c.with_copies.ensures.bytes ∙ ap (λ t. take c.args.count c.args.bytes.now ++ repeated c.args.times t) (next_digits 32 c.args.number c.write_digits-start.result (replicate 21 32) c.write_digits-start.new.buf c.write_digits-start.ensures.start (omega (arith, c.write_digits-start.ensures.start)) (search rules) refl c.write_digits-start.ensures.written)

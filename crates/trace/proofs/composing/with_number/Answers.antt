@@ -1,6 +1,7 @@
-use Rattle.std.proofs.Common.{ap, sym, take, ◌++◌, ◌∷◌, ◌∙◌}
-use Rattle.std.proofs.lemmas.Fmt.{decimal_digit}
+use Rattle.std.proofs.Common.{arith, take}
+use Rattle.trace.proofs.Repeating.{one_digit_more}
 use Rattle.trace.proofs.composing.with_number.Goals as goal
 
-pub returns-then-number-lt10-clause-bytes : goal.returns-then-number-lt10-clause-bytes
-returns-then-number-lt10-clause-bytes c = c.with_sign.ensures.bytes ∙ ap (λ t. take c.args.count c.args.bytes.now ++ 32 ∷ t) (sym (decimal_digit c.args.number c.if-number-lt10.true))
+pub returns-then-number-lt1000-clause-bytes : goal.returns-then-number-lt1000-clause-bytes
+returns-then-number-lt1000-clause-bytes c =
+    one_digit_more c.args.number (take c.args.count c.args.bytes.now) _ _ (omega (arith, c.if-number-lt100.false)) (omega (arith, c.if-number-lt1000.true)) c.with_two-end.ensures.bytes c.with_digit.ensures.bytes

@@ -1,0 +1,64 @@
+//! The chronicles of campaigns that bytes tell. Whether they are a text is asked only where they tell none.
+ghost use Rattle.std.specs.Prelude.{◌≡◌, IfOk, IfErr};
+ghost use Rattle.std.specs.Str.{IsUtf8};
+ghost use Rattle.scenario.specs.declared.messages.Campaign.TheVariants.{Oral, Signed};
+ghost use Rattle.trace.specs.Laws.{IsSoundText};
+ghost use Rattle.trace.specs.Names.{chronicle_told};
+ghost use Rattle.trace.specs.SignedAudit.{IsSoundSignedText, signed_chronicle_told};
+ghost use Rattle.inputs.specs.declared.refusal.Refusal.TheVariants.{NotText};
+ghost use Rattle.inputs.specs.Refusals.{RefusesChronicle, RefusesText};
+
+use crate::refusal::Refusal;
+use crate::texts::as_text;
+use roster::Scenario;
+use signed::SignedChronicle;
+use std::alloc::Global;
+use world::Chronicle;
+
+/// The chronicle of an oral campaign, if the bytes are the text of one of the scenario's.
+///
+/// # Errors
+///
+/// That the bytes are no text, or the first line that is not the chronicle's, or want of memory.
+pub fn sound_chronicle(
+    alloc: Global,
+    scenario: &Scenario,
+    bytes: &[u8],
+) -> Result<Chronicle, Refusal>
+    ensures sound { IfOk result (λ _. IsSoundText scenario.now bytes.now) }
+    ensures chronicle { IfOk result (λ chronicle. chronicle ≡ chronicle_told scenario.now bytes.now) }
+    ensures refused { IfErr result (RefusesText (RefusesChronicle (Oral scenario.now)) bytes.now) }
+    ensures none { IfErr result (λ refusal. (IsUtf8 bytes.now → ⊥) → refusal ≡ NotText) }
+{
+    match trace::sound_chronicle(alloc, scenario, bytes) {
+        Ok(chronicle) => Ok(chronicle),
+        Err(error) => {
+            as_text(bytes)?;
+            Err(Refusal::from(error))
+        }
+    }
+}
+
+/// The chronicle of a signed campaign, if the bytes are the text of one of the scenario's.
+///
+/// # Errors
+///
+/// Those of `sound_chronicle`.
+pub fn sound_signed_chronicle(
+    alloc: Global,
+    scenario: &Scenario,
+    bytes: &[u8],
+) -> Result<SignedChronicle, Refusal>
+    ensures sound { IfOk result (λ _. IsSoundSignedText scenario.now bytes.now) }
+    ensures chronicle { IfOk result (λ chronicle. chronicle ≡ signed_chronicle_told scenario.now bytes.now) }
+    ensures refused { IfErr result (RefusesText (RefusesChronicle (Signed scenario.now)) bytes.now) }
+    ensures none { IfErr result (λ refusal. (IsUtf8 bytes.now → ⊥) → refusal ≡ NotText) }
+{
+    match trace::sound_signed_chronicle(alloc, scenario, bytes) {
+        Ok(chronicle) => Ok(chronicle),
+        Err(error) => {
+            as_text(bytes)?;
+            Err(Refusal::from(error))
+        }
+    }
+}

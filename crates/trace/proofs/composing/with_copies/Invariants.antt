@@ -1,0 +1,10 @@
+use Rattle.std.proofs.Common.{◌≡◌, ◌≤◌, ◌+◌, ◌*◌, ◌++◌, ◌∷◌, [], take, length}
+use Rattle.trace.specs.Lines.{repeated}
+use Rattle.trace.proofs.composing.with_copies.Given as goal
+
+abbrev pub invariant-loop-time : goal.invariant-loop-time
+invariant-loop-time l = record {
+  written : take l.end l.bytes ≡ take l.fn.count l.fn.bytes ++ repeated l.time (l.piece);
+  room : l.end ≤ l.fn.count + 11 * l.time;
+  long : length l.bytes ≡ length l.fn.bytes;
+}
