@@ -5,3 +5,5 @@ mod CoverLemmas
 mod BrokenLemmas
 mod NumberLemmas
 mod FaultLemmas
+mod FlagLemmas
+mod MeantLemmas

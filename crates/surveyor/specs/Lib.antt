@@ -1,6 +1,9 @@
 pub mod Numbers
 pub mod Asked
 pub mod Words
+pub mod Flags
+pub mod Meant
+pub mod Wrong
 pub mod Printed
 pub mod Summed
 pub mod Broken

@@ -1,4 +1,7 @@
 //! What may be asked for, as `clap` is told of it.
+ghost use Rattle.std.specs.Prelude.{◌≡◌, IfOk, codes, false, map};
+ghost use Rattle.clap.specs.Words.{app_of, rule_of};
+ghost use Rattle.surveyor.specs.Flags.{bare_app, files, rule_for, survey_app, with_rules};
 
 use clap::{Arg, ArgAction, Command};
 use combine::Rule;
@@ -100,7 +103,11 @@ const SUM: Flag<'static> = Flag {
 
 impl<'a> Flag<'a> {
     /// The flag as `clap` is told of it.
-    fn argument(&self, alloc: Global) -> Arg<'a> {
+    #[tactic(auto, unfolding(crate::specs::Flags::rule_for))]
+    fn argument(&self, alloc: Global) -> Arg<'a>
+        ensures rule { rule_of result ≡ rule_for self.now }
+        ensures local { result.global ≡ false }
+    {
         let argument = Arg::new(alloc, self.name).long(self.name).help(self.help);
         match self.value {
             Some(value) => argument.value_name(value),
@@ -114,7 +121,9 @@ fn with_flags<'a>(
     alloc: Global,
     mut command: Command<'a>,
     flags: &[Flag<'a>],
-) -> Result<Command<'a>, AllocError> {
+) -> Result<Command<'a>, AllocError>
+    ensures app { IfOk result (λ c. app_of c ≡ with_rules (app_of command.entry) (map rule_for flags.now)) }
+{
     for flag in flags {
         command = command.arg(flag.argument(alloc))?;
     }
@@ -128,20 +137,36 @@ pub(crate) fn rules(alloc: Global) -> Result<String, AllocError> {
     format!(in alloc; "How orders are combined: {names} [default: {default}]")
 }
 
-/// What may be asked for, where this is said of `--rule`.
-pub(crate) fn command<'a>(alloc: Global, rules: &'a str) -> Result<Command<'a>, AllocError> {
-    let command = Command::new(alloc, "survey")
+/// The command before it is told what may be asked for.
+fn bare<'a>(alloc: Global) -> Result<Command<'a>, AllocError>
+    ensures { IfOk result (λ c. app_of c ≡ bare_app) }
+{
+    Command::new(alloc, "survey")
         .no_binary_name(true)
-        .bin_name("byzlab survey")?;
+        .about("Plays many campaigns of a family, and counts how they come out")
+        .bin_name("byzlab survey")
+}
+
+/// `--sum` as `clap` is told of it.
+#[tactic(auto, unfolding(crate::specs::Flags::rule_for))]
+fn sum_argument<'a>(alloc: Global) -> Arg<'a>
+    ensures rule { rule_of result ≡ files (codes "sum") }
+    ensures local { result.global ≡ false }
+{
+    SUM.argument(alloc).num_args(1..).action(ArgAction::Append)
+}
+
+/// What may be asked for, where this is said of `--rule`.
+pub(crate) fn command<'a>(alloc: Global, rules: &'a str) -> Result<Command<'a>, AllocError>
+    ensures { IfOk result (λ c. app_of c ≡ survey_app) }
+{
     let rule = Flag {
         name: "rule",
         value: Some("RULE"),
         help: rules,
     };
-    let command = with_flags(alloc, command, FAMILY)?.arg(rule.argument(alloc))?;
+    let command = with_flags(alloc, bare(alloc)?, FAMILY)?.arg(rule.argument(alloc))?;
     let command = with_flags(alloc, command, MANNER)?;
     let command = with_flags(alloc, command, SHAPES)?;
-    let sum = SUM.argument(alloc).num_args(1..).action(ArgAction::Append);
-    let command = command.arg(sum)?;
-    Ok(command.about("Plays many campaigns of a family, and counts how they come out"))
+    command.arg(sum_argument(alloc))
 }

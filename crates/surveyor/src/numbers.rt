@@ -6,6 +6,9 @@ ghost use Rattle.text.specs.Number.{decimal_of};
 use survey::Span;
 use text::decimal;
 
+/// How many seeds a survey has at most.
+const MOST_SEEDS: u64 = 10_000_000;
+
 /// A number below the limit.
 fn below(limit: u128, word: &str) -> Option<u64>
     requires { limit ≤ 2 ^ 64 }
@@ -72,7 +75,7 @@ pub fn seeds(word: &str) -> Option<(u64, u64)>
         IsTold word.now first last → first ≤ last → last < 2 ^ 64 - 1 → last - first < 10000000 → ⊥) }
 {
     let (first, last) = ends(18_446_744_073_709_551_615, word)?;
-    if last - first < 10_000_000 {
+    if last - first < MOST_SEEDS {
         Some((first, last))
     } else {
         None

@@ -9,9 +9,9 @@ returns-in_err-first-clause-refused c =
     λ first last told ordered inside few. c.in_err-first.ensures.refused first last told ordered inside in
     any_none _ _ none
 
-pub returns-else-last-first-lt10000000-clause-refused : goal.returns-else-last-first-lt10000000-clause-refused
-returns-else-last-first-lt10000000-clause-refused c = λ first last told ordered inside few.
+pub returns-else-last-first-lt-MOST_SEEDS-clause-refused : goal.returns-else-last-first-lt-MOST_SEEDS-clause-refused
+returns-else-last-first-lt-MOST_SEEDS-clause-refused c = λ first last told ordered inside few.
     (let same = told_once c.args.word.now c.in_ok-first.first c.in_ok-first.last first last c.in_ok-first.ensures.told told in
     let a = same.0 in
     let b = same.1 in
-    let many = c.if-last-first-lt10000000.false in omega arith)
+    let many = c.if-last-first-lt-MOST_SEEDS.false in omega arith)

@@ -1,0 +1,11 @@
+use Rattle.std.proofs.Common.{◌∙◌, sym}
+use Rattle.clap.specs.Words.{found_of, rows_of}
+use Rattle.surveyor.specs.Wrong.{AsksNothing, IsRefused}
+use Rattle.surveyor.proofs.MeantLemmas.{handed_on, no_break_asked}
+use Rattle.surveyor.proofs.meant.meant.Goals as goal
+
+pub returns-in_err-survey-clause-refused : goal.returns-in_err-survey-clause-refused
+returns-in_err-survey-clause-refused c =
+    let rows = rows_of (found_of c.args.found.now) in
+    handed_on (IsRefused rows (AsksNothing rows)) c.from_residual-in_err-survey.result c.in_err-survey.field-0.0 c.from_residual-in_err-survey.ensures.1
+    (no_break_asked rows c.in_err-survey.field-0.0 (sym c.in_default.ensures) (sym c.has.ensures ∙ c.if-has.true) c.in_err-survey.ensures.refused)

@@ -1,0 +1,110 @@
+-- What words ask for, by what `clap` has found in them: of each name its row (docs/SURVEYS.md).
+use Rattle.std.specs.Prelude.{ℕ, ◌≡◌, ◌≤◌, ◌<◌, ◌-◌, ◌^◌, Bool, true, false, List, [], ◌∷◌, Option, None, Some, codes, count_by, if◌then◌else◌, map, option_map, string_bytes, unwrap_or}
+use Rattle.std.specs.List.{list_any}
+use Rattle.std.specs.Str.{bytes_eq}
+use Rattle.clap.specs.Words.{Row, Text}
+use Rattle.survey.specs.declared.span.Span.{Span}
+use Rattle.text.specs.Number.{decimal_of}
+use Rattle.surveyor.specs.Flags.{given, has, row_of}
+use Rattle.surveyor.specs.Numbers.{IsTold}
+use Rattle.surveyor.specs.Words.{manner_named}
+use Rattle.surveyor.specs.declared.asked.Asked.{Asked}
+use Rattle.surveyor.specs.declared.asked.Asked.TheVariants.{Survey as Surveys, Break, Merge as Merges}
+use Rattle.surveyor.specs.declared.asked.Merge.{Merge}
+use Rattle.surveyor.specs.declared.asked.Shape.{Shape}
+use Rattle.surveyor.specs.declared.asked.Shape.TheVariants.{Sums, Lines, Table, Picture, Least}
+use Rattle.surveyor.specs.declared.asked.Survey.{Survey}
+
+-- the value of an option, or what stands for it
+abbrev pub value : Text → Text → List Row → Text
+value name without rows = unwrap_or (given name rows) without
+
+-- what is printed: at most one of its words stands there
+abbrev pub shape_by : Bool → Bool → Bool → Bool → Option Shape
+shape_by false false false false = Some Sums
+shape_by true false false false = Some Lines
+shape_by false true false false = Some Table
+shape_by false false true false = Some Picture
+shape_by false false false true = Some Least
+shape_by _ _ _ _ = None
+
+abbrev pub shape_in : List Row → Option Shape
+shape_in rows = shape_by (has (codes "lines") rows) (has (codes "table") rows) (has (codes "svg") rows)
+    (has (codes "shrink") rows)
+
+-- the steps for which a traitor is waited for, if they are said
+abbrev pub IsPatience : Option Text → Option ℕ → Type 0
+IsPatience None patience = patience ≡ None
+IsPatience (Some word) None = ⊥
+IsPatience (Some word) (Some steps) = (decimal_of word ≡ Some steps) × (1 ≤ steps) × (steps ≤ 4096)
+
+-- the word tells numbers from one to another, none below the least or above the most
+pub record IsWithin (least most : ℕ) (word : Text) (span : Span) : Type 0 where
+  pub told : IsTold word span.low span.high
+  pub ordered : span.low ≤ span.high
+  pub from : least ≤ span.low
+  pub up_to : span.high ≤ most
+
+-- the word tells the first and the last of at most ten millions of seeds
+pub record AreSeeds (word : Text) (seeds : ℕ × ℕ) : Type 0 where
+  pub told : IsTold word seeds.0 seeds.1
+  pub ordered : seeds.0 ≤ seeds.1
+  pub inside : seeds.1 < 2 ^ 64 - 1
+  pub few : seeds.1 - seeds.0 < 10000000
+
+-- how many traitors stand for none that are said
+abbrev pub some_traitors : List Row → Text
+some_traitors rows = if has (codes "break") rows then codes "1..13" else codes "1"
+
+-- each number by its option, or by what stands for it
+pub record IsSurveying (rows : List Row) (s : Survey) : Type 0 where
+  pub generals : IsWithin 2 13 (value (codes "generals") (codes "4") rows) s.generals
+  pub bound : IsWithin 0 4 (value (codes "bound") (codes "1") rows) s.bound
+  pub traitors : IsWithin 0 13 (value (codes "traitors") (some_traitors rows) rows) s.traitors
+  pub manner : manner_named (given (codes "rule") rows) (has (codes "signed") rows) ≡ Some s.manner
+  pub patience : IsPatience (given (codes "patience") rows) s.patience
+  pub adversary : string_bytes s.adversary ≡ value (codes "adversary") (codes "lies") rows
+  pub seeds : AreSeeds (value (codes "seeds") (codes "1..1000") rows) (s.first, s.last)
+  pub shape : shape_in rows ≡ Some s.shape
+  pub keep : option_map string_bytes s.keep ≡ given (codes "keep") rows
+
+-- `--break` prints campaigns, or a table alone, and keeps nothing
+abbrev pub break_shape : Bool → Shape
+break_shape true = Table
+break_shape false = Sums
+
+pub record IsBreaking (rows : List Row) (s : Survey) (is_table : Bool) : Type 0 where
+  pub survey : IsSurveying rows s
+  pub shape : s.shape ≡ break_shape is_table
+  pub keep : s.keep ≡ None
+
+-- the names behind `--sum`, if it stands there
+abbrev pub names_in : List Row → Option (List Text)
+names_in rows = option_map (λ row. row.values) (row_of (codes "sum") rows)
+
+-- a word stands there that does not stand beside `--sum`: all but `--seeds`, `--table` and `--svg`
+abbrev pub bars_sum : List Row → Bool
+bars_sum rows = list_any (λ name. has name rows)
+    (codes "generals" ∷ codes "bound" ∷ codes "traitors" ∷ codes "rule" ∷ codes "patience" ∷ codes "signed"
+    ∷ codes "adversary" ∷ codes "lines" ∷ codes "shrink" ∷ codes "break" ∷ codes "keep" ∷ [])
+
+-- the seeds that are said, if they are
+abbrev pub AreSaid : Option Text → Option (ℕ × ℕ) → Type 0
+AreSaid None seeds = seeds ≡ None
+AreSaid (Some word) None = ⊥
+AreSaid (Some word) (Some seeds) = AreSeeds word seeds
+
+-- `--sum`: nothing is played, and standard input is named once at most
+pub record IsMerging (names : List Text) (rows : List Row) (m : Merge) : Type 0 where
+  pub named : map string_bytes m.names.items ≡ names
+  pub once : count_by (λ name. bytes_eq name (codes "-")) names ≤ 1
+  pub seeds : AreSaid (given (codes "seeds") rows) m.seeds
+  pub shape : shape_in rows ≡ Some m.shape
+  pub alone : bars_sum rows ≡ false
+
+-- what is asked for
+abbrev pub Asks : List Row → Asked → Type 0
+Asks rows (Surveys s) = (names_in rows ≡ None) × (has (codes "break") rows ≡ false) × IsSurveying rows s
+Asks rows (Break s is_table) =
+    (names_in rows ≡ None) × (has (codes "break") rows ≡ true) × IsBreaking rows s is_table
+Asks rows (Merges m) = (names : List Text) × (names_in rows ≡ Some names) × IsMerging names rows m

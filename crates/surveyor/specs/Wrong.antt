@@ -1,0 +1,94 @@
+-- Why words ask for nothing, and what is told then, by what `clap` has found in them.
+use Rattle.std.specs.Prelude.{⊤, ℕ, ◌≡◌, ◌≢◌, ◌<◌, ◌⊎◌, Bool, true, false, List, Option, None, Some, IsSomeAnd, codes, count_by, is_some}
+use Rattle.std.specs.Str.{bytes_eq}
+use Rattle.clap.specs.Words.{IsAmong, Row, Text, fault_of, kind_of, matches_of}
+use Rattle.clap.specs.declared.error.Error.{Error}
+use Rattle.clap.specs.declared.error.kind.ErrorKind.TheVariants.{OutOfMemory}
+use Rattle.combine.specs.Names.{rule_named}
+use Rattle.survey.specs.declared.span.Span.{Span}
+use Rattle.surveyor.specs.Flags.{given, has, survey_app}
+use Rattle.surveyor.specs.Meant.{AreSeeds, Asks, IsPatience, IsWithin, bars_sum, break_shape, names_in, shape_in, some_traitors, value}
+use Rattle.surveyor.specs.declared.asked.Asked.{Asked}
+use Rattle.surveyor.specs.declared.asked.AskedError.{AskedError}
+use Rattle.surveyor.specs.declared.asked.AskedError.TheVariants.{Words, Value, Rule, Memory}
+use Rattle.surveyor.specs.declared.asked.Shape.{Shape}
+
+abbrev pub IsOutside : ℕ → ℕ → Text → Type 0
+IsOutside least most word = (span : Span) → IsWithin least most word span → ⊥
+
+abbrev pub AreNoSeeds : Text → Type 0
+AreNoSeeds word = (seeds : ℕ × ℕ) → AreSeeds word seeds → ⊥
+
+abbrev pub IsNoPatience : Option Text → Type 0
+IsNoPatience word = (steps : Option ℕ) → IsPatience word steps → ⊥
+
+-- what breaks agreement is not printed so
+abbrev pub IsNoBreak : Shape → Type 0
+IsNoBreak shape = (is_table : Bool) → shape ≢ break_shape is_table
+
+-- more than one of these names is standard input
+abbrev pub AreTwice : List Text → Type 0
+AreTwice names = 1 < count_by (λ name. bytes_eq name (codes "-")) names
+
+-- what is wrong with the words where this text is told
+pub data IsWrong (rows : List Row) (why : Text) : Type 0 where
+  generals : why ≡ codes "--generals takes 2 to 13, as 4 or 4..7" →
+      IsOutside 2 13 (value (codes "generals") (codes "4") rows) → IsWrong rows why
+  bound : why ≡ codes "--bound takes 0 to 4, as 1 or 1..2" →
+      IsOutside 0 4 (value (codes "bound") (codes "1") rows) → IsWrong rows why
+  traitors : why ≡ codes "--traitors takes 0 to 13, as 1 or 1..3" →
+      IsOutside 0 13 (value (codes "traitors") (some_traitors rows) rows) → IsWrong rows why
+  seeds : why ≡ codes "--seeds takes up to 10000000 numbers below 18446744073709551615, as 7 or 1..1000" →
+      AreNoSeeds (value (codes "seeds") (codes "1..1000") rows) → IsWrong rows why
+  patience : why ≡ codes "--patience takes 1 to 4096" →
+      IsNoPatience (given (codes "patience") rows) → IsWrong rows why
+  signed : why ≡ codes "signed messages have no rule" →
+      has (codes "signed") rows ≡ true → has (codes "rule") rows ≡ true → IsWrong rows why
+  shape : why ≡ codes "one of --lines, --table, --svg, --shrink and --break is printed" →
+      shape_in rows ≡ None → IsWrong rows why
+  broken : why ≡ codes "--break is printed, or with --table as a table alone" →
+      has (codes "break") rows ≡ true → (shape : Shape) → shape_in rows ≡ Some shape → IsNoBreak shape → IsWrong rows why
+  keep : why ≡ codes "--break keeps nothing: what it prints can be sent to a file" →
+      has (codes "break") rows ≡ true → has (codes "keep") rows ≡ true → IsWrong rows why
+  sum : why ≡ codes "--sum plays nothing: beside it stand --seeds, --table and --svg alone" →
+      is_some (names_in rows) ≡ true → bars_sum rows ≡ true → IsWrong rows why
+  twice : why ≡ codes "standard input is read once" →
+      (names : List Text) → names_in rows ≡ Some names → AreTwice names → IsWrong rows why
+
+-- a rule is named, and there is none of this name
+abbrev pub IsNoRule : List Row → Type 0
+IsNoRule rows = (has (codes "signed") rows ≡ false)
+    × IsSomeAnd (given (codes "rule") rows) (λ word. rule_named word ≡ None)
+
+-- just this text is told, and this holds
+abbrev pub IsSaid : Text → Type 0 → AskedError → Type 0
+IsSaid text P (Value why) = (why.now ≡ text) × P
+IsSaid text P _ = ⊥
+
+-- no manner is told
+abbrev pub IsNoManner : List Row → AskedError → Type 0
+IsNoManner rows (Value why) = (why.now ≡ codes "signed messages have no rule")
+    × (has (codes "signed") rows ≡ true) × (has (codes "rule") rows ≡ true)
+IsNoManner rows Rule = IsNoRule rows
+IsNoManner rows _ = ⊥
+
+-- what is told is so, and this holds, unless memory is refused; `clap` has taken the words
+abbrev pub IsRefused : List Row → Type 0 → AskedError → Type 0
+IsRefused rows P (Value why) = IsWrong rows why.now × P
+IsRefused rows P Rule = IsNoRule rows × P
+IsRefused rows P (Words refusal) = ⊥
+IsRefused rows P Memory = ⊤
+
+abbrev pub AsksNothing : List Row → Type 0
+AsksNothing rows = (asked : Asked) → Asks rows asked → ⊥
+
+-- what is told of an error of `clap`'s
+abbrev pub IsByClap : Error → AskedError → Type 0
+IsByClap error (Words own) = (own ≡ error) × (kind_of error ≢ OutOfMemory)
+IsByClap error Memory = kind_of error ≡ OutOfMemory
+IsByClap error _ = ⊥
+
+-- `clap` refuses the words so, or they ask for nothing, and what is told is so
+abbrev pub IsUnmet : List Text → AskedError → Type 0
+IsUnmet words (Words refusal) = IsAmong (kind_of refusal) (fault_of survey_app words)
+IsUnmet words error = IsRefused (matches_of survey_app words) (AsksNothing (matches_of survey_app words)) error
