@@ -1,0 +1,59 @@
+//! What the words ask for beside `--break`.
+ghost use Rattle.std.specs.Prelude.{◌≡◌, ◌≢◌, ◌⊎◌, Bool, true, IfErr, IfOk, MatchOption, codes, is_some};
+ghost use Rattle.clap.specs.Words.{found_of, rows_of};
+ghost use Rattle.surveyor.specs.Asked.{IsSurvey};
+ghost use Rattle.surveyor.specs.Flags.{has};
+ghost use Rattle.surveyor.specs.Meant.{IsBreaking, break_shape};
+ghost use Rattle.surveyor.specs.Wrong.{IsNoBreak, IsRefused, IsSaid};
+ghost use Rattle.surveyor.specs.declared.asked.Survey.{Survey};
+
+use super::plays::survey_of;
+use crate::asked::{AskedError, Shape, Survey};
+use crate::given::has;
+use clap::ArgMatches;
+use std::alloc::Global;
+
+const BREAK: &str = "--break is printed, or with --table as a table alone";
+
+const KEEP: &str = "--break keeps nothing: what it prints can be sent to a file";
+
+/// Whether what breaks agreement is printed as a table alone, if it can be printed in this shape.
+fn is_table(shape: Shape) -> Option<bool>
+    ensures { MatchOption result ((is_table : Bool) → shape ≢ break_shape is_table) (λ is_table. shape ≡ break_shape is_table) }
+{
+    match shape {
+        Shape::Sums => Some(false),
+        Shape::Table => Some(true),
+        Shape::Lines | Shape::Picture | Shape::Least => None,
+    }
+}
+
+/// Whether what breaks agreement is printed as a table alone; nothing is kept of it.
+fn break_shape(survey: &Survey) -> Result<bool, AskedError>
+    ensures told { IfOk result (λ is_table. (survey.now.shape ≡ break_shape is_table) × (survey.now.keep ≡ None)) }
+    ensures refused { IfErr result (λ e.
+        IsSaid (codes "--break is printed, or with --table as a table alone") (IsNoBreak survey.now.shape) e
+        ⊎ IsSaid (codes "--break keeps nothing: what it prints can be sent to a file")
+        (is_some survey.now.keep ≡ true) e) }
+{
+    let Some(is_table) = is_table(survey.shape) else {
+        return Err(AskedError::Value(BREAK));
+    };
+    if survey.keep.is_some() {
+        return Err(AskedError::Value(KEEP));
+    }
+    Ok(is_table)
+}
+
+/// The survey of what breaks agreement that is asked for.
+pub(super) fn break_of(alloc: Global, found: &ArgMatches) -> Result<(Survey, bool), AskedError>
+    requires { has (codes "break") (rows_of (found_of found.now)) ≡ true }
+    ensures survey { IfOk result (λ r. IsSurvey r.0) }
+    ensures told { IfOk result (λ r. IsBreaking (rows_of (found_of found.now)) r.0 r.1) }
+    ensures refused { let rows = rows_of (found_of found.now) in
+        IfErr result (IsRefused rows ((s : Survey) (is_table : Bool) → IsBreaking rows s is_table → ⊥)) }
+{
+    let survey = survey_of(alloc, found)?;
+    let is_table = break_shape(&survey)?;
+    Ok((survey, is_table))
+}

@@ -1,0 +1,192 @@
+//! What the words say of the campaigns that are played.
+ghost use Rattle.std.specs.Prelude.{◌≡◌, ◌≤◌, IfErr, IfOk, MatchResult, codes, option_map, string_bytes};
+ghost use Rattle.clap.specs.Words.{found_of, rows_of};
+ghost use Rattle.surveyor.specs.Asked.{IsSurvey};
+ghost use Rattle.surveyor.specs.Flags.{given, has};
+ghost use Rattle.surveyor.specs.Meant.{AreSeeds, IsPatience, IsSurveying, IsWithin, shape_by, shape_in, some_traitors};
+ghost use Rattle.surveyor.specs.Words.{manner_named, plain_manner};
+ghost use Rattle.surveyor.specs.Wrong.{AreNoSeeds, IsNoManner, IsNoPatience, IsOutside, IsRefused, IsSaid};
+ghost use Rattle.surveyor.specs.declared.asked.Survey.{Survey};
+
+use crate::asked::{AskedError, Shape, Survey};
+use crate::given::{given, has, value};
+use crate::numbers::{patience, seeds, span};
+use clap::ArgMatches;
+use combine::Rule;
+use std::alloc::{AllocError, Global};
+use survey::{Manner, Span};
+
+const GENERALS: &str = "--generals takes 2 to 13, as 4 or 4..7";
+
+const BOUND: &str = "--bound takes 0 to 4, as 1 or 1..2";
+
+const TRAITORS: &str = "--traitors takes 0 to 13, as 1 or 1..3";
+
+const SEEDS: &str =
+    "--seeds takes up to 10000000 numbers below 18446744073709551615, as 7 or 1..1000";
+
+const PATIENCE: &str = "--patience takes 1 to 4096";
+
+const SIGNED: &str = "signed messages have no rule";
+
+const SHAPE: &str = "one of --lines, --table, --svg, --shrink and --break is printed";
+
+/// The span of numbers that a word tells, none below the least or above the most; else this is said.
+fn within(word: &str, least: u8, most: u8, why: &'static str) -> Result<Span, AskedError>
+    requires { most ≤ 13 }
+    ensures told { IfOk result (IsWithin least most word.now) }
+    ensures refused { IfErr result (IsSaid why.entry.now (IsOutside least most word.now)) }
+{
+    match span(word) {
+        Some(span) if least <= span.low && span.high <= most => Ok(span),
+        _ => Err(AskedError::Value(why)),
+    }
+}
+
+/// The seeds that a word tells.
+pub(super) fn told_seeds(word: &str) -> Result<(u64, u64), AskedError>
+    ensures told { IfOk result (AreSeeds word.now) }
+    ensures refused { IfErr result (IsSaid
+        (codes "--seeds takes up to 10000000 numbers below 18446744073709551615, as 7 or 1..1000")
+        (AreNoSeeds word.now)) }
+{
+    match seeds(word) {
+        Some(seeds) => Ok(seeds),
+        None => Err(AskedError::Value(SEEDS)),
+    }
+}
+
+/// How messages are sent, by the words of `--rule` and `--signed`.
+fn manner_named(rule: Option<&str>, is_signed: bool) -> Option<Manner>
+    ensures { result ≡ manner_named (option_map (λ word. word.now) rule.entry) is_signed }
+{
+    let Some(rule) = rule else {
+        return Some(plain_manner(is_signed));
+    };
+    if is_signed {
+        return None;
+    }
+    match Rule::named(rule.as_bytes()) {
+        Some(rule) => Some(Manner::Oral(rule)),
+        None => None,
+    }
+}
+
+/// How messages are sent where no rule is named.
+fn plain_manner(is_signed: bool) -> Manner
+    ensures { result ≡ plain_manner is_signed }
+{
+    if is_signed {
+        Manner::Signed
+    } else {
+        Manner::Oral(Rule::DEFAULT)
+    }
+}
+
+/// How messages are sent.
+fn manner(found: &ArgMatches) -> Result<Manner, AskedError>
+    ensures told { let rows = rows_of (found_of found.now) in
+        IfOk result (λ manner. manner_named (given (codes "rule") rows) (has (codes "signed") rows) ≡ Some manner) }
+    ensures refused { IfErr result (IsNoManner (rows_of (found_of found.now))) }
+{
+    let is_signed = has(found, "signed");
+    match manner_named(given(found, "rule"), is_signed) {
+        Some(manner) => Ok(manner),
+        None if is_signed => Err(AskedError::Value(SIGNED)),
+        None => Err(AskedError::Rule),
+    }
+}
+
+/// What is to be printed, by the words of it that stand there: one at most.
+fn shape_by(lines: bool, table: bool, svg: bool, shrink: bool) -> Option<Shape>
+    ensures { result ≡ shape_by lines table svg shrink }
+{
+    match (lines, table, svg, shrink) {
+        (false, false, false, false) => Some(Shape::Sums),
+        (true, false, false, false) => Some(Shape::Lines),
+        (false, true, false, false) => Some(Shape::Table),
+        (false, false, true, false) => Some(Shape::Picture),
+        (false, false, false, true) => Some(Shape::Least),
+        _ => None,
+    }
+}
+
+/// What is to be printed of campaigns.
+pub(super) fn printed(found: &ArgMatches) -> Result<Shape, AskedError>
+    ensures { let shape = shape_in (rows_of (found_of found.now)) in
+        MatchResult result (λ s. shape ≡ Some s)
+        (IsSaid (codes "one of --lines, --table, --svg, --shrink and --break is printed") (shape ≡ None)) }
+{
+    let shape = shape_by(
+        has(found, "lines"),
+        has(found, "table"),
+        has(found, "svg"),
+        has(found, "shrink"),
+    );
+    match shape {
+        Some(shape) => Ok(shape),
+        None => Err(AskedError::Value(SHAPE)),
+    }
+}
+
+/// For how many steps a traitor is waited for, if it is said.
+fn patience_of(found: &ArgMatches) -> Result<Option<u32>, AskedError>
+    ensures told { IfOk result (IsPatience (given (codes "patience") (rows_of (found_of found.now)))) }
+    ensures refused { IfErr result (IsSaid (codes "--patience takes 1 to 4096")
+        (IsNoPatience (given (codes "patience") (rows_of (found_of found.now))))) }
+{
+    match given(found, "patience") {
+        None => Ok(None),
+        Some(word) => match patience(word) {
+            Some(steps) => Ok(Some(steps)),
+            None => Err(AskedError::Value(PATIENCE)),
+        },
+    }
+}
+
+/// A text of its own of the value of an option, if it is there.
+fn owned(alloc: Global, found: &ArgMatches, name: &str) -> Result<Option<String>, AllocError>
+    ensures { IfOk result (λ own. option_map string_bytes own ≡ given name.now (rows_of (found_of found.now))) }
+{
+    match given(found, name) {
+        None => Ok(None),
+        Some(word) => Ok(Some(String::from_str(alloc, word)?)),
+    }
+}
+
+/// How many traitors stand for none that are said.
+fn some_traitors(found: &ArgMatches) -> &'static str
+    ensures { result.now ≡ some_traitors (rows_of (found_of found.now)) }
+{
+    if has(found, "break") { "1..13" } else { "1" }
+}
+
+/// The survey that is asked for.
+#[tactic(auto, using(crate::proofs::MeantLemmas::no_generals, crate::proofs::MeantLemmas::no_traitors, crate::proofs::MeantLemmas::no_seeds, crate::proofs::MeantLemmas::no_manner, crate::proofs::MeantLemmas::no_patience, crate::proofs::MeantLemmas::no_shape))]
+pub(super) fn survey_of(alloc: Global, found: &ArgMatches) -> Result<Survey, AskedError>
+    ensures survey { IfOk result IsSurvey }
+    ensures told { IfOk result (IsSurveying (rows_of (found_of found.now))) }
+    ensures refused { let rows = rows_of (found_of found.now) in
+        IfErr result (IsRefused rows ((s : Survey) → IsSurveying rows s → ⊥)) }
+{
+    let generals = within(value(found, "generals", "4"), 2, 13, GENERALS)?;
+    let bound = within(value(found, "bound", "1"), 0, 4, BOUND)?;
+    let some = some_traitors(found);
+    let traitors = within(value(found, "traitors", some), 0, 13, TRAITORS)?;
+    let (first, last) = told_seeds(value(found, "seeds", "1..1000"))?;
+    let manner = manner(found)?;
+    let patience = patience_of(found)?;
+    let shape = printed(found)?;
+    Ok(Survey {
+        generals,
+        bound,
+        traitors,
+        manner,
+        patience,
+        adversary: String::from_str(alloc, value(found, "adversary", "lies"))?,
+        first,
+        last,
+        shape,
+        keep: owned(alloc, found, "keep")?,
+    })
+}

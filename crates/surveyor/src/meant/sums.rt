@@ -1,0 +1,121 @@
+//! What the words ask for beside `--sum`.
+ghost use Rattle.std.specs.Prelude.{◌≡◌, ◌↔◌, ◌⊎◌, false, true, IfErr, IfOk, IsSomeAnd, IsTrue, codes, map, string_bytes};
+ghost use Rattle.std.specs.List.{list_any};
+ghost use Rattle.clap.specs.Words.{found_of, rows_of};
+ghost use Rattle.surveyor.specs.Flags.{given, has};
+ghost use Rattle.surveyor.specs.Meant.{AreSaid, IsMerging, bars_sum, names_in};
+ghost use Rattle.surveyor.specs.Wrong.{AreNoSeeds, AreTwice, IsRefused, IsSaid};
+ghost use Rattle.surveyor.specs.declared.asked.Merge.{Merge};
+
+use super::plays::{printed, told_seeds};
+use crate::asked::{AskedError, Merge};
+use crate::given::{given, has};
+use clap::ArgMatches;
+use std::alloc::{AllocError, Global};
+
+const MERGE: &str = "--sum plays nothing: beside it stand --seeds, --table and --svg alone";
+
+const ONCE: &str = "standard input is read once";
+
+/// Whether one of these options and switches stands there.
+fn has_any(found: &ArgMatches, names: &[&str]) -> bool
+    ensures { result ≡ list_any (λ name. has name.now (rows_of (found_of found.now))) names.now }
+{
+    names.iter().any(|name| has(found, name))
+}
+
+/// Whether a word stands there that does not stand beside `--sum`.
+fn bars_sum(found: &ArgMatches) -> bool
+    ensures { result ≡ bars_sum (rows_of (found_of found.now)) }
+{
+    has_any(
+        found,
+        &[
+            "generals",
+            "bound",
+            "traitors",
+            "rule",
+            "patience",
+            "signed",
+            "adversary",
+            "lines",
+            "shrink",
+            "break",
+            "keep",
+        ],
+    )
+}
+
+/// The names of files.
+fn files(alloc: Global, names: &[&str]) -> Result<Vec<String>, AllocError>
+    ensures { IfOk result (λ files. map string_bytes files.items ≡ map (λ name. name.now) names.now) }
+{
+    let mut files = Vec::new(alloc);
+    for name in names {
+        files.push(String::from_str(alloc, name)?)?;
+    }
+    Ok(files)
+}
+
+/// Whether standard input is named more than once.
+fn is_read_twice(names: &[&str]) -> bool
+    ensures { IsTrue result ↔ AreTwice (map (λ name. name.now) names.now) }
+{
+    names.iter().filter(|name| **name == "-").count() > 1
+}
+
+/// The seeds that are said, if they are.
+fn said_seeds(found: &ArgMatches) -> Result<Option<(u64, u64)>, AskedError>
+    ensures told { IfOk result (AreSaid (given (codes "seeds") (rows_of (found_of found.now)))) }
+    ensures refused { let word = given (codes "seeds") (rows_of (found_of found.now)) in IfErr result (IsSaid
+        (codes "--seeds takes up to 10000000 numbers below 18446744073709551615, as 7 or 1..1000")
+        (IsSomeAnd word AreNoSeeds)) }
+{
+    match given(found, "seeds") {
+        None => Ok(None),
+        Some(word) => match told_seeds(word) {
+            Ok(seeds) => Ok(Some(seeds)),
+            Err(error) => Err(error),
+        },
+    }
+}
+
+/// That these files can be summed.
+fn summable(found: &ArgMatches, names: &[&str]) -> Result<(), AskedError>
+    ensures told { IfOk result (λ _. (bars_sum (rows_of (found_of found.now)) ≡ false)
+        × (AreTwice (map (λ name. name.now) names.now) → ⊥)) }
+    ensures refused { IfErr result (λ e.
+        IsSaid (codes "--sum plays nothing: beside it stand --seeds, --table and --svg alone")
+        (bars_sum (rows_of (found_of found.now)) ≡ true) e
+        ⊎ IsSaid (codes "standard input is read once") (AreTwice (map (λ name. name.now) names.now)) e) }
+{
+    if bars_sum(found) {
+        return Err(AskedError::Value(MERGE));
+    }
+    if is_read_twice(names) {
+        return Err(AskedError::Value(ONCE));
+    }
+    Ok(())
+}
+
+/// What is to be told of these files.
+#[tactic(auto, using(crate::proofs::MeantLemmas::no_merge_shape, crate::proofs::MeantLemmas::no_merge_seeds, crate::proofs::MeantLemmas::no_merge_sum, crate::proofs::MeantLemmas::once_named))]
+pub(super) fn merge_of(
+    alloc: Global,
+    found: &ArgMatches,
+    names: &[&str],
+) -> Result<Merge, AskedError>
+    requires { names_in (rows_of (found_of found.now)) ≡ Some (map (λ name. name.now) names.now) }
+    ensures told { IfOk result (IsMerging (map (λ name. name.now) names.now) (rows_of (found_of found.now))) }
+    ensures refused { let rows = rows_of (found_of found.now) in IfErr result (IsRefused rows
+        ((m : Merge) → IsMerging (map (λ name. name.now) names.now) rows m → ⊥)) }
+{
+    let shape = printed(found)?;
+    summable(found, names)?;
+    let seeds = said_seeds(found)?;
+    Ok(Merge {
+        names: files(alloc, names)?,
+        seeds,
+        shape,
+    })
+}
