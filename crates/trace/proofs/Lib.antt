@@ -9,6 +9,7 @@ pub mod DecisionLemmas
 pub mod Splitting
 pub mod PartingLemmas
 pub mod MarkLemmas
+pub mod PassingLemmas
 pub mod Plain
 pub mod Naming
 pub mod Generals

@@ -14,7 +14,7 @@ use Rattle.trace.specs.Marks.{all_names, behind, lines_left, marked}
 use Rattle.trace.specs.declared.named.Mark.TheVariants.{Round}
 
 -- there is a piece
-some_piece : (stop : Stop) (t : List ℕ) → (v : List ℕ) × (vs : List (List ℕ)) × (pieces stop t ≡ v ∷ vs)
+pub some_piece : (stop : Stop) (t : List ℕ) → (v : List ℕ) × (vs : List (List ℕ)) × (pieces stop t ≡ v ∷ vs)
 some_piece stop [] = ([], [], refl)
 some_piece stop (c ∷ cs) = by (is_stop stop c)
   where

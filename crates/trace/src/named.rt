@@ -1,13 +1,14 @@
 //! Who makes the accesses of each round, as a chronicle's text tells it.
-ghost use Rattle.std.specs.Prelude.{◌≡◌, ◌<◌, ◌∷◌, ◌++◌, map, take, option_to_list, IfOk};
+ghost use Rattle.std.specs.Prelude.{◌≡◌, ◌<◌, ◌≤◌, ◌∷◌, ◌++◌, length, map, take, option_to_list, IfOk, IfSome};
 ghost use Rattle.text.specs.Stop.{space, feed};
 ghost use Rattle.text.specs.Parts.{pieces};
 ghost use Rattle.world.specs.Playing.{lists_in};
 ghost use Rattle.trace.specs.Names.{Named, general_of, with_line, named};
-ghost use Rattle.trace.specs.Marks.{all_names, marked};
+ghost use Rattle.trace.specs.Marks.{all_names, lines_left, marked};
 
 use crate::parting::parted;
 use crate::scheduling::number_within;
+use memchr::{memchr2, memrchr};
 use std::alloc::{AllocError, Global};
 use text::{SPACE, piece};
 
@@ -40,8 +41,8 @@ fn access(number: &[u8]) -> Mark
     }
 }
 
-/// What a line says, by its words.
-fn said_by_words(line: &[u8]) -> Mark
+/// What a line says.
+fn said(line: &[u8]) -> Mark
     ensures { (rest : Named) → marked result rest ≡ with_line (pieces space line.now) rest }
 {
     let (word, Some(rest)) = piece(SPACE, line) else {
@@ -57,13 +58,16 @@ fn said_by_words(line: &[u8]) -> Mark
     }
 }
 
-/// What a line says. Most lines are rows, which tell it by their first bytes.
-fn said(line: &[u8]) -> Mark
-    ensures { (rest : Named) → marked result rest ≡ with_line (pieces space line.now) rest }
+/// The text from the first line on with a `u` or an `s`, without which no line says `round` or `access`; none where no
+/// such line is left. Rows, which most lines are, have neither.
+fn from_next(text: &[u8]) -> Option<&[u8]>
+    ensures names { named (map (pieces space) (lines_left result)) ≡ named (map (pieces space) (pieces feed text.now)) }
+    ensures no_longer { IfSome result (λ rest. length rest.now ≤ length text.now) }
 {
-    match line {
-        [b'r', b'o', b'w', ..] => Mark::Other,
-        _ => said_by_words(line),
+    let place = memchr2(b'u', b's', text)?;
+    match memrchr(b'\n', &text[..place]) {
+        Some(end) => Some(&text[end + 1..]),
+        None => Some(text),
     }
 }
 
@@ -84,6 +88,7 @@ pub fn names(alloc: Global, text: &[u8], most: usize) -> Result<Vec<Vec<u8>>, Al
     let mut rest = Some(text);
     while let Some(lines) = rest {
         let (line, behind) = parted(lines);
+        rest = behind;
         match said(line) {
             Mark::Round => {
                 rounds.push(names)?;
@@ -93,9 +98,8 @@ pub fn names(alloc: Global, text: &[u8], most: usize) -> Result<Vec<Vec<u8>>, Al
                 names = Vec::new(alloc);
             }
             Mark::Access(general) => names.push(general)?,
-            Mark::Other => {}
+            Mark::Other => rest = behind.and_then(from_next),
         }
-        rest = behind;
     }
     rounds.push(names)?;
     Ok(rounds)
