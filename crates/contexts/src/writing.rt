@@ -1,7 +1,6 @@
 //! The bytes of a context.
-ghost use Rattle.std.specs.Prelude.{◌≡◌, ◌<◌, ◌≤◌, ◌+◌, ◌*◌, ◌^◌, ◌++◌, All, length, map, flat_map, vec_len, vec_capacity, IfOk};
+ghost use Rattle.std.specs.Prelude.{◌≡◌, ◌<◌, ◌≤◌, ◌+◌, ◌*◌, ◌^◌, ◌++◌, All, length, flat_map, vec_len, vec_capacity, IfOk};
 ghost use Rattle.word.specs.Bytes.{little_bytes};
-ghost use Rattle.label.specs.Oral.{order_of};
 ghost use Rattle.contexts.specs.Layout.{context_bytes, context_numbers};
 
 use crate::layout::BYTES;
@@ -10,14 +9,14 @@ use label::Shape;
 use std::alloc::{AllocError, Global};
 
 /// Writes the context of a relay in a campaign with this bound, in place of what the vector held, which has room for
-/// it: the values taken for its labels, in the order of their ranks, nothing as RETREAT. It takes no memory. Labels are
-/// 990 at most (13 generals in round 5: 11 * 10 * 9), and behind the eight numbers there is room for 1,016 values.
-pub fn write_context(bytes: &mut Vec<u8>, shape: Shape, bound: u8, values: &[Option<u32>])
+/// it: the values taken for its labels, in the order of their ranks. It takes no memory. Labels are 990 at most (13
+/// generals in round 5: 11 * 10 * 9), and behind the eight numbers there is room for 1,016 values.
+pub fn write_context(bytes: &mut Vec<u8>, shape: Shape, bound: u8, values: &[u32])
     requires room { 4096 ≤ vec_capacity bytes.old }
     requires rounds { shape.round ≤ shape.generals }
     requires few { length values.now ≤ 1000 }
-    ensures bytes { bytes.new.items ≡ context_bytes (context_numbers shape bound (map order_of values.now)) }
-    ensures words { All (λ v. order_of v < 2 ^ 32) values.now }
+    ensures bytes { bytes.new.items ≡ context_bytes (context_numbers shape bound values.now) }
+    ensures words { All (λ v. v < 2 ^ 32) values.now }
 {
     bytes.clear();
     let header = [
@@ -31,7 +30,7 @@ pub fn write_context(bytes: &mut Vec<u8>, shape: Shape, bound: u8, values: &[Opt
         0,
     ];
     spell(bytes, &header);
-    fill(bytes, values);
+    spell_all(bytes, values);
     let Ok(()) = bytes.resize(BYTES, 0) else {
         unreachable!()
     };
@@ -49,28 +48,6 @@ fn spell(bytes: &mut Vec<u8>, numbers: &[u32; 8])
     let Ok(()) = bytes.extend_from_slice(&spelled) else {
         unreachable!()
     };
-}
-
-/// The bytes of the values behind, for which there is room: nothing counts as 0.
-fn fill(bytes: &mut Vec<u8>, values: &[Option<u32>])
-    requires room { vec_len bytes.old + 4 * length values.now ≤ vec_capacity bytes.old }
-    ensures bytes { bytes.new.items ≡ bytes.old.items ++ flat_map (little_bytes 4) (map order_of values.now) }
-    ensures words { All (λ v. order_of v < 2 ^ 32) values.now }
-    ensures capacity { vec_capacity bytes.old ≤ vec_capacity bytes.new }
-{
-    for value in values {
-        put(bytes, order_of(value));
-    }
-}
-
-/// The order, RETREAT where there is none.
-fn order_of(value: &Option<u32>) -> u32
-    ensures { result ≡ order_of value.now }
-{
-    match *value {
-        Some(order) => order,
-        None => 0,
-    }
 }
 
 /// A number's four bytes behind, for which there is room.
