@@ -30,36 +30,8 @@ pub fn write_context(bytes: &mut Vec<u8>, shape: Shape, bound: u8, values: &[u32
         0,
     ];
     spell(bytes, &header);
-    spell_all(bytes, values);
+    spell(bytes, values);
     let Ok(()) = bytes.resize(BYTES, 0) else {
-        unreachable!()
-    };
-}
-
-/// The bytes of some numbers behind, for which there is room.
-fn spell(bytes: &mut Vec<u8>, numbers: &[u32; 8])
-    requires room { vec_len bytes.old + 32 ≤ vec_capacity bytes.old }
-    ensures bytes { bytes.new.items ≡ bytes.old.items ++ flat_map (little_bytes 4) numbers.now }
-    ensures len { vec_len bytes.new ≡ vec_len bytes.old + 32 }
-    ensures capacity { vec_capacity bytes.old ≤ vec_capacity bytes.new }
-{
-    let mut spelled = [0; 32];
-    LittleEndian::write_u32_into(numbers, &mut spelled);
-    let Ok(()) = bytes.extend_from_slice(&spelled) else {
-        unreachable!()
-    };
-}
-
-/// A number's four bytes behind, for which there is room.
-fn put(bytes: &mut Vec<u8>, number: u32)
-    requires room { vec_len bytes.old + 4 ≤ vec_capacity bytes.old }
-    ensures bytes { bytes.new.items ≡ bytes.old.items ++ little_bytes 4 number }
-    ensures len { vec_len bytes.new ≡ vec_len bytes.old + 4 }
-    ensures capacity { vec_capacity bytes.old ≤ vec_capacity bytes.new }
-{
-    let mut word = [0; 4];
-    LittleEndian::write_u32(&mut word, number);
-    let Ok(()) = bytes.extend_from_slice(&word) else {
         unreachable!()
     };
 }
@@ -79,7 +51,7 @@ pub fn context_telling(
 {
     let mut bytes = Vec::with_capacity(alloc, BYTES)?;
     spell(&mut bytes, header);
-    spell_all(&mut bytes, numbers);
+    spell(&mut bytes, numbers);
     let Ok(()) = bytes.resize(BYTES, 0) else {
         unreachable!()
     };
@@ -87,12 +59,15 @@ pub fn context_telling(
 }
 
 /// The bytes of these numbers behind, for which there is room.
-fn spell_all(bytes: &mut Vec<u8>, numbers: &[u32])
+fn spell(bytes: &mut Vec<u8>, numbers: &[u32])
     requires room { vec_len bytes.old + 4 * length numbers.now ≤ vec_capacity bytes.old }
     ensures bytes { bytes.new.items ≡ bytes.old.items ++ flat_map (little_bytes 4) numbers.now }
+    ensures len { vec_len bytes.new ≡ vec_len bytes.old + 4 * length numbers.now }
     ensures capacity { vec_capacity bytes.old ≤ vec_capacity bytes.new }
 {
-    for number in numbers {
-        put(bytes, *number);
-    }
+    let front = bytes.len();
+    let Ok(()) = bytes.resize(front + 4 * numbers.len(), 0) else {
+        unreachable!()
+    };
+    LittleEndian::write_u32_into(numbers, &mut bytes.as_mut_slice()[front..]);
 }
