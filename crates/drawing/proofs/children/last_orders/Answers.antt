@@ -1,4 +1,4 @@
-use Rattle.std.proofs.Common.{◌<◌, ◌≡◌, ◌∙◌, ◌∷◌, ◌++◌, [], None, ap, arith, get_or, length, ℕ, lit<, map, refl, sym}
+use Rattle.std.proofs.Common.{◌<◌, ◌≡◌, ◌∙◌, ◌∷◌, ◌++◌, [], ap, arith, get_or, length, ℕ, lit<, map, refl, sym}
 use Rattle.label.specs.Labels.{others}
 use Rattle.label.specs.Oral.{order_of}
 use Rattle.book.specs.Explained.{element}
