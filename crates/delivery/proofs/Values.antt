@@ -1,5 +1,5 @@
 -- The values that a lieutenant took are a level of his tree.
-use Rattle.std.proofs.Common.{◌≡◌, ◌≢◌, ℕ, zero, suc, ◌+◌, ◌-◌, ◌<◌, ◌≤◌, ◌^◌, List, [], ◌∷◌, length, map, take, All, subst, None, true, false, refl, sym, ap, ◌∙◌, Some, Option, arith, ⊎_elim, ◌⊎◌, inl, inr, get_or, Result, Ok, Err}
+use Rattle.std.proofs.Common.{◌≡◌, ◌≢◌, ℕ, zero, suc, ◌+◌, ◌-◌, ◌<◌, ◌≤◌, ◌^◌, List, [], ◌∷◌, length, map, take, All, subst, true, false, refl, sym, ap, ◌∙◌, Some, arith, ⊎_elim, ◌⊎◌, inl, inr, get_or, Result, Ok, Err}
 use Rattle.std.specs.Prelude.{slice_get, IfOk, OnOk, Vec, ◌==◌}
 use Rattle.std.proofs.lemmas.Bool.Decides.{eqb_tells}
 use Rattle.std.proofs.lemmas.List.{length-map, length-take-le, take_all}
