@@ -1,15 +1,13 @@
 -- A list of what was told, with one's own order at its place among it.
-use Rattle.std.proofs.Common.{ℕ, ◌+◌, ◌≤◌, ◌≡◌, Bool, cond, List, [], ◌∷◌, ◌++◌, map, length, take, drop, take-append-drop, length-append, refl, sym, ap, ◌∙◌, arith, Option}
+use Rattle.std.proofs.Common.{ℕ, ◌+◌, ◌≤◌, ◌≡◌, Bool, cond, List, [], ◌∷◌, ◌++◌, length, take, drop, take-append-drop, length-append, refl, sym, ap, ◌∙◌, arith}
 use Rattle.std.specs.Prelude.{insert, count_by, ◌==◌}
-use Rattle.std.proofs.lemmas.List.{take-map, take_all, drop-map}
+use Rattle.std.proofs.lemmas.List.{take_all}
 use Rattle.std.proofs.lemmas.List.Sums.{sum_by-cons, sum_by-append}
 use Rattle.combine.specs.Rule.{is_most}
-use Rattle.combine.specs.Orders.{order_or_retreat}
 
 -- both parts, with the own order between them
-pub joined : {A : Type 0} (g : A → ℕ) (cs ys : List A) (place own i : ℕ) (orders : List ℕ) → orders ≡ map g (take place cs) ++ own ∷ map g (take i ys) → ys ≡ drop place cs → length ys ≤ i → orders ≡ insert (map g cs) place own
-joined g cs ys place own i orders e ey l =
-    rw (e, take_all i ys l, ey, take-map g place cs, drop-map g place cs) refl
+pub joined : (cs ys : List ℕ) (place own i : ℕ) (orders : List ℕ) → orders ≡ take place cs ++ own ∷ take i ys → ys ≡ drop place cs → length ys ≤ i → orders ≡ insert cs place own
+joined cs ys place own i orders e ey l = rw (e, take_all i ys l, ey) refl
 
 -- the own order counts wherever it stands
 counted : (p : ℕ → Bool) (xs : List ℕ) (place own : ℕ) → count_by p (insert xs place own) ≡ count_by p (own ∷ xs)
@@ -24,8 +22,3 @@ longer xs place own =
 
 pub most_anywhere : (xs : List ℕ) (place own v : ℕ) → is_most (insert xs place own) v ≡ is_most (own ∷ xs) v
 most_anywhere xs place own v = rw (counted (λ x. x == v) xs place own, longer xs place own) refl
-
-pub count-told : (v : ℕ) (told : List (Option ℕ)) → count_by (λ x. x == v) (map order_or_retreat told) ≡ count_by (λ o. order_or_retreat o == v) told
-count-told v [] = refl
-count-told v (o ∷ told) =
-    omega (arith, count-told v told, sum_by-cons (λ y. cond (y == v) 1 0) (order_or_retreat o) (map order_or_retreat told), sum_by-cons (λ y. cond (order_or_retreat y == v) 1 0) o told)

@@ -32,7 +32,7 @@ impl Combine for Rule {
         }
     }
 
-    fn combine_told(&self, told: &[Option<u32>], place: usize, own: u32) -> u32 {
+    fn combine_told(&self, told: &[u32], place: usize, own: u32) -> u32 {
         match self {
             Rule::Majority => Majority.combine_told(told, place, own),
             Rule::Median => Median.combine_told(told, place, own),

@@ -1,6 +1,5 @@
-ghost use Rattle.std.specs.Prelude.{◌≡◌, ◌<◌, ◌≤◌, ℕ, List, length};
+ghost use Rattle.std.specs.Prelude.{◌≡◌, ◌<◌, ◌≤◌, ℕ, List, insert, length};
 ghost use Rattle.combine.specs.Rule.{IsMajorityRule};
-ghost use Rattle.combine.specs.Orders.{with_own};
 
 use crate::orders::orders_of;
 
@@ -13,12 +12,12 @@ pub trait Combine {
     fn combine(&self, orders: &[u32]) -> u32
         ensures { result ≡ combined self.now orders.now };
 
-    /// The order that up to 12 told orders come to, RETREAT for each that was not told, with one's
-    /// own at its place among them. Without memory.
-    fn combine_told(&self, told: &[Option<u32>], place: usize, own: u32) -> u32
+    /// The order that up to 12 orders of others come to, with one's own at its place among them.
+    /// Without memory.
+    fn combine_told(&self, told: &[u32], place: usize, own: u32) -> u32
         requires place { place ≤ length told.now }
         requires few { length told.now < 13 }
-        ensures { result ≡ combined self.now (with_own told.now place own) }
+        ensures { result ≡ combined self.now (insert told.now place own) }
     {
         let orders = orders_of(told, place, own);
         self.combine(orders.as_slice())

@@ -1,7 +1,6 @@
 //! The bytes of a context.
-ghost use Rattle.std.specs.Prelude.{◌≡◌, ◌<◌, ◌≤◌, ◌+◌, ◌*◌, ◌^◌, ◌++◌, All, length, map, flat_map, vec_len, vec_capacity, IfOk};
+ghost use Rattle.std.specs.Prelude.{◌≡◌, ◌<◌, ◌≤◌, ◌+◌, ◌*◌, ◌^◌, ◌++◌, All, length, flat_map, vec_len, vec_capacity, IfOk};
 ghost use Rattle.word.specs.Bytes.{little_bytes};
-ghost use Rattle.label.specs.Oral.{order_of};
 ghost use Rattle.contexts.specs.Layout.{context_bytes, context_numbers};
 
 use crate::layout::BYTES;
@@ -10,14 +9,14 @@ use label::Shape;
 use std::alloc::{AllocError, Global};
 
 /// Writes the context of a relay in a campaign with this bound, in place of what the vector held, which has room for
-/// it: the values taken for its labels, in the order of their ranks, nothing as RETREAT. It takes no memory. Labels are
-/// 990 at most (13 generals in round 5: 11 * 10 * 9), and behind the eight numbers there is room for 1,016 values.
-pub fn write_context(bytes: &mut Vec<u8>, shape: Shape, bound: u8, values: &[Option<u32>])
+/// it: the values taken for its labels, in the order of their ranks. It takes no memory. Labels are 990 at most (13
+/// generals in round 5: 11 * 10 * 9), and behind the eight numbers there is room for 1,016 values.
+pub fn write_context(bytes: &mut Vec<u8>, shape: Shape, bound: u8, values: &[u32])
     requires room { 4096 ≤ vec_capacity bytes.old }
     requires rounds { shape.round ≤ shape.generals }
     requires few { length values.now ≤ 1000 }
-    ensures bytes { bytes.new.items ≡ context_bytes (context_numbers shape bound (map order_of values.now)) }
-    ensures words { All (λ v. order_of v < 2 ^ 32) values.now }
+    ensures bytes { bytes.new.items ≡ context_bytes (context_numbers shape bound values.now) }
+    ensures words { All (λ v. v < 2 ^ 32) values.now }
 {
     bytes.clear();
     let header = [
@@ -31,58 +30,8 @@ pub fn write_context(bytes: &mut Vec<u8>, shape: Shape, bound: u8, values: &[Opt
         0,
     ];
     spell(bytes, &header);
-    fill(bytes, values);
+    spell(bytes, values);
     let Ok(()) = bytes.resize(BYTES, 0) else {
-        unreachable!()
-    };
-}
-
-/// The bytes of some numbers behind, for which there is room.
-fn spell(bytes: &mut Vec<u8>, numbers: &[u32; 8])
-    requires room { vec_len bytes.old + 32 ≤ vec_capacity bytes.old }
-    ensures bytes { bytes.new.items ≡ bytes.old.items ++ flat_map (little_bytes 4) numbers.now }
-    ensures len { vec_len bytes.new ≡ vec_len bytes.old + 32 }
-    ensures capacity { vec_capacity bytes.old ≤ vec_capacity bytes.new }
-{
-    let mut spelled = [0; 32];
-    LittleEndian::write_u32_into(numbers, &mut spelled);
-    let Ok(()) = bytes.extend_from_slice(&spelled) else {
-        unreachable!()
-    };
-}
-
-/// The bytes of the values behind, for which there is room: nothing counts as 0.
-fn fill(bytes: &mut Vec<u8>, values: &[Option<u32>])
-    requires room { vec_len bytes.old + 4 * length values.now ≤ vec_capacity bytes.old }
-    ensures bytes { bytes.new.items ≡ bytes.old.items ++ flat_map (little_bytes 4) (map order_of values.now) }
-    ensures words { All (λ v. order_of v < 2 ^ 32) values.now }
-    ensures capacity { vec_capacity bytes.old ≤ vec_capacity bytes.new }
-{
-    for value in values {
-        put(bytes, order_of(value));
-    }
-}
-
-/// The order, RETREAT where there is none.
-fn order_of(value: &Option<u32>) -> u32
-    ensures { result ≡ order_of value.now }
-{
-    match *value {
-        Some(order) => order,
-        None => 0,
-    }
-}
-
-/// A number's four bytes behind, for which there is room.
-fn put(bytes: &mut Vec<u8>, number: u32)
-    requires room { vec_len bytes.old + 4 ≤ vec_capacity bytes.old }
-    ensures bytes { bytes.new.items ≡ bytes.old.items ++ little_bytes 4 number }
-    ensures len { vec_len bytes.new ≡ vec_len bytes.old + 4 }
-    ensures capacity { vec_capacity bytes.old ≤ vec_capacity bytes.new }
-{
-    let mut word = [0; 4];
-    LittleEndian::write_u32(&mut word, number);
-    let Ok(()) = bytes.extend_from_slice(&word) else {
         unreachable!()
     };
 }
@@ -102,7 +51,7 @@ pub fn context_telling(
 {
     let mut bytes = Vec::with_capacity(alloc, BYTES)?;
     spell(&mut bytes, header);
-    spell_all(&mut bytes, numbers);
+    spell(&mut bytes, numbers);
     let Ok(()) = bytes.resize(BYTES, 0) else {
         unreachable!()
     };
@@ -110,12 +59,15 @@ pub fn context_telling(
 }
 
 /// The bytes of these numbers behind, for which there is room.
-fn spell_all(bytes: &mut Vec<u8>, numbers: &[u32])
+fn spell(bytes: &mut Vec<u8>, numbers: &[u32])
     requires room { vec_len bytes.old + 4 * length numbers.now ≤ vec_capacity bytes.old }
     ensures bytes { bytes.new.items ≡ bytes.old.items ++ flat_map (little_bytes 4) numbers.now }
+    ensures len { vec_len bytes.new ≡ vec_len bytes.old + 4 * length numbers.now }
     ensures capacity { vec_capacity bytes.old ≤ vec_capacity bytes.new }
 {
-    for number in numbers {
-        put(bytes, *number);
-    }
+    let front = bytes.len();
+    let Ok(()) = bytes.resize(front + 4 * numbers.len(), 0) else {
+        unreachable!()
+    };
+    LittleEndian::write_u32_into(numbers, &mut bytes.as_mut_slice()[front..]);
 }

@@ -1,5 +1,5 @@
 -- The values that a lieutenant took are a level of his tree.
-use Rattle.std.proofs.Common.{◌≡◌, ◌≢◌, ℕ, zero, suc, ◌+◌, ◌-◌, ◌<◌, ◌≤◌, ◌^◌, List, [], ◌∷◌, length, map, take, All, subst, None, true, false, refl, sym, ap, ◌∙◌, Some, Option, arith, ⊎_elim, ◌⊎◌, inl, inr, get_or, Result, Ok, Err}
+use Rattle.std.proofs.Common.{◌≡◌, ◌≢◌, ℕ, zero, suc, ◌+◌, ◌-◌, ◌<◌, ◌≤◌, ◌^◌, List, [], ◌∷◌, length, map, take, All, subst, true, false, refl, sym, ap, ◌∙◌, Some, arith, ⊎_elim, ◌⊎◌, inl, inr, get_or, Result, Ok, Err}
 use Rattle.std.specs.Prelude.{slice_get, IfOk, OnOk, Vec, ◌==◌}
 use Rattle.std.proofs.lemmas.Bool.Decides.{eqb_tells}
 use Rattle.std.proofs.lemmas.List.{length-map, length-take-le, take_all}
@@ -55,27 +55,27 @@ level_front s before g k commander general ne some =
     by (x ∷ w) e = sym (messages-front before k x w g (omega arith))
 
 -- the level of a length is what so many rounds told
-own_level : (s : Scenario) (before : List (List Letter)) (g k : ℕ) (t : LieutenantTree) (level : List (Option ℕ)) → IsScenario s → IsTreeOf s before g t → 0 < k →
-    ((M : Messages) → IsFilled t M → level ≡ level_told t.generals t.commander t.general M k) → level ≡ level_told s.generals s.commander g (messages (take k before)) k
+own_level : (s : Scenario) (before : List (List Letter)) (g k : ℕ) (t : LieutenantTree) (level : List ℕ) → IsScenario s → IsTreeOf s before g t → 0 < k →
+    ((M : Messages) → IsFilled t M → level ≡ map order_of (level_told t.generals t.commander t.general M k)) → level ≡ map order_of (level_told s.generals s.commander g (messages (take k before)) k)
 own_level s before g k t level is h some told =
     told (messages before) h.filled
-    ∙ ((λ i. level_told (h.generals i) (h.commander i) (h.general i) (messages before) k) ∙ level_front s before g k is.commander h.within h.lieutenant some)
+    ∙ ap (map order_of) ((λ i. level_told (h.generals i) (h.commander i) (h.general i) (messages before) k) ∙ level_front s before g k is.commander h.within h.lieutenant some)
 
 -- the numbers of a later context, from the tree's level
-later_is : (s : Scenario) (before : List (List Letter)) (g k bound : ℕ) (t : LieutenantTree) (shape : Shape) (level : List (Option ℕ)) → IsScenario s → IsTreeOf s before g t → k ≤ length before → 0 < k → shape ≡ shape_of s g (k + 1) → bound ≡ s.bound →
-    ((M : Messages) → IsFilled t M → level ≡ level_told t.generals t.commander t.general M k) → context_bytes (context_numbers shape bound (map order_of level)) ≡ context_of s (take k before) g
+later_is : (s : Scenario) (before : List (List Letter)) (g k bound : ℕ) (t : LieutenantTree) (shape : Shape) (level : List ℕ) → IsScenario s → IsTreeOf s before g t → k ≤ length before → 0 < k → shape ≡ shape_of s g (k + 1) → bound ≡ s.bound →
+    ((M : Messages) → IsFilled t M → level ≡ map order_of (level_told t.generals t.commander t.general M k)) → context_bytes (context_numbers shape bound level) ≡ context_of s (take k before) g
 later_is s before g k bound t shape level is h le some es eb told =
     let front : List (List Letter) = take k before in
     let long : length front ≡ k = length-take-le k before le in
     let round : k + 1 ≡ suc (length front) = omega arith in
     let size : suc k ≡ suc (length front) = omega arith in
-    let own : level ≡ level_told s.generals s.commander g (messages front) k = own_level s before g k t level is h some told in
-    let values : map order_of level ≡ map (took s front g) (relay (shape_of s g (suc (length front)))) =
-    ap (map order_of) own ∙ (sym (values_level s front g k is.commander h.within h.lieutenant some) ∙ ap (λ (j : ℕ). map (took s front g) (relay (shape_of s g j))) size) in
+    let own : level ≡ map order_of (level_told s.generals s.commander g (messages front) k) = own_level s before g k t level is h some told in
+    let values : level ≡ map (took s front g) (relay (shape_of s g (suc (length front)))) =
+    own ∙ (sym (values_level s front g k is.commander h.within h.lieutenant some) ∙ ap (λ (j : ℕ). map (took s front g) (relay (shape_of s g j))) size) in
     let there : shape ≡ shape_of s g (suc (length front)) = es ∙ ap (λ (j : ℕ). shape_of s g j) round in
     (λ i. context_bytes (context_numbers (there i) (eb i) (values i)))
 
-pub few_values : (s : Scenario) (before : List (List Letter)) (g k : ℕ) (t : LieutenantTree) (level : List (Option ℕ)) → IsScenario s → IsTreeOf s before g t → k ≤ s.bound → length level ≡ length (labels t.generals t.commander t.general k) → length level ≤ 1000
+pub few_values : (s : Scenario) (before : List (List Letter)) (g k : ℕ) (t : LieutenantTree) (level : List ℕ) → IsScenario s → IsTreeOf s before g t → k ≤ s.bound → length level ≡ length (labels t.generals t.commander t.general k) → length level ≤ 1000
 few_values s before g k t level is h le long =
     let same : length (labels t.generals t.commander t.general k) ≡ length (labels s.generals s.commander g k) = (λ i. length (labels (h.generals i) (h.commander i) (h.general i) k)) in
     let few : length (labels s.generals s.commander g k) ≤ 1000 = (let l = round_few s.generals s.commander g k is.few is.commander h.within h.lieutenant (let r = is.rounds in omega arith) in omega arith) in
@@ -122,9 +122,9 @@ commander_told (Ok v) s h g bound k shape le some eg es eb is =
 commander_told (Err e) s h g bound k shape le some eg es eb is = tt
 
 -- a lieutenant later on
-pub later_told : {E : Type 0} (r : Result (Vec ℕ Global) E) (s : Scenario) (h : ToldSeen) (g bound k i : ℕ) (t : LieutenantTree) (shape : Shape) (level : List (Option ℕ)) → IsScenario s → k ≤ h.rounds → (k ≡ 0 → ⊥) → lieutenant_at s.commander i ≡ g → i < length h.trees → t ≡ get_or h.trees i t →
-    shape ≡ shape_of s g (k + 1) → bound ≡ s.bound → ((M : Messages) → IsFilled t M → level ≡ level_told t.generals t.commander t.general M k) →
-    IfOk r (λ v. v.items ≡ context_bytes (context_numbers shape bound (map order_of level))) → IfOk r (λ v. (before : List (List Letter)) → WasTold s before h → v.items ≡ context_of s (take k before) g)
+pub later_told : {E : Type 0} (r : Result (Vec ℕ Global) E) (s : Scenario) (h : ToldSeen) (g bound k i : ℕ) (t : LieutenantTree) (shape : Shape) (level : List ℕ) → IsScenario s → k ≤ h.rounds → (k ≡ 0 → ⊥) → lieutenant_at s.commander i ≡ g → i < length h.trees → t ≡ get_or h.trees i t →
+    shape ≡ shape_of s g (k + 1) → bound ≡ s.bound → ((M : Messages) → IsFilled t M → level ≡ map order_of (level_told t.generals t.commander t.general M k)) →
+    IfOk r (λ v. v.items ≡ context_bytes (context_numbers shape bound level)) → IfOk r (λ v. (before : List (List Letter)) → WasTold s before h → v.items ≡ context_of s (take k before) g)
 later_told (Ok v) s h g bound k i t shape level is le some there lt at es eb told_level bytes =
     λ before told. bytes ∙ later_is s before g k bound t shape level is (own_tree s before h i g t told lt at there) (let e = told.rounds in omega arith) (omega arith) es eb told_level
 later_told (Err e) s h g bound k i t shape level is le some there lt at es eb told_level bytes = tt
@@ -142,23 +142,24 @@ get_map F (x ∷ ws) zero w d e = (let same : x ≡ w = cc in ap F same)
 get_map F (x ∷ ws) (suc i) w d e = get_map F ws i w d e
 
 -- what the level of a lieutenant's tree has are words
-pub words_told : (s : Scenario) (before : List (List Letter)) (h : ToldSeen) (g k i : ℕ) (t : LieutenantTree) (level : List (Option ℕ)) → IsScenario s → WasTold s before h → k ≤ h.rounds → (k ≡ 0 → ⊥) → lieutenant_at s.commander i ≡ g → i < length h.trees → t ≡ get_or h.trees i t →
-    ((M : Messages) → IsFilled t M → level ≡ level_told t.generals t.commander t.general M k) → All (λ v. order_of v < 2 ^ 32) level → AreWords s (take k before) g
+pub words_told : (s : Scenario) (before : List (List Letter)) (h : ToldSeen) (g k i : ℕ) (t : LieutenantTree) (level : List ℕ) → IsScenario s → WasTold s before h → k ≤ h.rounds → (k ≡ 0 → ⊥) → lieutenant_at s.commander i ≡ g → i < length h.trees → t ≡ get_or h.trees i t →
+    ((M : Messages) → IsFilled t M → level ≡ map order_of (level_told t.generals t.commander t.general M k)) → All (λ v. v < 2 ^ 32) level → AreWords s (take k before) g
 words_told s before h g k i t level is told le some there lt at told_level small rank u place =
     let front : List (List Letter) = take k before in
     let tree = own_tree s before h i g t told lt at there in
     let long_front : length front ≡ k = length-take-le k before (let e = told.rounds in omega arith) in
     let round : suc k ≡ suc (length front) = ap suc (sym long_front) in
-    let own : level ≡ level_told s.generals s.commander g (messages front) k = own_level s before g k t level is tree (omega arith) told_level in
+    let own : level ≡ map order_of (level_told s.generals s.commander g (messages front) k) = own_level s before g k t level is tree (omega arith) told_level in
     let here : slice_get (labels s.generals s.commander g k) rank ≡ Some u =
     ap (λ (ws : List (List ℕ)). slice_get ws rank) (sym (relay_lieutenant s g k tree.lieutenant) ∙ ap (λ (j : ℕ). relay (shape_of s g j)) round) ∙ place in
     let inside : rank < length (labels s.generals s.commander g k) = slice_get_within (labels s.generals s.commander g k) rank u here in
-    let value : get_or level rank None ≡ messages front u g = ap (λ (l : List (Option ℕ)). get_or l rank None) own ∙ get_map (λ w. messages front w g) (labels s.generals s.commander g k) rank u None here in
-    let long : length level ≡ length (labels s.generals s.commander g k) = ap length own ∙ length-map (labels s.generals s.commander g k) (λ w. messages front w g) in
-    let few = small rank None (omega arith) in
+    let orders : level ≡ map (λ w. order_of (messages front w g)) (labels s.generals s.commander g k) = own ∙ sym (map_twice order_of (λ w. messages front w g) (labels s.generals s.commander g k)) in
+    let value : get_or level rank 0 ≡ order_of (messages front u g) = ap (λ (l : List ℕ). get_or l rank 0) orders ∙ get_map (λ w. order_of (messages front w g)) (labels s.generals s.commander g k) rank u 0 here in
+    let long : length level ≡ length (labels s.generals s.commander g k) = ap length orders ∙ length-map (labels s.generals s.commander g k) (λ w. order_of (messages front w g)) in
+    let few = small rank 0 (omega arith) in
     let size = (proved_labels_are_exact.only s.generals s.commander g k rank u is.commander tree.within tree.lieutenant here).2 in
     let heard_is : took s front g u ≡ order_of (messages front u g) = heard_taken (messages front) s.order g u (omega arith) in
-    (let P : ℕ → Type 0 = λ n. n < 2 ^ 32 in subst P (sym (heard_is ∙ ap order_of (sym value))) few)
+    (let P : ℕ → Type 0 = λ n. n < 2 ^ 32 in subst P (sym (heard_is ∙ sym value)) few)
 
 no_labels : (n c p : ℕ) → labels n c p 0 ≡ []
 unfolding labels

@@ -210,7 +210,7 @@ fn write_first_context(scenario: &Scenario, general: u8, bytes: &mut Vec<u8>)
     let bound = scenario.bound();
     let shape = scenario.shape(general, 1);
     if general == scenario.commander() {
-        return write_context(bytes, shape, bound, &[Some(scenario.order())]);
+        return write_context(bytes, shape, bound, &[scenario.order()]);
     }
     write_context(bytes, shape, bound, &[]);
 }

@@ -4,7 +4,7 @@ use Rattle.std.specs.Prelude.{slice_get, slice_range, option_map, unwrap_or}
 use Rattle.std.proofs.lemmas.List.{drop_more, length-map}
 use Rattle.std.proofs.lemmas.Option.{slice_get_within, get_or_from_slice_get, slice_get-map}
 use Rattle.label.specs.Labels.{labels, on, others}
-use Rattle.label.specs.Oral.{Messages}
+use Rattle.label.specs.Oral.{Messages, order_of}
 use Rattle.label.specs.Space.{HasRank, IsWithinLimits, begins_with}
 use Rattle.label.specs.declared.space.Space.{Space}
 use Rattle.label.proofs.Parts.{part-within, wide}
@@ -61,32 +61,35 @@ has_rank s t w p is place eg ec ep away =
 
 -- the part of a level that belongs to a label
 part_told : (n m c p s rank : ℕ) (M : Messages) (w : List ℕ) → IsCampaign (tree_of n m c M p) → suc s ≤ m → slice_get (labels n c p (suc s)) rank ≡ Some w
-    → slice_range (level_of (tree_of n m c M p) (suc s + 1)) (rank * (n - 1 - suc s)) (rank * (n - 1 - suc s) + (n - 1 - suc s)) ≡ map (λ j. M (w ++ j ∷ []) p) (others n (p ∷ w))
+    → slice_range (map order_of (level_of (tree_of n m c M p) (suc s + 1))) (rank * (n - 1 - suc s)) (rank * (n - 1 - suc s) + (n - 1 - suc s)) ≡ map (λ j. order_of (M (w ++ j ∷ []) p)) (others n (p ∷ w))
 part_told n m c p s rank M w is short at =
     let width : n - 2 - s ≡ n - 1 - suc s = omega arith in
     let next : suc s + 1 ≡ suc (suc s) = omega arith in
     let many : length (others n (p ∷ w)) ≡ n - 1 - suc s = wide n c p s rank w is.commander is.general is.lieutenant at in
     let size_of : (rank * (n - 1 - suc s) + (n - 1 - suc s)) - rank * (n - 1 - suc s) ≡ length (others n (p ∷ w)) = omega arith in
-    ap (λ (l : ℕ). take l (drop (rank * (n - 1 - suc s)) (level_of (tree_of n m c M p) (suc s + 1)))) size_of
-    ∙ part_is (level_of (tree_of n m c M p) (suc s + 1)) (λ j. M (w ++ j ∷ []) p) None (others n (p ∷ w)) (rank * (n - 1 - suc s))
-    (λ i j h. told-at n c p (suc s + 1) (rank * (n - 1 - suc s) + i) M (w ++ j ∷ []) (level_of (tree_of n m c M p) (suc s + 1)) (level_is n m c p (suc s + 1) M (omega arith) (omega arith))
-    (rw (next, ← width) (children_stand n c p s rank i j w is.commander is.general is.lieutenant at h)))
+    let level : List (Option ℕ) = level_of (tree_of n m c M p) (suc s + 1) in
+    let first : ℕ = rank * (n - 1 - suc s) in
+    ap (λ (l : ℕ). take l (drop first (map order_of level))) size_of
+    ∙ part_is (map order_of level) (λ j. order_of (M (w ++ j ∷ []) p)) 0 (others n (p ∷ w)) first
+    (λ i j h. slice_get-map order_of level (first + i)
+    ∙ ap (option_map order_of) (told-at n c p (suc s + 1) (first + i) M (w ++ j ∷ []) level (level_is n m c p (suc s + 1) M (omega arith) (omega arith))
+    (rw (next, ← width) (children_stand n c p s rank i j w is.commander is.general is.lieutenant at h))))
 
-pub children_told : (t : MessageTable) (tree : LieutenantTree) (w : List ℕ) (p size width rank : ℕ) (part level : List (Option ℕ)) → tree ≡ tree_of t.generals t.bound t.commander (told t.messages) p
+pub children_told : (t : MessageTable) (tree : LieutenantTree) (w : List ℕ) (p size width rank : ℕ) (part level : List ℕ) → tree ≡ tree_of t.generals t.bound t.commander (told t.messages) p
     → IsCampaign tree → 0 < length w → length w ≤ t.bound → size ≡ length w → width ≡ tree.generals - 1 - size → slice_get (labels tree.generals tree.commander tree.general (length w)) rank ≡ Some w
-    → level ≡ level_of tree (size + 1) → part ≡ slice_range level (rank * width) (rank * width + width)
-    → part ≡ map (λ j. told t.messages (w ++ j ∷ []) p) (others t.generals (p ∷ w))
+    → level ≡ map order_of (level_of tree (size + 1)) → part ≡ slice_range level (rank * width) (rank * width + width)
+    → part ≡ map (λ j. order_of (told t.messages (w ++ j ∷ []) p)) (others t.generals (p ∷ w))
 children_told t tree w p zero width rank part level is camp some short long ew at el e = absurd (omega arith)
 children_told t tree w p (suc s) width rank part level is camp some short long ew at el e =
     let own : LieutenantTree = tree_of t.generals t.bound t.commander (told t.messages) p in
     let at' : slice_get (labels own.generals own.commander own.general (length w)) rank ≡ Some w = subst (λ (u : LieutenantTree). slice_get (labels u.generals u.commander u.general (length w)) rank ≡ Some w) is at in
     e ∙ (ap (λ (l : ℕ). slice_range level (rank * l) (rank * l + l)) ew
     ∙ (ap (λ xs. slice_range xs (rank * (tree.generals - 1 - suc s)) (rank * (tree.generals - 1 - suc s) + (tree.generals - 1 - suc s))) el
-    ∙ (ap (λ (u : LieutenantTree). slice_range (level_of u (suc s + 1)) (rank * (u.generals - 1 - suc s)) (rank * (u.generals - 1 - suc s) + (u.generals - 1 - suc s))) is
+    ∙ (ap (λ (u : LieutenantTree). slice_range (map order_of (level_of u (suc s + 1))) (rank * (u.generals - 1 - suc s)) (rank * (u.generals - 1 - suc s) + (u.generals - 1 - suc s))) is
     ∙ part_told t.generals t.bound t.commander p s rank (told t.messages) w (subst IsCampaign is camp) (let l = long in omega arith) (ap (λ (k : ℕ). slice_get (labels own.generals own.commander own.general k) rank) long ∙ at'))))
 
 -- and is a part of the level
-pub children_within : (tree : LieutenantTree) (w : List ℕ) (size width rank : ℕ) (level : List (Option ℕ)) → IsCampaign tree → 0 < length w → size ≡ length w → width ≡ tree.generals - 1 - size
+pub children_within : (tree : LieutenantTree) (w : List ℕ) (size width rank : ℕ) (level : List ℕ) → IsCampaign tree → 0 < length w → size ≡ length w → width ≡ tree.generals - 1 - size
     → slice_get (labels tree.generals tree.commander tree.general (length w)) rank ≡ Some w → length level ≡ length (labels tree.generals tree.commander tree.general (size + 1)) → rank * width + width ≤ length level
 children_within tree w size width rank level camp some long ew at el =
     let there : rank < length (labels tree.generals tree.commander tree.general (length w)) = slice_get_within (labels tree.generals tree.commander tree.general (length w)) rank w at in
@@ -109,13 +112,18 @@ one_more v j next off e =
     let last : length (others (j + 1) v) ≡ length (others j v ++ j ∷ []) = ap length (ap (λ (i : ℕ). others i v) one ∙ others-more_yes v j off) in
     omega arith
 
-pub child_within : (f : ℕ → Option ℕ) (n j next : ℕ) (v : List ℕ) (children : List (Option ℕ)) → children ≡ map f (others n v) → j < n → on v j ≡ false → next ≡ length (others j v) → next < length children
+pub child_within : (f : ℕ → ℕ) (n j next : ℕ) (v : List ℕ) (children : List ℕ) → children ≡ map f (others n v) → j < n → on v j ≡ false → next ≡ length (others j v) → next < length children
 child_within f n j next v children is below off e =
     let within : length (others j v) < length (others n v) = slice_get_within (others n v) (length (others j v)) j (others-at n v j below off) in
     let long : length children ≡ length (others n v) = ap length is ∙ length-map (others n v) f in
     omega arith
 
-pub child_read : (f : ℕ → Option ℕ) (n j next : ℕ) (v : List ℕ) (children : List (Option ℕ)) (d : Option ℕ) → children ≡ map f (others n v) → j < n → on v j ≡ false → next ≡ length (others j v)
+-- the order that was told
+pub order_is : (told : Option ℕ) → order_of told ≡ unwrap_or told 0
+order_is None = refl
+order_is (Some order) = refl
+
+pub child_read : (f : ℕ → ℕ) (n j next : ℕ) (v children : List ℕ) (d : ℕ) → children ≡ map f (others n v) → j < n → on v j ≡ false → next ≡ length (others j v)
     → get_or children next d ≡ f j
 child_read f n j next v children d is below off e =
     let stands : slice_get children next ≡ Some (f j) =

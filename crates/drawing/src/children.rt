@@ -1,6 +1,7 @@
 //! What a lieutenant was told of the labels that go on from one: they stand together in his tree.
 ghost use Rattle.std.specs.Prelude.{◌≡◌, ◌≤◌, ◌+◌, ◌*◌, [], ◌∷◌, ◌++◌, length, map, true, slice_range};
 ghost use Rattle.label.specs.Labels.{others};
+ghost use Rattle.label.specs.Oral.{order_of};
 ghost use Rattle.book.specs.Explained.{list_of};
 ghost use Rattle.book.specs.Grammar.{is_place};
 ghost use Rattle.book.specs.Table.{told};
@@ -22,18 +23,19 @@ pub(crate) fn last_orders<H: Heard>(table: &H, general: u8, label: &Label) -> Ar
         if other == general {
             orders.push(table.told(label, general).unwrap_or(0));
         } else if !label.has(other) {
-            orders.push(told[next].unwrap_or(0));
+            orders.push(told[next]);
             next += 1;
         }
     }
     orders
 }
 
-/// What the lieutenant was told of each label that has one general more, by that general.
-fn told_children<'a, H: Heard>(table: &'a H, general: u8, label: &Label) -> &'a [Option<u32>]
+/// The order that the lieutenant was told of each label that has one general more, by that general: RETREAT where none
+/// was.
+fn told_children<'a, H: Heard>(table: &'a H, general: u8, label: &Label) -> &'a [u32]
     requires place { is_place (H.seen table.now) label.now general ≡ true }
     requires room { length label.now ≤ (H.seen table.now).bound }
-    ensures { result.now ≡ map (λ j. told (H.seen table.now).messages (label.now ++ j ∷ []) general)
+    ensures { result.now ≡ map (λ j. order_of (told (H.seen table.now).messages (label.now ++ j ∷ []) general))
         (others (H.seen table.now).generals (general ∷ label.now)) }
 {
     let tree = table.tree(general);
@@ -47,7 +49,7 @@ fn told_children<'a, H: Heard>(table: &'a H, general: u8, label: &Label) -> &'a 
 }
 
 /// The part of a level that belongs to a rank of the level above, of this width.
-fn part(level: &[Option<u32>], width: usize, rank: usize) -> &[Option<u32>]
+fn part(level: &[u32], width: usize, rank: usize) -> &[u32]
     requires { rank * width + width ≤ length level.now }
     ensures { result.now ≡ slice_range level.now (rank * width) (rank * width + width) }
 {

@@ -1,5 +1,5 @@
 -- From the decisions about the children to those about the labels.
-use Rattle.std.proofs.Common.{ℕ, zero, suc, ◌+◌, ◌-◌, ◌*◌, ◌<◌, ◌≤◌, ◌≡◌, false, List, [], ◌∷◌, ◌++◌, map, length, get_or, take, drop, refl, sym, ap, ◌∙◌, arith, Some, Option}
+use Rattle.std.proofs.Common.{ℕ, zero, suc, ◌+◌, ◌-◌, ◌*◌, ◌<◌, ◌≤◌, ◌≡◌, false, List, [], ◌∷◌, ◌++◌, map, length, get_or, take, drop, refl, sym, ap, ◌∙◌, arith, Some}
 use Rattle.std.specs.Prelude.{insert, slice_get, slice_range}
 use Rattle.std.specs.List.{range_with_len}
 use Rattle.rayon.specs.Numbers.{nat_range}
@@ -70,9 +70,9 @@ level-long f t size below level e =
     ap length e ∙ (length-map-range_with_len (upward f t below size) 0 (length (labels t.generals t.commander t.general size) - 0) ∙ z)
 
 -- the longest labels
-pub longest-om : (f : List ℕ → ℕ) (t : LieutenantTree) (M : Messages) (size : ℕ) (level : List (Option ℕ)) (orders : List ℕ) → level ≡ level_told t.generals t.commander t.general M size → orders ≡ map order_of level → orders ≡ decisions_at f t M 0 size
+pub longest-om : (f : List ℕ → ℕ) (t : LieutenantTree) (M : Messages) (size : ℕ) (orders : List ℕ) → orders ≡ map order_of (level_told t.generals t.commander t.general M size) → orders ≡ decisions_at f t M 0 size
 unfolding decisions_at om
-longest-om f t M size level orders el eo = eo ∙ (ap (map order_of) el ∙ twice (labels t.generals t.commander t.general size))
+longest-om f t M size orders e = e ∙ twice (labels t.generals t.commander t.general size)
   where
     twice : (ws : List (List ℕ)) → map order_of (map (λ w. M w t.general) ws) ≡ map (λ w. taken M w t.general) ws
     twice [] = refl

@@ -1,5 +1,5 @@
 -- One step of the recursion over ranks, and of its loops.
-use Rattle.std.proofs.Common.{ℕ, zero, suc, ◌+◌, ◌-◌, ◌*◌, ◌^◌, ◌<◌, ◌≤◌, ◌≡◌, List, [], ◌∷◌, ◌++◌, map, length, sym, ap, ◌∙◌, arith}
+use Rattle.std.proofs.Common.{ℕ, zero, suc, ◌+◌, ◌-◌, ◌*◌, ◌^◌, ◌<◌, ◌≤◌, ◌≡◌, List, [], ◌∷◌, ◌++◌, map, length, get_or, refl, sym, ap, ◌∙◌, arith, Option, None}
 use Rattle.std.specs.Prelude.{insert, nat_lt}
 use Rattle.std.specs.List.{range_with_len}
 use Rattle.std.proofs.lemmas.List.FromFn.{map-range_with_len_more, length-map-range_with_len}
@@ -8,8 +8,18 @@ use Rattle.std.proofs.lemmas.Bool.{cond-true, cond-false, lt-ltb, le-ltb}
 use Rattle.std.proofs.lemmas.Nat.{mul-le}
 use Rattle.label.specs.Labels.{labels}
 use Rattle.label.proofs.Bounds.{most, most-fits, labels-few}
-use Rattle.tree.specs.LieutenantTree.{LieutenantTree, IsCampaign}
+use Rattle.label.specs.Oral.{order_of}
+use Rattle.tree.specs.LieutenantTree.{LieutenantTree, IsCampaign, level_of}
 use Rattle.resolve.specs.Decided.{decided, child, order_at_rank}
+
+get-order : (told : List (Option ℕ)) (i : ℕ) → get_or (map order_of told) i 0 ≡ order_of (get_or told i None)
+get-order [] i = refl
+get-order (o ∷ told) zero = refl
+get-order (o ∷ told) (suc i) = get-order told i
+
+-- the order at a rank
+pub order-read : (t : LieutenantTree) (size rank : ℕ) (level : List ℕ) → level ≡ map order_of (level_of t size) → get_or level rank 0 ≡ order_at_rank t size rank
+order-read t size rank level e = ap (λ (orders : List ℕ). get_or orders rank 0) e ∙ get-order (level_of t size) rank
 
 pub step-last : (f : List ℕ → ℕ) (t : LieutenantTree) (k size rank lower_off own : ℕ) → k ≡ 0 → own ≡ order_at_rank t size rank → own ≡ decided f t k size rank lower_off
 unfolding decided

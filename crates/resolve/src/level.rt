@@ -1,5 +1,5 @@
 //! One tree, level by level from the longest labels upwards, the ranks of each level at once.
-ghost use Rattle.std.specs.Prelude.{◌≡◌, ◌<◌, ◌≤◌, ◌+◌, ◌-◌, ◌*◌, ℕ, List, map, length, slice_range, IfOk};
+ghost use Rattle.std.specs.Prelude.{◌≡◌, ◌<◌, ◌≤◌, ◌+◌, ◌-◌, ℕ, List, map, length, IfOk};
 ghost use Rattle.rayon.specs.Numbers.{nat_range};
 ghost use Rattle.label.specs.Labels.{labels};
 ghost use Rattle.label.specs.Oral.{Messages};
@@ -7,7 +7,7 @@ ghost use Rattle.tree.specs.LieutenantTree.{IsFilled};
 ghost use Rattle.resolve.specs.Decided.{Decides};
 ghost use Rattle.resolve.specs.Upward.{lower_off_at, upward, decisions_at};
 
-use crate::recursion::order_at;
+use crate::recursion::children;
 use arrayvec::ArrayVec;
 use combine::Combine;
 use rayon::prelude::*;
@@ -39,14 +39,6 @@ fn lower_off(tree: &Tree, size: u8, rank: usize) -> u8
     }
 }
 
-/// The part of the level below that belongs to the children of a rank, `width` each.
-fn children(below: &[u32], width: usize, rank: usize) -> &[u32]
-    requires { rank * width + width ≤ length below.now }
-    ensures { result.now ≡ slice_range below.now (rank * width) (rank * width + width) }
-{
-    &below[rank * width..rank * width + width]
-}
-
 /// What is decided about the label at a rank, from what is decided about its children.
 fn upward<C: Combine>(tree: &Tree, rule: &C, size: u8, below: &[u32], rank: usize) -> u32
     requires some { 0 < size }
@@ -56,7 +48,7 @@ fn upward<C: Combine>(tree: &Tree, rule: &C, size: u8, below: &[u32], rank: usiz
         ≡ length (labels tree.now.generals tree.now.commander tree.now.general (size + 1)) }
     ensures { result ≡ upward (C.combined rule.now) tree.now below.now size rank }
 {
-    let own = order_at(tree.level(size), rank);
+    let own = tree.level(size)[rank];
     let lower_off = usize::from(lower_off(tree, size, rank));
     let width = usize::from((tree.space().generals - 1).saturating_sub(size));
     let children = children(below, width, rank);
@@ -110,12 +102,7 @@ fn longest(alloc: Global, tree: &Tree) -> Result<Vec<u32>, AllocError>
         IfOk result (λ v. v.items ≡ decisions_at f tree.now M 0 (tree.now.bound + 1)) }
 {
     let _space = tree.space();
-    let level = tree.level(tree.bound() + 1);
-    let mut orders = Vec::with_capacity(alloc, level.len())?;
-    for order in level {
-        orders.push(order.unwrap_or(0))?;
-    }
-    Ok(orders)
+    tree.level(tree.bound() + 1).to_vec(alloc)
 }
 
 /// What the lieutenant of the tree decides, level by level from the longest labels upwards.

@@ -1,6 +1,5 @@
-ghost use Rattle.std.specs.Prelude.{◌≡◌, ◌<◌, ◌≤◌, ◌+◌, ◌-◌, ◌*◌, length, map, insert, slice_range, None, slice_index_or};
+ghost use Rattle.std.specs.Prelude.{◌≡◌, ◌<◌, ◌≤◌, ◌+◌, ◌-◌, ◌*◌, length, slice_range};
 ghost use Rattle.label.specs.Labels.{labels};
-ghost use Rattle.label.specs.Oral.{order_of};
 ghost use Rattle.resolve.specs.Decided.{Decides, decided};
 
 use arrayvec::ArrayVec;
@@ -39,7 +38,7 @@ fn decide<C: Combine>(
     requires lower_off { lower_off ≤ tree.now.generals - 1 - size }
     ensures { result ≡ decided (C.combined rule.now) tree.now relays size rank lower_off }
 {
-    let own = order_at(tree.level(size), rank);
+    let own = tree.level(size)[rank];
     if relays == 0 {
         return own;
     }
@@ -75,17 +74,9 @@ fn decide<C: Combine>(
 }
 
 /// The part of a level that belongs to the children of a rank of the level above, `width` each.
-fn children(level: &[Option<u32>], width: usize, rank: usize) -> &[Option<u32>]
+pub(crate) fn children(level: &[u32], width: usize, rank: usize) -> &[u32]
     requires { rank * width + width ≤ length level.now }
     ensures { result.now ≡ slice_range level.now (rank * width) (rank * width + width) }
 {
     &level[rank * width..rank * width + width]
-}
-
-/// The order at a rank, RETREAT where nothing came.
-pub fn order_at(level: &[Option<u32>], rank: usize) -> u32
-    requires { rank < length level.now }
-    ensures { result ≡ order_of (slice_index_or level.now rank None) }
-{
-    level[rank].unwrap_or(0)
 }

@@ -51,7 +51,13 @@ pub fn live<S: Server>(
         (S.served server.new)) }
 {
     let shape = shape_told(general, round, context.as_slice());
-    let mut running = Running::start(program, context, patience, Outbox::new(alloc, shape)?);
+    let mut running = Running::start(
+        alloc,
+        program,
+        context,
+        patience,
+        Outbox::new(alloc, shape)?,
+    )?;
     let mut transcript = Vec::new(alloc);
     while !running.has_ended() {
         go_on(&mut running, &mut transcript, server, general, round)?;

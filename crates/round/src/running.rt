@@ -23,12 +23,14 @@ use std::sync::Arc;
 use verify::Verified;
 
 /// A running program with its context, seen as it stands and whether it has exited.
+///
+/// The activation, of 3 KB, stands in a box, so that where a general may have one and has none no room is taken for it.
 #[derive(Drop)]
 pub struct Running {
     pub(crate) program: Arc<Verified>,
     pub(crate) context: Vec<u8>,
     pub(crate) patience: Option<u32>,
-    pub(crate) activation: Activation,
+    pub(crate) activation: Box<Activation>,
     pub(crate) over: bool,
 }
 
@@ -43,18 +45,18 @@ impl Model for Running {
     ghost view = { λ r. record {
       program = arc_value r.program;
       context = r.context.items;
-      relay = r.activation.relay;
+      relay = r.activation.value.relay;
       patience = r.patience;
-      state = r.activation.state;
+      state = r.activation.value.state;
       over = r.over;
     } };
 
     ghost invariant = { λ r. IsLive (record {
       program = arc_value r.program;
       context = r.context.items;
-      relay = r.activation.relay;
+      relay = r.activation.value.relay;
       patience = r.patience;
-      state = r.activation.state;
+      state = r.activation.value.state;
       over = r.over;
     }) };
 }
@@ -62,26 +64,31 @@ impl Model for Running {
 impl Running {
     /// The program at its start in the context, with an outbox in which nothing is put, nor entered where orders are
     /// signed. It has so many steps, or as many as it needs.
+    ///
+    /// # Errors
+    ///
+    /// `AllocError` where memory for its activation is refused.
     pub fn start(
+        alloc: Global,
         program: Arc<Verified>,
         context: Vec<u8>,
         patience: Option<u32>,
         outbox: Outbox,
-    ) -> Running
+    ) -> Result<Running, AllocError>
         requires context { length context.items ≡ 4096 }
         requires empty { outbox.rows ≡ empty_outbox outbox.relay }
         requires unentered { outbox.entries ≡ [] }
-        ensures { result ≡ started patience (arc_value program) context.items outbox.relay }
+        ensures { IfOk result (λ running. running ≡ started patience (arc_value program) context.items outbox.relay) }
     {
         let told = Context::new(context.as_slice());
-        let activation = Activation::start(&program, &told, outbox);
-        Running {
+        let activation = boxed(alloc, Activation::start(&program, &told, outbox))?;
+        Ok(Running {
             program,
             context,
             patience,
             activation,
             over: false,
-        }
+        })
     }
 
     /// The same, kept apart.
@@ -96,7 +103,7 @@ impl Running {
             program: self.program.clone()?,
             context: Vec::from_slice(alloc, self.context.as_slice())?,
             patience: self.patience,
-            activation: self.activation.twin(alloc)?,
+            activation: boxed(alloc, self.activation.twin(alloc)?)?,
             over: self.over,
         })
     }
@@ -142,6 +149,7 @@ impl Running {
             over,
             ..
         } = self;
+        let activation = Box::into_inner(activation);
         let steps = activation.steps();
         Letter {
             general,
@@ -208,6 +216,13 @@ impl Running {
     {
         self.activation.outbox()
     }
+}
+
+/// The activation in a box.
+fn boxed(alloc: Global, activation: Activation) -> Result<Box<Activation>, AllocError>
+    ensures { IfOk result (λ own. own.value ≡ activation) }
+{
+    Ok(Box::new(alloc, activation)?)
 }
 
 /// Whether so many steps have reached the patience.

@@ -77,5 +77,5 @@ fn activation(
     let context = context(alloc, scenario, sent, general, &held)?;
     let outbox = outbox(alloc, scenario, sent, general, &held)?;
     let program = program.clone()?;
-    Ok(Running::start(program, context, scenario.patience(), outbox))
+    Running::start(alloc, program, context, scenario.patience(), outbox)
 }

@@ -1,11 +1,13 @@
 -- What a tree has of a label.
-use Rattle.std.proofs.Common.{ℕ, zero, suc, ◌+◌, ◌-◌, ◌^◌, ◌<◌, ◌≤◌, ◌≡◌, Bool, true, false, cond, List, [], ◌∷◌, length, map, take, refl, sym, ap, ◌∙◌, arith, inl, inr, Option, None, Some}
-use Rattle.std.specs.Prelude.{◌==◌, bytes_eq, find, slice_get, unwrap_or}
+use Rattle.std.proofs.Common.{ℕ, zero, suc, ◌+◌, ◌-◌, ◌^◌, ◌<◌, ◌≤◌, ◌≡◌, Bool, true, false, cond, List, [], ◌∷◌, length, map, take, refl, sym, ap, ◌∙◌, arith, inl, inr, Option, None, Some, All, get_or, subst}
+use Rattle.std.specs.Prelude.{◌==◌, bytes_eq, find, option_map, slice_get, unwrap_or}
 use Rattle.std.specs.List.{list_any}
 use Rattle.std.proofs.lemmas.Bool.{cases_Bool, cases_lt, cond-true, cond-false, eq-eqb, or_cases, or_left, or_right, true≢false}
+use Rattle.std.proofs.lemmas.List.{length-map}
+use Rattle.std.proofs.lemmas.Option.{get_or_from_slice_get, slice_get-map, slice_get_within}
 use Rattle.std.proofs.lemmas.Slice.Eq.{bytes_eq-Decides}
 use Rattle.label.specs.Labels.{labels}
-use Rattle.label.specs.Oral.{Messages, BeginsWith}
+use Rattle.label.specs.Oral.{Messages, BeginsWith, order_of}
 use Rattle.label.proofs.Listing.{proved_labels_are_exact}
 use Rattle.tree.specs.LieutenantTree.{LieutenantTree, IsCampaign, IsFilled, IsPlace, level_of, level_told}
 use Rattle.tree.proofs.Levels.{levels-long, levels-at}
@@ -167,6 +169,15 @@ heard_nowhere trees w p none = ap (λ o. value_of o w) none
 abbrev pub AreSmall : List (Option ℕ) → Type 0
 AreSmall level = (i v : ℕ) → slice_get level i ≡ Some (Some v) → v < 2 ^ 32
 
+-- those of 32 bits that a level tells
+pub small_level : (level : List (Option ℕ)) (orders : List ℕ) → orders ≡ map order_of level → All (λ order. order < 2 ^ 32) orders → AreSmall level
+small_level level orders e small i v at =
+    let read : get_or orders i 0 ≡ v = ap (λ (l : List ℕ). get_or l i 0) e ∙ get_or_from_slice_get (map order_of level) i v 0 (slice_get-map order_of level i ∙ ap (option_map order_of) at) in
+    let inside : i < length level = slice_get_within level i (Some v) at in
+    let long : length orders ≡ length level = ap length e ∙ length-map level order_of in
+    let P : ℕ → Type 0 = λ n. n < 2 ^ 32 in
+    subst P read (small i 0 (omega arith))
+
 abbrev pub AreLevelsSmall : LieutenantTree → Type 0
 AreLevelsSmall t = (k : ℕ) → AreSmall (level_of t k)
 
@@ -201,4 +212,11 @@ levels_small t M filled small zero = small 1 (omega arith) (omega arith)
 levels_small t M filled small (suc k) = elim (cases_lt k (t.bound + 1)) [
   | inl within ↦ small (suc k) (omega arith) (omega arith)
   | inr past ↦ λ i v e. absurd (empty_get i v (sym (ap (λ level. slice_get level i) (level_past t M k filled past)) ∙ e))
+]
+
+-- one level more
+pub one_more_small : (t : LieutenantTree) (size : ℕ) → ((k : ℕ) → 0 < k → k ≤ size → AreSmall (level_of t k)) → AreSmall (level_of t (size + 1)) → (k : ℕ) → 0 < k → k ≤ size + 1 → AreSmall (level_of t k)
+one_more_small t size before here k some short = elim (cases_lt k (size + 1)) [
+  | inl less ↦ before k some (omega arith)
+  | inr more ↦ let e : size + 1 ≡ k = omega arith in subst (λ (j : ℕ). AreSmall (level_of t j)) e here
 ]

@@ -1,6 +1,6 @@
 //! What is known of the trees of what lieutenants were told: each function does nothing,
 //! and recalls what their types keep.
-ghost use Rattle.std.specs.Prelude.{◌≡◌, ◌<◌, ◌^◌, ℕ, Some, slice_get};
+ghost use Rattle.std.specs.Prelude.{◌≡◌, ◌<◌, ◌^◌, ℕ, All, Some, slice_get};
 ghost use Rattle.tables.specs.Hearing.{heard};
 ghost use Rattle.tables.specs.Laws.{AreOrders};
 ghost use Rattle.tree.specs.LieutenantTree.{level_of};
@@ -27,26 +27,8 @@ fn recall_tree(tree: &Tree)
 }
 
 /// Does nothing. What a level tells are orders of 32 bits.
-fn recall_level(level: &[Option<u32>])
-    ensures { (i v : ℕ) → slice_get level.now i ≡ Some (Some v) → v < 2 ^ 32 }
+fn recall_level(level: &[u32])
+    ensures { All (λ order. order < 2 ^ 32) level.now }
 {
-    for told in level {
-        recall_told(*told);
-    }
-}
-
-/// Does nothing. An order has 32 bits.
-fn recall_told(told: Option<u32>)
-    ensures { (v : ℕ) → told ≡ Some v → v < 2 ^ 32 }
-{
-    if let Some(order) = told {
-        recall_order(order);
-    }
-}
-
-/// Does nothing. An order has 32 bits.
-fn recall_order(order: u32)
-    ensures { order < 2 ^ 32 }
-{
-    let _order = order;
+    let _level = level;
 }

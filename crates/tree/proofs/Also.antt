@@ -1,8 +1,7 @@
 -- One message more: the levels, but for the place of its label.
 use Rattle.std.proofs.Common.{ℕ, zero, suc, ◌+◌, ◌<◌, ◌≤◌, ◌≡◌, List, [], ◌∷◌, map, refl, ap, ◌∙◌, arith, Some, Option}
 use Rattle.std.proofs.Math.ListN.{set}
-use Rattle.std.specs.Prelude.{slice_get, bytes_eq, Vec}
-use Rattle.std.specs.declared.alloc.Global.{Global}
+use Rattle.std.specs.Prelude.{slice_get, bytes_eq}
 use Rattle.std.proofs.lemmas.Bool.{cond-true, cond-false, false_from_ne_true}
 use Rattle.std.proofs.lemmas.Slice.Eq.{bytes_eq-Decides}
 use Rattle.label.specs.Labels.{labels}
@@ -64,9 +63,3 @@ levels-set n c p M w v r k (suc l) zero s at only long =
 levels-set n c p M w v r k (suc l) (suc i) s at only long =
     let e : k + suc i ≡ suc k + i = omega arith in
     rw (also-absent M w v p (labels n c p k) (λ q h. let z : k ≡ k + suc i = long k q h in omega arith), levels-set n c p M w v r (suc k) l i (omega arith) (rw e at at) (rw e at only) (rw e at long), e) refl
-
--- a row of the fields is written
-pub row-set : (ls : List (Vec (Option ℕ) Global)) (i : ℕ) (row : Vec (Option ℕ) Global) → map (λ l. l.items) (set ls i row) ≡ set (map (λ l. l.items) ls) i row.items
-row-set [] i row = refl
-row-set (x ∷ ls) zero row = refl
-row-set (x ∷ ls) (suc i) row = ap (λ ys. x.items ∷ ys) (row-set ls i row)

@@ -1,11 +1,8 @@
 -- A level in which nothing is told any more.
-use Rattle.std.proofs.Common.{ℕ, zero, suc, ◌+◌, ◌-◌, ◌<◌, ◌≤◌, ◌≡◌, List, [], ◌∷◌, ◌++◌, map, length, replicate, drop, refl, sym, ap, subst, ◌∙◌, arith, Some, None, Option}
+use Rattle.std.proofs.Common.{ℕ, zero, suc, ◌+◌, ◌-◌, ◌<◌, ◌≤◌, ◌≡◌, List, [], ◌∷◌, map, length, replicate, refl, sym, ap, subst, ◌∙◌, arith, Some, None, Option}
 use Rattle.std.proofs.Math.ListN.{set}
-use Rattle.std.specs.Prelude.{slice_get, get_or, Vec}
-use Rattle.std.specs.declared.alloc.Global.{Global}
+use Rattle.std.specs.Prelude.{slice_get, get_or}
 use Rattle.std.proofs.lemmas.Bool.{eq-eqb, ne_eqb}
-use Rattle.std.proofs.lemmas.List.{with_items_is, length-replicate}
-use Rattle.std.specs.Vec.{with_items}
 use Rattle.label.specs.Labels.{labels}
 use Rattle.label.specs.Oral.{Messages}
 use Rattle.label.specs.Space.{IsSpace, labels_of}
@@ -13,7 +10,6 @@ use Rattle.label.specs.declared.space.Space.{Space}
 use Rattle.label.proofs.Listing.{proved_labels_are_exact}
 use Rattle.tree.specs.LieutenantTree.{IsFilled, levels_from, blank}
 use Rattle.tree.specs.Fields.{kept, IsFilledBySome}
-use Rattle.tree.proofs.Also.{row-set}
 use Rattle.tree.proofs.Levels.{row-long}
 
 -- labels of a length are that long
@@ -58,31 +54,17 @@ long-labels : (s : Space) → IsSpace s → AreLong s.generals s.commander s.gen
 long-labels s is j q w at = (proved_labels_are_exact.only s.generals s.commander s.general j q w is.commander is.general is.lieutenant at).2
 
 -- without a level of that length nothing changes
-pub away-blank : (s : Space) (m : ℕ) (ls : List (Vec (Option ℕ) Global)) (M : Messages) (k : ℕ) → IsFilledBySome s m ls → IsFilled (kept s m ls) M → ((q : ℕ) → 1 ≤ q → q < m + 2 → q ≡ k → ⊥) → IsFilled (kept s m ls) (blank M k)
+pub away-blank : (s : Space) (m : ℕ) (ls : List (List (Option ℕ))) (M : Messages) (k : ℕ) → IsFilledBySome s m ls → IsFilled (kept s m ls) M → ((q : ℕ) → 1 ≤ q → q < m + 2 → q ≡ k → ⊥) → IsFilled (kept s m ls) (blank M k)
 away-blank s m ls M k i f away = f ∙ sym (levels-kept s.generals s.commander s.general M k 1 (m + 1) (long-labels s i.space) (λ q low high. away q low (omega arith)))
 
 -- the row of a length is written over with nothing
-pub row-blank : (s : Space) (m : ℕ) (ls : List (Vec (Option ℕ) Global)) (M : Messages) (k : ℕ) (row new : Vec (Option ℕ) Global) → IsFilledBySome s m ls → IsFilled (kept s m ls) M → 0 < k → k ≤ m + 1 → row ≡ get_or ls (k - 1) row → new.items ≡ replicate (length row.items) None
+pub row-blank : (s : Space) (m : ℕ) (ls : List (List (Option ℕ))) (M : Messages) (k : ℕ) (row new : List (Option ℕ)) → IsFilledBySome s m ls → IsFilled (kept s m ls) M → 0 < k → k ≤ m + 1 → row ≡ get_or ls (k - 1) row → new ≡ replicate (length row) None
     → IsFilled (kept s m (set ls (k - 1) new)) (blank M k)
 row-blank s m ls M k row new i f some short er en =
-    row-set ls (k - 1) new
-    ∙ (ap (set (map (λ l. l.items) ls) (k - 1)) (en ∙ ap (λ (j : ℕ). replicate j None) (row-long s m ls k row i some short er))
+    ap (set ls (k - 1)) (en ∙ ap (λ (j : ℕ). replicate j None) (row-long s m ls k row i some short er))
     ∙ (ap (λ ys. set ys (k - 1) (replicate (length (labels_of s k)) None)) f
-    ∙ sym (levels-blank s.generals s.commander s.general M 1 (m + 1) (k - 1) k (long-labels s i.space) (omega arith) (omega arith))))
+    ∙ sym (levels-blank s.generals s.commander s.general M 1 (m + 1) (k - 1) k (long-labels s i.space) (omega arith) (omega arith)))
 
 -- and the tree is whole again
-pub whole-blank : (s : Space) (m : ℕ) (ls : List (Vec (Option ℕ) Global)) (k : ℕ) (row new : Vec (Option ℕ) Global) → IsFilledBySome s m ls → 0 < k → k ≤ m + 1 → row ≡ get_or ls (k - 1) row → new.items ≡ replicate (length row.items) None → IsFilledBySome s m (set ls (k - 1) new)
+pub whole-blank : (s : Space) (m : ℕ) (ls : List (List (Option ℕ))) (k : ℕ) (row new : List (Option ℕ)) → IsFilledBySome s m ls → 0 < k → k ≤ m + 1 → row ≡ get_or ls (k - 1) row → new ≡ replicate (length row) None → IsFilledBySome s m (set ls (k - 1) new)
 whole-blank s m ls k row new i some short er en = record { space = i.space; small = i.small; M = blank i.M k; filled = row-blank s m ls i.M k row new i i.filled some short er en }
-
--- the row's vector, written over
-pub with-blank : (row : Vec (Option ℕ) Global) (old new : List (Option ℕ)) → old ≡ row.items → new ≡ replicate (length old) None → (with_items row new).items ≡ replicate (length row.items) None
-with-blank row old new eo en =
-    let e : new ≡ replicate (length row.items) None = en ∙ ap (λ xs. replicate (length xs) None) eo in
-    let long : length new ≡ length row.items = ap length e ∙ length-replicate (length row.items) None in
-    with_items_is row new (let o = row.ok in omega arith) ∙ e
-
--- one place more
-pub none-more : (n : ℕ) (d : List (Option ℕ)) → n < length d → set (replicate n None ++ drop n d) n None ≡ replicate (suc n) None ++ drop (suc n) d
-none-more n [] less = absurd (omega arith)
-none-more zero (x ∷ d) less = refl
-none-more (suc n) (x ∷ d) less = ap (λ xs. None ∷ xs) (none-more n d (omega arith))

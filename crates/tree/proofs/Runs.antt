@@ -2,11 +2,9 @@
 use Rattle.std.proofs.Common.{ℕ, zero, suc, ◌+◌, ◌-◌, ◌<◌, ◌≤◌, ◌≡◌, List, [], ◌∷◌, ◌++◌, map, length, drop, get_or, refl, sym, ap, subst, ◌∙◌, arith, Some, None, Option}
 use Rattle.std.proofs.Math.ListN.{set}
 use Rattle.std.proofs.Math.Seq.{drop-cons}
-use Rattle.std.specs.Prelude.{slice_get, Vec}
-use Rattle.std.specs.declared.alloc.Global.{Global}
+use Rattle.std.specs.Prelude.{slice_get}
 use Rattle.std.proofs.lemmas.Option.{slice_get-get_or, get_or_from_slice_get}
-use Rattle.std.proofs.lemmas.List.{with_items_is, length-set, set-get_or}
-use Rattle.std.specs.Vec.{with_items}
+use Rattle.std.proofs.lemmas.List.{length-set, map-set, set-get_or}
 use Rattle.label.specs.Labels.{labels}
 use Rattle.label.specs.Oral.{Messages}
 use Rattle.label.specs.Space.{IsSpace, labels_of}
@@ -14,27 +12,33 @@ use Rattle.label.specs.declared.space.Space.{Space}
 use Rattle.label.proofs.Listing.{proved_labels_are_exact, proved_labels_differ}
 use Rattle.tree.specs.LieutenantTree.{AreAnswers, IsFilled, level_told, levels_from, run_written, told_also, told_run}
 use Rattle.tree.specs.Fields.{kept, IsFilledBySome}
-use Rattle.tree.proofs.Also.{also-once, levels-set, row-set}
+use Rattle.tree.proofs.Also.{also-once, levels-set}
 use Rattle.tree.proofs.Levels.{levels-at, row-told}
 
 -- the row stays as long
-pub run-long : (first : ℕ) (vs row : List (Option ℕ)) → length (run_written first vs row) ≡ length row
+pub run-long : {A : Type 0} (first : ℕ) (vs row : List A) → length (run_written first vs row) ≡ length row
 unfolding run_written
 run-long first [] row = refl
 run-long first (v ∷ vs) row = run-long (suc first) vs (set row first v) ∙ length-set row first v
 
-pub run-none : (first : ℕ) (row : List (Option ℕ)) → row ≡ run_written first [] row
+pub run-none : {A : Type 0} (first : ℕ) (row : List A) → row ≡ run_written first [] row
 unfolding run_written
 run-none first row = refl
 
 -- one value more
-pub run-more : (first n : ℕ) (vs row : List (Option ℕ)) (v : Option ℕ) → length vs ≡ n → run_written first (vs ++ v ∷ []) row ≡ set (run_written first vs row) (first + n) v
+pub run-more : {A : Type 0} (first n : ℕ) (vs row : List A) (v : A) → length vs ≡ n → run_written first (vs ++ v ∷ []) row ≡ set (run_written first vs row) (first + n) v
 unfolding run_written
 run-more first n [] row v e = (let same : first ≡ first + n = omega arith in ap (λ (i : ℕ). set row i v) same)
 run-more first zero (u ∷ vs) row v e = absurd (omega arith)
 run-more first (suc n) (u ∷ vs) row v e =
     let next : suc first + n ≡ first + suc n = omega arith in
     run-more (suc first) n vs (set row first u) v (omega arith) ∙ ap (λ (i : ℕ). set (run_written (suc first) vs (set row first u)) i v) next
+
+-- a run of what values are mapped to
+pub run-map : {A B : Type 0} (f : A → B) (first : ℕ) (vs row : List A) → run_written first (map f vs) (map f row) ≡ map f (run_written first vs row)
+unfolding run_written
+run-map f first [] row = refl
+run-map f first (v ∷ vs) row = ap (run_written (suc first) (map f vs)) (sym (map-set f row first v)) ∙ run-map f (suc first) vs (set row first v)
 
 -- an answer more
 pub answers-none : (P : ℕ → Option ℕ → Type 0) → AreAnswers P 0 []
@@ -107,23 +111,15 @@ levels-run n c p M k l i j first (v ∷ vs) apart one less e fits =
     ∙ ap (λ row. set (levels_from n c p M k l) i (run_written (suc first) vs row)) level)))
 
 -- the row of a length with the values in it
-pub row-run : (s : Space) (m : ℕ) (ls : List (Vec (Option ℕ) Global)) (M : Messages) (k first : ℕ) (vs : List (Option ℕ)) (row new : Vec (Option ℕ) Global) → IsFilledBySome s m ls → IsFilled (kept s m ls) M → 0 < k → k ≤ m + 1 → row ≡ get_or ls (k - 1) row →
-    new.items ≡ run_written first vs row.items → first + length vs ≤ length (labels_of s k) → IsFilled (kept s m (set ls (k - 1) new)) (told_run M (drop first (labels_of s k)) vs)
+pub row-run : (s : Space) (m : ℕ) (ls : List (List (Option ℕ))) (M : Messages) (k first : ℕ) (vs : List (Option ℕ)) (row new : List (Option ℕ)) → IsFilledBySome s m ls → IsFilled (kept s m ls) M → 0 < k → k ≤ m + 1 → row ≡ get_or ls (k - 1) row →
+    new ≡ run_written first vs row → first + length vs ≤ length (labels_of s k) → IsFilled (kept s m (set ls (k - 1) new)) (told_run M (drop first (labels_of s k)) vs)
 row-run s m ls M k first vs row new i f some short er en fits =
-    row-set ls (k - 1) new
-    ∙ (ap (set (map (λ l. l.items) ls) (k - 1)) (en ∙ ap (run_written first vs) (row-told s m ls M k row i f some short er))
+    ap (set ls (k - 1)) (en ∙ ap (run_written first vs) (row-told s m ls M k row i f some short er))
     ∙ (ap (λ ys. set ys (k - 1) (run_written first vs (level_told s.generals s.commander s.general M k))) f
-    ∙ sym (levels-run s.generals s.commander s.general M 1 (m + 1) (k - 1) k first vs (labels-apart s i.space) (labels-of_one s i.space) (omega arith) (omega arith) fits)))
+    ∙ sym (levels-run s.generals s.commander s.general M 1 (m + 1) (k - 1) k first vs (labels-apart s i.space) (labels-of_one s i.space) (omega arith) (omega arith) fits))
 
 -- and the tree is whole again
-pub whole-run : (s : Space) (m : ℕ) (ls : List (Vec (Option ℕ) Global)) (k first : ℕ) (vs : List (Option ℕ)) (row new : Vec (Option ℕ) Global) → IsFilledBySome s m ls → 0 < k → k ≤ m + 1 → row ≡ get_or ls (k - 1) row →
-    new.items ≡ run_written first vs row.items → first + length vs ≤ length (labels_of s k) → IsFilledBySome s m (set ls (k - 1) new)
+pub whole-run : (s : Space) (m : ℕ) (ls : List (List (Option ℕ))) (k first : ℕ) (vs : List (Option ℕ)) (row new : List (Option ℕ)) → IsFilledBySome s m ls → 0 < k → k ≤ m + 1 → row ≡ get_or ls (k - 1) row →
+    new ≡ run_written first vs row → first + length vs ≤ length (labels_of s k) → IsFilledBySome s m (set ls (k - 1) new)
 whole-run s m ls k first vs row new i some short er en fits =
     record { space = i.space; small = i.small; M = told_run i.M (drop first (labels_of s k)) vs; filled = row-run s m ls i.M k first vs row new i i.filled some short er en fits }
-
--- the row's vector with the values in it
-pub with-run : (row : Vec (Option ℕ) Global) (first : ℕ) (vs old new : List (Option ℕ)) → old ≡ row.items → new ≡ run_written first vs old → (with_items row new).items ≡ run_written first vs row.items
-with-run row first vs old new eo en =
-    let e : new ≡ run_written first vs row.items = en ∙ ap (run_written first vs) eo in
-    let long : length new ≡ length row.items = ap length e ∙ run-long first vs row.items in
-    with_items_is row new (let o = row.ok in omega arith) ∙ e

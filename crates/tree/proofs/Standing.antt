@@ -1,11 +1,8 @@
 -- A place of the tree is a rank.
-use Rattle.std.proofs.Common.{ℕ, ◌+◌, ◌-◌, ◌<◌, ◌≤◌, ◌≡◌, List, [], length, map, get_or, sym, ap, ◌∙◌, arith, Some, None, Option}
-use Rattle.std.specs.Prelude.{slice_get, Vec}
-use Rattle.std.specs.declared.alloc.Global.{Global}
-use Rattle.std.proofs.lemmas.Option.{slice_get_within, slice_get-get_or, get_or_from_slice_get}
-use Rattle.std.proofs.lemmas.List.{with_items_is, length-set}
+use Rattle.std.proofs.Common.{ℕ, ◌+◌, ◌-◌, ◌<◌, ◌≤◌, ◌≡◌, List, [], length, get_or, sym, ap, ◌∙◌, arith, Some, Option}
+use Rattle.std.specs.Prelude.{slice_get}
+use Rattle.std.proofs.lemmas.Option.{slice_get_within, slice_get-get_or}
 use Rattle.std.proofs.Math.ListN.{set}
-use Rattle.std.specs.Vec.{with_items}
 use Rattle.label.specs.Space.{IsSpace, HasRank, labels_of}
 use Rattle.label.specs.declared.space.Space.{Space}
 use Rattle.label.specs.Oral.{Messages}
@@ -13,34 +10,31 @@ use Rattle.label.proofs.Same.{label_stands}
 use Rattle.label.proofs.Listing.{proved_labels_are_exact, proved_labels_differ}
 use Rattle.tree.specs.LieutenantTree.{IsPlace, IsFilled, level_told, told_also}
 use Rattle.tree.specs.Fields.{kept, IsFilledBySome}
-use Rattle.tree.proofs.Also.{levels-set, levels-away, row-set}
-use Rattle.tree.proofs.Levels.{row-told, row-long, told-at}
+use Rattle.tree.proofs.Also.{levels-set, levels-away}
+use Rattle.tree.proofs.Levels.{row-told, row-long, same_some, told-at}
 
-pub placed : (s : Space) (m : ℕ) (ls : List (Vec (Option ℕ) Global)) (w : List ℕ) (r : ℕ) → IsSpace s → length w ≤ m + 1 → HasRank s w r → IsPlace (kept s m ls) w
+pub placed : (s : Space) (m : ℕ) (ls : List (List (Option ℕ))) (w : List ℕ) (r : ℕ) → IsSpace s → length w ≤ m + 1 → HasRank s w r → IsPlace (kept s m ls) w
 placed s m ls w r is short e =
     let one = proved_labels_are_exact.only s.generals s.commander s.general (length w) r w is.commander is.general is.lieutenant e in
     record { label = one.0; without = one.1; short = short }
 
-pub ranked : (s : Space) (m : ℕ) (ls : List (Vec (Option ℕ) Global)) (w : List ℕ) → IsSpace s → IsPlace (kept s m ls) w → ((r : ℕ) → HasRank s w r → ⊥) → ⊥
+pub ranked : (s : Space) (m : ℕ) (ls : List (List (Option ℕ))) (w : List ℕ) → IsSpace s → IsPlace (kept s m ls) w → ((r : ℕ) → HasRank s w r → ⊥) → ⊥
 ranked s m ls w is p away =
     let at = label_stands s.generals s.commander s.general w is.commander is.general is.lieutenant p.label p.without in
     away at.0 at.1
 
 -- the rank is a place of the row
-pub row-within : (s : Space) (m : ℕ) (ls : List (Vec (Option ℕ) Global)) (w : List ℕ) (k r : ℕ) (row : Vec (Option ℕ) Global) → IsFilledBySome s m ls → k ≡ length w → 0 < k → k ≤ m + 1 → row ≡ get_or ls (k - 1) row → HasRank s w r → r < length row.items
+pub row-within : (s : Space) (m : ℕ) (ls : List (List (Option ℕ))) (w : List ℕ) (k r : ℕ) (row : List (Option ℕ)) → IsFilledBySome s m ls → k ≡ length w → 0 < k → k ≤ m + 1 → row ≡ get_or ls (k - 1) row → HasRank s w r → r < length row
 row-within s m ls w k r row i e some short er at =
     let within : r < length (labels_of s (length w)) = slice_get_within (labels_of s (length w)) r w at in
     let within' : r < length (labels_of s k) = rw e within in
-    let long : length row.items ≡ length (labels_of s k) = row-long s m ls k row i some short er in
+    let long : length row ≡ length (labels_of s k) = row-long s m ls k row i some short er in
     omega arith
 
 -- what is read there was told
-pub row-read : (s : Space) (m : ℕ) (ls : List (Vec (Option ℕ) Global)) (M : Messages) (w : List ℕ) (k r : ℕ) (row : Vec (Option ℕ) Global) → IsFilledBySome s m ls → IsFilled (kept s m ls) M → k ≡ length w → 0 < k → k ≤ m + 1 → row ≡ get_or ls (k - 1) row → HasRank s w r → get_or row.items r None ≡ M w s.general
-row-read s m ls M w k r row i f e some short er at =
-    get_or_from_slice_get row.items r (M w s.general) None (told-at s.generals s.commander s.general k r M w row.items (row-told s m ls M k row i f some short er) (rw e at))
-
-with-row : (row : Vec (Option ℕ) Global) (xs : List (Option ℕ)) (r : ℕ) (v : Option ℕ) → xs ≡ row.items → (with_items row (set xs r v)).items ≡ set xs r v
-with-row row xs r v e = with_items_is row (set xs r v) (let l : length xs ≡ length row.items = ap length e in let o = row.ok in omega (arith, length-set xs r v))
+pub row-read : (s : Space) (m : ℕ) (ls : List (List (Option ℕ))) (M : Messages) (w : List ℕ) (k r : ℕ) (row : List (Option ℕ)) (v : Option ℕ) → IsFilledBySome s m ls → IsFilled (kept s m ls) M → k ≡ length w → 0 < k → k ≤ m + 1 → row ≡ get_or ls (k - 1) row → HasRank s w r → slice_get row r ≡ Some v → v ≡ M w s.general
+row-read s m ls M w k r row v i f e some short er at read =
+    same_some read (told-at s.generals s.commander s.general k r M w row (row-told s m ls M k row i f some short er) (rw e at))
 
 -- only labels of its length are the label
 only-long : (s : Space) → IsSpace s → (w : List ℕ) (k j q : ℕ) → k ≡ length w → slice_get (labels_of s j) q ≡ Some w → j ≡ k
@@ -49,33 +43,32 @@ only-long s is w k j q e at =
     sym one.2 ∙ sym e
 
 -- the message is written at the label's rank
-pub row-filled : (s : Space) (m : ℕ) (ls : List (Vec (Option ℕ) Global)) (M : Messages) (w : List ℕ) (k r : ℕ) (row : Vec (Option ℕ) Global) (xs : List (Option ℕ)) (v : Option ℕ) → IsFilledBySome s m ls → IsFilled (kept s m ls) M → 0 < k → k ≤ m + 1 → row ≡ get_or ls (k - 1) row → xs ≡ row.items → slice_get (labels_of s k) r ≡ Some w
-    → IsFilled (kept s m (set ls (k - 1) (with_items row (set xs r v)))) (told_also M w v)
-row-filled s m ls M w k r row xs v i f some short er ex at =
+pub row-filled : (s : Space) (m : ℕ) (ls : List (List (Option ℕ))) (M : Messages) (w : List ℕ) (k r : ℕ) (row new : List (Option ℕ)) (v : Option ℕ) → IsFilledBySome s m ls → IsFilled (kept s m ls) M → 0 < k → k ≤ m + 1 → row ≡ get_or ls (k - 1) row → new ≡ set row r v → slice_get (labels_of s k) r ≡ Some w
+    → IsFilled (kept s m (set ls (k - 1) new)) (told_also M w v)
+row-filled s m ls M w k r row new v i f some short er en at =
     let n = s.generals in
     let size : 1 + (k - 1) ≡ k = omega arith in
     let here : k ≡ length w = sym (proved_labels_are_exact.only s.generals s.commander s.general k r w i.space.commander i.space.general i.space.lieutenant at).2 in
-    let told : row.items ≡ level_told s.generals s.commander s.general M k = row-told s m ls M k row i f some short er in
-    row-set ls (k - 1) (with_items row (set xs r v))
-    ∙ (ap (set (map (λ l. l.items) ls) (k - 1)) (with-row row xs r v ex ∙ ap (λ ys. set ys r v) (ex ∙ (told ∙ ap (λ (j : ℕ). level_told s.generals s.commander s.general M j) (sym size))))
+    let told : row ≡ level_told s.generals s.commander s.general M k = row-told s m ls M k row i f some short er in
+    ap (set ls (k - 1)) (en ∙ ap (λ ys. set ys r v) (told ∙ ap (λ (j : ℕ). level_told s.generals s.commander s.general M j) (sym size)))
     ∙ (ap (λ ys. set ys (k - 1) (set (level_told s.generals s.commander s.general M (1 + (k - 1))) r v)) f
     ∙ sym (levels-set s.generals s.commander s.general M w v r 1 (m + 1) (k - 1) (omega arith) (rw size at)
     (rw size (λ j e. proved_labels_differ s.generals s.commander s.general k j r w i.space.commander i.space.general i.space.lieutenant e at))
-    (rw size (λ j q e. only-long s i.space w k j q here e)))))
+    (rw size (λ j q e. only-long s i.space w k j q here e))))
 
 -- a label without a place changes nothing
-pub none-filled : (s : Space) (m : ℕ) (ls : List (Vec (Option ℕ) Global)) (M : Messages) (w : List ℕ) (v : Option ℕ) → IsFilledBySome s m ls → IsFilled (kept s m ls) M → ((r : ℕ) → length w ≤ m + 1 → HasRank s w r → ⊥) → IsFilled (kept s m ls) (told_also M w v)
+pub none-filled : (s : Space) (m : ℕ) (ls : List (List (Option ℕ))) (M : Messages) (w : List ℕ) (v : Option ℕ) → IsFilledBySome s m ls → IsFilled (kept s m ls) M → ((r : ℕ) → length w ≤ m + 1 → HasRank s w r → ⊥) → IsFilled (kept s m ls) (told_also M w v)
 none-filled s m ls M w v i f away =
     f ∙ sym (levels-away s.generals s.commander s.general M w v 1 (m + 1) (λ j q low high e.
     let long : length w ≡ j = (proved_labels_are_exact.only s.generals s.commander s.general j q w i.space.commander i.space.general i.space.lieutenant e).2 in
     away q (omega arith) (rw long e)))
 
 -- and the tree is whole again
-pub row-whole : (s : Space) (m : ℕ) (ls : List (Vec (Option ℕ) Global)) (k r : ℕ) (row : Vec (Option ℕ) Global) (xs : List (Option ℕ)) (v : Option ℕ) → IsFilledBySome s m ls → 0 < k → k ≤ m + 1 → row ≡ get_or ls (k - 1) row → xs ≡ row.items → r < length (labels_of s k) → IsFilledBySome s m (set ls (k - 1) (with_items row (set xs r v)))
-row-whole s m ls k r row xs v i some short er ex l =
+pub row-whole : (s : Space) (m : ℕ) (ls : List (List (Option ℕ))) (k r : ℕ) (row new : List (Option ℕ)) (v : Option ℕ) → IsFilledBySome s m ls → 0 < k → k ≤ m + 1 → row ≡ get_or ls (k - 1) row → new ≡ set row r v → r < length (labels_of s k) → IsFilledBySome s m (set ls (k - 1) new)
+row-whole s m ls k r row new v i some short er en l =
     record {
       space = i.space;
       small = i.small;
       M = told_also i.M (get_or (labels_of s k) r []) v;
-      filled = row-filled s m ls i.M (get_or (labels_of s k) r []) k r row xs v i i.filled some short er ex (slice_get-get_or (labels_of s k) r [] l);
+      filled = row-filled s m ls i.M (get_or (labels_of s k) r []) k r row new v i i.filled some short er en (slice_get-get_or (labels_of s k) r [] l);
     }

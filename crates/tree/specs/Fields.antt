@@ -1,23 +1,22 @@
 -- What a tree's fields keep.
-use Rattle.std.specs.Prelude.{ℕ, ◌<◌, List, map, Option, Vec}
-use Rattle.std.specs.declared.alloc.Global.{Global}
+use Rattle.std.specs.Prelude.{ℕ, ◌<◌, List, Option}
 use Rattle.label.specs.Oral.{Messages}
 use Rattle.label.specs.Space.{IsSpace}
 use Rattle.label.specs.declared.space.Space.{Space}
 use Rattle.tree.specs.LieutenantTree.{LieutenantTree, IsFilled}
 
 -- the fields as a contract sees them
-abbrev pub kept : Space → ℕ → List (Vec (Option ℕ) Global) → LieutenantTree
+abbrev pub kept : Space → ℕ → List (List (Option ℕ)) → LieutenantTree
 kept s m ls = record {
   generals = s.generals;
   bound = m;
   commander = s.commander;
   general = s.general;
-  levels = map (λ l. l.items) ls;
+  levels = ls;
 }
 
 -- a campaign, and some messages that fill it
-pub record IsFilledBySome (s : Space) (m : ℕ) (ls : List (Vec (Option ℕ) Global)) : Type 0 where
+pub record IsFilledBySome (s : Space) (m : ℕ) (ls : List (List (Option ℕ))) : Type 0 where
   pub space : IsSpace s
   pub small : m < 13
   pub M : Messages

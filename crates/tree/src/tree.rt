@@ -1,21 +1,22 @@
-ghost use Rattle.std.specs.Prelude.{◌≡◌, ◌<◌, ◌≤◌, ◌≢◌, ◌+◌, ℕ, List, Option, Some, None, IfOk, drop, length, slice_get, replicate};
+ghost use Rattle.std.specs.Prelude.{◌≡◌, ◌<◌, ◌≤◌, ◌≢◌, ◌+◌, ℕ, List, Option, Some, None, IfOk, drop, length, map, slice_get};
 ghost use Rattle.label.specs.Labels.{labels};
-ghost use Rattle.label.specs.Oral.{Messages};
-ghost use Rattle.tree.specs.LieutenantTree.{IsCampaign, AreAnswers, IsFilled, IsPlace, SameCampaign, level_told, level_of, run_written, silence, told_also, told_run, blank};
+ghost use Rattle.label.specs.Oral.{Messages, order_of};
+ghost use Rattle.tree.specs.LieutenantTree.{IsCampaign, AreAnswers, IsFilled, IsPlace, SameCampaign, level_told, level_of, silence, told_also, told_run, blank};
 
+use crate::level::Level;
 use label::{Label, Space, count, rank};
 use std::alloc::{AllocError, Global};
 use std::marker::Model;
 
 /// What one lieutenant was told, for each label that lacks him: an order, or nothing.
 ///
-/// The labels have 1 to `bound + 1` generals. The values of a length stand in one array, a label's at
-/// its rank. No call after `new` takes memory.
+/// The labels have 1 to `bound + 1` generals. The values of a length stand side by side, a label's
+/// at its rank. No call after `new` takes memory.
 #[derive(Drop)]
 pub struct Tree {
     space: Space,
     bound: u8,
-    levels: Vec<Vec<Option<u32>>>,
+    levels: Vec<Level>,
 }
 
 impl Model for Tree {
@@ -36,7 +37,7 @@ impl Tree {
     ///
     /// # Errors
     ///
-    /// No memory for one of its `bound + 2` arrays.
+    /// No memory for one of its arrays.
     pub fn new(
         alloc: Global,
         generals: u8,
@@ -60,7 +61,7 @@ impl Tree {
         };
         let mut levels = Vec::with_capacity(alloc, bound as usize + 1)?;
         for size in 0..bound + 1 {
-            levels.push(empty_level(alloc, count(space, size + 1))?)?;
+            levels.push(Level::new(alloc, count(space, size + 1))?)?;
         }
         Ok(Tree {
             space,
@@ -99,21 +100,23 @@ impl Tree {
             return None;
         }
         match rank(self.space, label) {
-            Ok(place) => self.levels[size - 1].as_slice()[place as usize],
+            Ok(place) => self.levels[size - 1].value(place as usize),
             Err(_) => None,
         }
     }
 
-    /// The values of the labels of this length, 1 to `bound + 1`, each at its label's rank.
-    pub fn level(&self, size: u8) -> &[Option<u32>]
+    /// The orders that were told of the labels of this length, 1 to `bound + 1`, each at its label's rank: RETREAT, which
+    /// is 0, where nothing was.
+    pub fn level(&self, size: u8) -> &[u32]
         requires some { 0 < size }
         requires short { size ≤ self.now.bound + 1 }
-        ensures value { result.now ≡ level_of self.now size }
+        ensures value { result.now ≡ map order_of (level_of self.now size) }
         ensures told { (M : Messages) → IsFilled self.now M →
-            result.now ≡ level_told self.now.generals self.now.commander self.now.general M size }
+            result.now
+            ≡ map order_of (level_told self.now.generals self.now.commander self.now.general M size) }
         ensures long { length result.now ≡ length (labels self.now.generals self.now.commander self.now.general size) }
     {
-        self.levels[(size - 1) as usize].as_slice()
+        self.levels[(size - 1) as usize].orders()
     }
 
     /// Fills in what came for a label, in place of what was there. A label that has no place in the
@@ -127,8 +130,7 @@ impl Tree {
             return;
         }
         if let Ok(place) = rank(self.space, label) {
-            let row = self.levels[size - 1].as_mut_slice();
-            row[place as usize] = value;
+            self.levels[size - 1].put(place as usize, value);
         }
     }
 
@@ -142,8 +144,7 @@ impl Tree {
             → IsFilled self.new (told_also M w value) }
         ensures same { SameCampaign self.old self.new }
     {
-        let row = self.levels[(size - 1) as usize].as_mut_slice();
-        row[rank as usize] = value;
+        self.levels[(size - 1) as usize].put(rank as usize, value);
     }
 
     /// Fills in what came for so many labels of this length, 1 to `bound + 1`, from this rank on: for each what `value`
@@ -165,12 +166,7 @@ impl Tree {
             (told_run M (drop first (labels self.old.generals self.old.commander self.old.general size)) values)) }
         ensures same { SameCampaign self.old self.new }
     {
-        write_run(
-            self.levels[(size - 1) as usize].as_mut_slice(),
-            first as usize,
-            count,
-            value,
-        );
+        self.levels[(size - 1) as usize].put_run(first as usize, count, value);
     }
 
     /// Takes back what was filled in for the labels of this length. Where it has no such labels,
@@ -182,39 +178,6 @@ impl Tree {
         if size == 0 || size as usize > self.levels.len() {
             return;
         }
-        erase(self.levels[(size - 1) as usize].as_mut_slice());
-    }
-}
-
-/// A level in which nothing is told.
-fn empty_level(alloc: Global, places: u32) -> Result<Vec<Option<u32>>, AllocError>
-    ensures { IfOk result (λ v. v.items ≡ replicate places None) }
-{
-    vec![in alloc; None; places as usize]
-}
-
-/// Nothing in every place.
-fn erase(row: &mut [Option<u32>])
-    ensures { row.new ≡ replicate (length row.old) None }
-{
-    for place in row.iter_mut() {
-        *place = None;
-    }
-}
-
-/// What `value` answers for each place of a run, from 0, at its place of the row, where the run begins at `first`.
-fn write_run<F: Fn(usize) -> Option<u32>>(
-    row: &mut [Option<u32>],
-    first: usize,
-    count: usize,
-    value: F,
-)
-    requires within { first + count ≤ length row.old }
-    requires callable { (place : ℕ) → place < count → F.pre value place }
-    ensures { (values : List (Option ℕ)) × AreAnswers (F.post value) count values
-        × (row.new ≡ run_written first values row.old) }
-{
-    for place in 0..count {
-        row[first + place] = value(place);
+        self.levels[(size - 1) as usize].clear();
     }
 }

@@ -84,7 +84,7 @@ fn blank(
     let context = zeros(alloc)?;
     let outbox = Outbox::new(alloc, scenario.shape(general, before + 1))?;
     let program = program.clone()?;
-    Ok(Running::start(program, context, scenario.patience(), outbox))
+    Running::start(alloc, program, context, scenario.patience(), outbox)
 }
 
 /// The bytes of a context that nothing is told in.

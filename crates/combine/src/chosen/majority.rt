@@ -1,6 +1,5 @@
-ghost use Rattle.std.specs.Prelude.{◌≡◌, ◌==◌, ◌<◌, ◌*◌, ℕ, count_by, find, length, map, ◌∷◌};
+ghost use Rattle.std.specs.Prelude.{◌≡◌, ◌==◌, ◌<◌, ◌*◌, ℕ, count_by, find, length, ◌∷◌};
 ghost use Rattle.combine.specs.Rule.{majority, is_most};
-ghost use Rattle.combine.specs.Orders.{order_or_retreat};
 ghost use Rattle.combine.specs.Laws.{majority_is_rule};
 
 use crate::orders::orders_of;
@@ -20,7 +19,7 @@ impl Combine for Majority {
 
     /// One's own order mostly wins, or where there are two the other one, and no list is made; else
     /// there is a vote.
-    fn combine_told(&self, told: &[Option<u32>], place: usize, own: u32) -> u32 {
+    fn combine_told(&self, told: &[u32], place: usize, own: u32) -> u32 {
         if is_in_most_told(told, own, own) {
             return own;
         }
@@ -77,20 +76,20 @@ fn is_in_most(orders: &[u32], order: u32) -> bool
 
 /// Where there are two different orders, one's own and another, the other one; where there are more,
 /// any number.
-fn other_of_two(told: &[Option<u32>], own: u32) -> u32 {
+fn other_of_two(told: &[u32], own: u32) -> u32 {
     let mut differences = 0;
     for x in told {
-        differences |= x.unwrap_or(0) ^ own;
+        differences |= *x ^ own;
     }
     own ^ differences
 }
 
 /// Whether the order stands in more than half of the places, one's own among them.
-fn is_in_most_told(told: &[Option<u32>], own: u32, order: u32) -> bool
+fn is_in_most_told(told: &[u32], own: u32, order: u32) -> bool
     requires few { length told.now < 13 }
-    ensures { result ≡ is_most (own ∷ map order_or_retreat told.now) order }
+    ensures { result ≡ is_most (own ∷ told.now) order }
 {
-    let count = count_told(told, order) + usize::from(own == order);
+    let count = count(told, order) + usize::from(own == order);
     count > told.len() + 1 - count
 }
 
@@ -101,17 +100,6 @@ fn count(orders: &[u32], order: u32) -> usize
     let mut count = 0;
     for x in orders {
         count += usize::from(*x == order);
-    }
-    count
-}
-
-/// In how many places the order was told.
-fn count_told(told: &[Option<u32>], order: u32) -> usize
-    ensures { result ≡ count_by (λ x. order_or_retreat x == order) told.now }
-{
-    let mut count = 0;
-    for x in told {
-        count += usize::from(x.unwrap_or(0) == order);
     }
     count
 }

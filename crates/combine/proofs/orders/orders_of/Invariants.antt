@@ -1,9 +1,8 @@
-use Rattle.std.proofs.Common.{◌≡◌, ◌++◌, ◌∷◌, take, map}
-use Rattle.combine.specs.Orders.{order_or_retreat}
+use Rattle.std.proofs.Common.{◌≡◌, ◌++◌, ◌∷◌, take}
 use Rattle.combine.proofs.orders.orders_of.Given as goal
 
 abbrev pub invariant-loop-x : goal.invariant-loop-x
-invariant-loop-x l = l.orders.items ≡ map order_or_retreat (take l.x-index l.x-items)
+invariant-loop-x l = l.orders.items ≡ take l.x-index l.x-items
 
 abbrev pub invariant-loop-y : goal.invariant-loop-y
-invariant-loop-y l = l.orders.items ≡ map order_or_retreat (take l.place l.told) ++ l.own ∷ map order_or_retreat (take l.y-index l.y-items)
+invariant-loop-y l = l.orders.items ≡ take l.place l.told ++ l.own ∷ take l.y-index l.y-items

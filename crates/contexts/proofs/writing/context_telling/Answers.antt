@@ -6,5 +6,5 @@ use Rattle.contexts.proofs.writing.context_telling.Goals as goal
 
 pub returns : goal.returns
 returns c =
-    context_done c.args.header.now c.args.header.now c.args.numbers.now c.in_ok-bytes.bytes.items c.spell.new.bytes.items c.spell_all.new.bytes.items c.resize.new.self.items (vec_len c.spell_all.new.bytes)
-    (let a = c.told-header in let b = c.fits-header in omega arith) c.requires.few refl c.in_ok-bytes.ensures.items c.spell.ensures.bytes c.spell_all.ensures.bytes (let o = c.spell_all.new.bytes.ok in omega arith) c.in-Ok.ensures.items
+    context_done c.args.header.now c.args.header.now c.args.numbers.now c.in_ok-bytes.bytes.items c.spell.new.bytes.items c.spell-2.new.bytes.items c.resize.new.self.items (vec_len c.spell-2.new.bytes)
+    (let a = c.told-header in let b = c.fits-header in omega arith) c.requires.few refl c.in_ok-bytes.ensures.items c.spell.ensures.bytes c.spell-2.ensures.bytes (let o = c.spell-2.new.bytes.ok in omega arith) c.in-Ok.ensures.items

@@ -1,10 +1,11 @@
-use Rattle.std.proofs.Common.{◌<◌, ◌≡◌, ◌∙◌, ◌∷◌, ◌++◌, [], None, ap, arith, get_or, length, lit<, map, refl, sym}
+use Rattle.std.proofs.Common.{◌<◌, ◌≡◌, ◌∙◌, ◌∷◌, ◌++◌, [], ap, arith, get_or, length, ℕ, lit<, map, refl, sym}
 use Rattle.label.specs.Labels.{others}
+use Rattle.label.specs.Oral.{order_of}
 use Rattle.book.specs.Explained.{element}
 use Rattle.book.specs.Table.{told}
 use Rattle.book.proofs.Gathering.{few_others, map_no, off_first, on_behind, on_first}
 use Rattle.book.proofs.ListLemmas.{held_last, other_more, own_more, place_off}
-use Rattle.drawing.proofs.ChildLemmas.{child_read, child_within, no_more, one_more}
+use Rattle.drawing.proofs.ChildLemmas.{child_read, child_within, no_more, one_more, order_is}
 use Rattle.drawing.proofs.children.last_orders.Goals as goal
 use Rattle.drawing.proofs.children.last_orders.Goals.{then-other-general, else-other-general+then-not-has, else-other-general+else-not-has}
 
@@ -30,14 +31,14 @@ push-requires-then-not-has g c =
 
 pub bounds-told-next : goal.bounds-told-next
 bounds-told-next g c =
-    child_within (λ j. told (g.H.Heard.seen c.args.table.now).messages (c.args.label.now ++ j ∷ []) c.args.general) (g.H.Heard.seen c.args.table.now).generals c.loop-other.other c.loop-other.next
+    child_within (λ j. order_of (told (g.H.Heard.seen c.args.table.now).messages (c.args.label.now ++ j ∷ []) c.args.general)) (g.H.Heard.seen c.args.table.now).generals c.loop-other.other c.loop-other.next
     (c.args.general ∷ c.args.label.now) c.told_children-told.result.now c.told_children-told.ensures (let value = c.generals-other-end.ensures.value in let below = c.loop-other-test.true in omega arith)
     (off_first c.args.general c.loop-other.other c.args.label.now c.if-other-general.false (sym c.has.ensures ∙ c.if-not-has.true)) c.loop-other.invariant.1
 
 pub offset_bounds-told-next : goal.offset_bounds-told-next
 offset_bounds-told-next g c =
     let within : c.loop-other.next < length c.told_children-told.result.now =
-    child_within (λ j. told (g.H.Heard.seen c.args.table.now).messages (c.args.label.now ++ j ∷ []) c.args.general) (g.H.Heard.seen c.args.table.now).generals c.loop-other.other c.loop-other.next
+    child_within (λ j. order_of (told (g.H.Heard.seen c.args.table.now).messages (c.args.label.now ++ j ∷ []) c.args.general)) (g.H.Heard.seen c.args.table.now).generals c.loop-other.other c.loop-other.next
     (c.args.general ∷ c.args.label.now) c.told_children-told.result.now c.told_children-told.ensures (let value = c.generals-other-end.ensures.value in let below = c.loop-other-test.true in omega arith)
     (off_first c.args.general c.loop-other.other c.args.label.now c.if-other-general.false (sym c.has.ensures ∙ c.if-not-has.true)) c.loop-other.invariant.1
     in
@@ -47,7 +48,7 @@ offset_bounds-told-next g c =
 pub overflow_add-next : goal.overflow_add-next
 overflow_add-next g c =
     let within : c.loop-other.next < length c.told_children-told.result.now =
-    child_within (λ j. told (g.H.Heard.seen c.args.table.now).messages (c.args.label.now ++ j ∷ []) c.args.general) (g.H.Heard.seen c.args.table.now).generals c.loop-other.other c.loop-other.next
+    child_within (λ j. order_of (told (g.H.Heard.seen c.args.table.now).messages (c.args.label.now ++ j ∷ []) c.args.general)) (g.H.Heard.seen c.args.table.now).generals c.loop-other.other c.loop-other.next
     (c.args.general ∷ c.args.label.now) c.told_children-told.result.now c.told_children-told.ensures (let value = c.generals-other-end.ensures.value in let below = c.loop-other-test.true in omega arith)
     (off_first c.args.general c.loop-other.other c.args.label.now c.if-other-general.false (sym c.has.ensures ∙ c.if-not-has.true)) c.loop-other.invariant.1
     in
@@ -70,11 +71,12 @@ loop-other-preserved g c =
       | else-other-general+then-not-has v ↦ (
           let here = sym v.has.ensures ∙ v.if-not-has.true in
           let free = off_first p other w v.if-other-general.false here in
-          let read : get_or c.told_children-told.result.now c.loop-other.next None ≡ told t.messages (w ++ other ∷ []) p =
-          child_read (λ j. told t.messages (w ++ j ∷ []) p) t.generals other c.loop-other.next (p ∷ w) c.told_children-told.result.now None c.told_children-told.ensures below free c.loop-other.invariant.1
+          let read : get_or c.told_children-told.result.now c.loop-other.next 0 ≡ order_of (told t.messages (w ++ other ∷ []) p) =
+          child_read (λ j. order_of (told t.messages (w ++ j ∷ []) p)) t.generals other c.loop-other.next (p ∷ w) c.told_children-told.result.now 0 c.told_children-told.ensures below free c.loop-other.invariant.1
           in (
-            rw (v.orders-is, v.push-then-not-has.ensures.items, c.loop-other.invariant.0, v.unwrap_or-then-not-has.ensures)
-                (other_more t 0 w p other (get_or c.told_children-told.result.now c.loop-other.next None) v.if-other-general.false here (read ∙ held_last t 0 (w ++ other ∷ []) p refl)),
+            rw (v.orders-is, v.push-then-not-has.ensures.items, c.loop-other.invariant.0)
+                (ap (λ (x : ℕ). map (element t 0 w p) (others other w) ++ x ∷ []) (read ∙ order_is (told t.messages (w ++ other ∷ []) p))
+                ∙ other_more t 0 w p other (told t.messages (w ++ other ∷ []) p) v.if-other-general.false here (held_last t 0 (w ++ other ∷ []) p refl)),
             v.next-is ∙ one_more (p ∷ w) other c.loop-other.next free c.loop-other.invariant.1,
           )
           )

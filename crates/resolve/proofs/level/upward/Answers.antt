@@ -1,10 +1,10 @@
-use Rattle.std.proofs.Common.{◌≡◌, ◌<◌, ◌≤◌, ◌+◌, ◌-◌, ◌*◌, length, ap, ◌∙◌, arith, lit<, None}
-use Rattle.std.specs.Prelude.{slice_index_or, insert}
+use Rattle.std.proofs.Common.{◌≡◌, ◌<◌, ◌≤◌, ◌+◌, ◌-◌, ◌*◌, length, ap, ◌∙◌, arith, lit<, get_or}
+use Rattle.std.specs.Prelude.{insert}
 use Rattle.std.proofs.lemmas.List.{take_all}
-use Rattle.label.specs.Oral.{order_of}
 use Rattle.label.specs.Labels.{labels}
 use Rattle.resolve.specs.Upward.{lower_off_at}
 use Rattle.label.proofs.Parts.{part-within, part-long}
+use Rattle.resolve.proofs.Steps.{order-read}
 use Rattle.resolve.proofs.Places.{place-few}
 use Rattle.resolve.proofs.Rising.{upward-is, ap-short}
 use Rattle.resolve.proofs.level.upward.Goals as goal
@@ -54,6 +54,6 @@ returns g c =
     let s = c.saturating_sub.ensures in
     let e = c.from-width.ensures in
     let whole : c.loop-x.orders.items ≡ c.children-children.result.now = c.loop-x.invariant ∙ take_all c.loop-x.x-index c.children-children.result.now (let h = c.loop-x-test.false in omega arith) in
-    c.combine.ensures ∙ upward-is (g.C.Combine.combined c.args.rule.now) c.args.tree.now c.args.below.now c.args.size c.args.rank c.from-width.result c.from-lower_off.result c.order_at-own.result c.children-children.result.now c.as_slice.result.now (omega arith) c.children-children.ensures (c.from-lower_off.ensures ∙ c.lower_off.ensures)
-    (c.order_at-own.ensures ∙ ap (λ xs. order_of (slice_index_or xs c.args.rank None)) c.level.ensures.value)
-    (c.as_slice.ensures.value ∙ (c.insert.ensures.items ∙ ap (λ xs. insert xs c.from-lower_off.result c.order_at-own.result) whole))
+    c.combine.ensures ∙ upward-is (g.C.Combine.combined c.args.rule.now) c.args.tree.now c.args.below.now c.args.size c.args.rank c.from-width.result c.from-lower_off.result (get_or c.level.result.now c.args.rank 0) c.children-children.result.now c.as_slice.result.now (omega arith) c.children-children.ensures (c.from-lower_off.ensures ∙ c.lower_off.ensures)
+    (order-read c.args.tree.now c.args.size c.args.rank c.level.result.now c.level.ensures.value)
+    (c.as_slice.ensures.value ∙ (c.insert.ensures.items ∙ ap (λ xs. insert xs c.from-lower_off.result (get_or c.level.result.now c.args.rank 0)) whole))

@@ -17,7 +17,7 @@ loop-running-init g c =
     let relay : c.in_ok-new.field-0.relay ≡ relay_told c.args.general c.args.round context =
     c.in_ok-new.ensures.relay
     ∙ ap oral (c.shape_told-shape.ensures ∙ ap (λ (l : List ℕ). shape_told c.args.general c.args.round l) c.as_slice.ensures.value) in
-    let begun = c.start-running.ensures ∙ ap (λ (s : Relay). started c.args.patience (arc_value c.args.program) context s) relay in
+    let begun = c.in_ok-running.ensures ∙ ap (λ (s : Relay). started c.args.patience (arc_value c.args.program) context s) relay in
     let start = started c.args.patience (arc_value c.args.program) context (relay_told c.args.general c.args.round context) in
     let served = g.S.Server.served c.args.server.now in
     subst (λ (a : Activation). IsWayServed c.args.general c.args.round start a served c.new-transcript.result.items served) (sym begun)
@@ -54,3 +54,8 @@ pub returns-in_err-new-clause-given_up : goal.returns-in_err-new-clause-given_up
 returns-in_err-new-clause-given_up g c =
     let start = started c.args.patience (arc_value c.args.program) c.args.context.items (relay_told c.args.general c.args.round c.args.context.items) in
     any_error c.from_residual.result _ (start, [], served_first c.args.general c.args.round start [] (g.S.Server.served c.args.server.now) refl)
+
+pub returns-in_err-running-clause-given_up : goal.returns-in_err-running-clause-given_up
+returns-in_err-running-clause-given_up g c =
+    let start = started c.args.patience (arc_value c.args.program) c.args.context.items (relay_told c.args.general c.args.round c.args.context.items) in
+    any_error c.from_residual-in_err-running.result _ (start, [], served_first c.args.general c.args.round start [] (g.S.Server.served c.args.server.now) refl)

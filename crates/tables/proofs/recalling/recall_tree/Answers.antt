@@ -1,6 +1,11 @@
-use Rattle.std.proofs.Common.{arith}
-use Rattle.tables.proofs.Hearing.{levels_small}
+use Rattle.std.proofs.Common.{◌+◌, arith}
+use Rattle.tree.specs.LieutenantTree.{level_of}
+use Rattle.tables.proofs.Hearing.{levels_small, one_more_small, small_level}
 use Rattle.tables.proofs.recalling.recall_tree.Goals as goal
+
+pub loop-size-preserved : goal.loop-size-preserved
+loop-size-preserved c =
+    one_more_small c.args.tree.now c.loop-size.size c.loop-size.invariant (small_level (level_of c.args.tree.now (c.loop-size.size + 1)) c.level.result.now c.level.ensures.value c.recall_level.ensures)
 
 pub returns : goal.returns
 returns c =

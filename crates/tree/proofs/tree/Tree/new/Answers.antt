@@ -6,7 +6,7 @@ pub loop-size-init : goal.loop-size-init
 loop-size-init c = levels-none c.args.generals c.args.commander c.args.general _ c.in_ok-levels.levels.items c.in_ok-levels.ensures.items
 
 pub loop-size-preserved : goal.loop-size-preserved
-loop-size-preserved c = one-more c.args.generals c.args.commander c.args.general c.loop-size.levels.items c.push.new.self.items c.loop-size.size c.count.result c.in_ok-empty_level.field-0 c.loop-size.invariant c.in_ok-push.ensures.items c.in_ok-empty_level.ensures c.count.ensures
+loop-size-preserved c = one-more c.args.generals c.args.commander c.args.general c.loop-size.levels.items c.push.new.self.items c.loop-size.size c.count.result c.in_ok-new.field-0 c.loop-size.invariant c.in_ok-push.ensures.items c.in_ok-new.ensures c.count.ensures
 
 pub invariant_of-result : goal.invariant_of-result
 invariant_of-result c =

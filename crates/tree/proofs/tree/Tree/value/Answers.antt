@@ -11,15 +11,15 @@ returns-then-size-len-clause-told c =
     let size = c.len-size.ensures.value in
     absurd (let h = c.if-size-len.true in omega arith))
 
-pub bounds-as_slice-place : goal.bounds-as_slice-place
-bounds-as_slice-place c =
+pub value-requires : goal.value-requires
+value-requires c =
     let there : length c.self.inside.levels.items ≡ c.self.inside.bound + 1 = levels-there c.self.invariant in
-    rw c.as_slice.ensures.value (row-within c.self.inside.space c.self.inside.bound c.self.inside.levels.items c.args.label.now c.len-size.result c.in-Ok.place c.index.result.now c.self.invariant c.len-size.ensures.value c.len-size.ensures.some (let h = c.if-size-len.false in omega arith) c.index.ensures c.in-Ok.ensures.ok)
+    row-within c.self.inside.space c.self.inside.bound c.self.inside.levels.items c.args.label.now c.len-size.result c.in-Ok.place c.index.result.now c.self.invariant c.len-size.ensures.value c.len-size.ensures.some (let h = c.if-size-len.false in omega arith) c.index.ensures c.in-Ok.ensures.ok
 
 pub returns-in-Ok-clause-told : goal.returns-in-Ok-clause-told
 returns-in-Ok-clause-told c =
     let there : length c.self.inside.levels.items ≡ c.self.inside.bound + 1 = levels-there c.self.invariant in
-    rw (← c.self.view_is, c.as_slice.ensures.value) (λ M f p. row-read c.self.inside.space c.self.inside.bound c.self.inside.levels.items M c.args.label.now c.len-size.result c.in-Ok.place c.index.result.now c.self.invariant f c.len-size.ensures.value c.len-size.ensures.some (let h = c.if-size-len.false in omega arith) c.index.ensures c.in-Ok.ensures.ok)
+    rw (← c.self.view_is) (λ M f p. row-read c.self.inside.space c.self.inside.bound c.self.inside.levels.items M c.args.label.now c.len-size.result c.in-Ok.place c.index.result.now c.value.result c.self.invariant f c.len-size.ensures.value c.len-size.ensures.some (let h = c.if-size-len.false in omega arith) c.index.ensures c.in-Ok.ensures.ok c.value.ensures)
 
 pub returns-in-Ok-clause-strange : goal.returns-in-Ok-clause-strange
 returns-in-Ok-clause-strange c =

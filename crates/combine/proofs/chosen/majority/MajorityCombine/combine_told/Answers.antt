@@ -1,14 +1,13 @@
 use Rattle.std.proofs.Common.{sym, ◌∙◌}
-use Rattle.std.specs.Prelude.{map}
-use Rattle.combine.specs.Orders.{order_or_retreat, with_own}
+use Rattle.std.specs.Prelude.{insert}
 use Rattle.combine.proofs.Most.{most_is_majority}
 use Rattle.combine.proofs.Joining.{most_anywhere}
 use Rattle.combine.proofs.chosen.majority.MajorityCombine.combine_told.Goals as goal
 
 pub returns-then-is_in_most_told : goal.returns-then-is_in_most_told
 returns-then-is_in_most_told c =
-    most_is_majority (with_own c.args.told.now c.args.place c.args.own) c.args.own (most_anywhere (map order_or_retreat c.args.told.now) c.args.place c.args.own c.args.own ∙ (sym c.is_in_most_told.ensures ∙ c.if-is_in_most_told.true))
+    most_is_majority (insert c.args.told.now c.args.place c.args.own) c.args.own (most_anywhere c.args.told.now c.args.place c.args.own c.args.own ∙ (sym c.is_in_most_told.ensures ∙ c.if-is_in_most_told.true))
 
 pub returns-then-is_in_most_told-2 : goal.returns-then-is_in_most_told-2
 returns-then-is_in_most_told-2 c =
-    most_is_majority (with_own c.args.told.now c.args.place c.args.own) c.other_of_two-other.result (most_anywhere (map order_or_retreat c.args.told.now) c.args.place c.args.own c.other_of_two-other.result ∙ (sym c.is_in_most_told-2.ensures ∙ c.if-is_in_most_told-2.true))
+    most_is_majority (insert c.args.told.now c.args.place c.args.own) c.other_of_two-other.result (most_anywhere c.args.told.now c.args.place c.args.own c.other_of_two-other.result ∙ (sym c.is_in_most_told-2.ensures ∙ c.if-is_in_most_told-2.true))
