@@ -1,11 +1,12 @@
 //! The campaigns and schedules that files tell.
-ghost use Rattle.std.specs.Prelude.{◌≡◌, ◌<◌, ℕ, List, length, IfOk, IfErr, Ok, Some, string_bytes};
+ghost use Rattle.std.specs.Prelude.{◌≡◌, ◌≢◌, ◌<◌, ℕ, List, length, IfOk, IfErr, Ok, Some, string_bytes};
+ghost use Rattle.std.specs.Str.{IsUtf8};
 ghost use Rattle.scenario.specs.Reading.{Tells, TellsAny};
 ghost use Rattle.trace.specs.Schedules.{schedule_told};
 ghost use Rattle.inputs.specs.Schedules.{TellsCampaign, is_chronicle};
 ghost use Rattle.streams.specs.Reading.{IsFront, MayBeginText};
 ghost use Rattle.inputs.specs.Refusals.{RefusesAsked, RefusesCampaign, RefusesScenario, RefusesSchedule, RefusesText};
-ghost use Rattle.inputs.specs.declared.refusal.Refusal.TheVariants.{NotText, Trace};
+ghost use Rattle.inputs.specs.declared.refusal.Refusal.TheVariants.{Memory, NotText, Trace};
 ghost use Rattle.trace.specs.declared.fault.Fault.TheVariants.{Line};
 ghost use Rattle.trace.specs.declared.fault.TraceError.TheVariants.{At};
 
@@ -27,6 +28,7 @@ use world::Schedule;
 pub fn any_campaign(alloc: Global, bytes: &[u8]) -> Result<Campaign, Refusal>
     ensures told { IfOk result (TellsAny bytes.now) }
     ensures refused { IfErr result (RefusesText RefusesCampaign bytes.now) }
+    ensures none { IfErr result (λ refusal. (IsUtf8 bytes.now → ⊥) → refusal ≡ NotText) }
 {
     Ok(scenario::read_any(alloc, as_text(bytes)?)?)
 }
@@ -39,6 +41,7 @@ pub fn any_campaign(alloc: Global, bytes: &[u8]) -> Result<Campaign, Refusal>
 pub fn campaign(alloc: Global, bytes: &[u8]) -> Result<Scenario, Refusal>
     ensures told { IfOk result (Tells bytes.now) }
     ensures refused { IfErr result (RefusesText RefusesScenario bytes.now) }
+    ensures none { IfErr result (λ refusal. (IsUtf8 bytes.now → ⊥) → refusal ≡ NotText) }
 {
     Ok(scenario::read(alloc, as_text(bytes)?)?)
 }
@@ -52,6 +55,7 @@ pub fn campaign(alloc: Global, bytes: &[u8]) -> Result<Scenario, Refusal>
 pub fn asked_campaign(alloc: Global, bytes: &[u8], account: Account) -> Result<Campaign, Refusal>
     ensures told { IfOk result (TellsCampaign (is_chronicle account) bytes.now) }
     ensures refused { IfErr result (RefusesText (RefusesAsked (is_chronicle account)) bytes.now) }
+    ensures none { IfErr result (λ refusal. (IsUtf8 bytes.now → ⊥) → refusal ≡ NotText) }
 {
     match account {
         Account::Chronicle => any_campaign(alloc, bytes),
@@ -67,6 +71,7 @@ pub fn asked_campaign(alloc: Global, bytes: &[u8], account: Account) -> Result<C
 pub fn schedule(alloc: Global, bytes: &[u8]) -> Result<Schedule, Refusal>
     ensures told { IfOk result (λ schedule. schedule_told bytes.now ≡ Ok schedule) }
     ensures refused { IfErr result (RefusesText RefusesSchedule bytes.now) }
+    ensures none { IfErr result (λ refusal. (IsUtf8 bytes.now → ⊥) → refusal ≡ NotText) }
 {
     Ok(read_schedule(alloc, as_text(bytes)?)?)
 }
@@ -82,6 +87,7 @@ pub fn schedule_of(alloc: Global, front: &[u8]) -> Result<Schedule, Refusal>
         schedule_told all ≡ Ok schedule) }
     ensures refused { IfErr result (λ refusal. (all : List ℕ) → IsFront 1048576 (Some all) front.now →
         RefusesText RefusesSchedule all refusal) }
+    ensures long { 1048576 < length front.now → IfErr result (λ refusal. refusal ≢ Memory) }
 {
     if front.len() <= MOST_SCHEDULE_BYTES {
         return schedule(alloc, front);
@@ -92,6 +98,7 @@ pub fn schedule_of(alloc: Global, front: &[u8]) -> Result<Schedule, Refusal>
 /// Why there is no schedule in a file that begins with these bytes, which are more than a schedule has.
 fn too_long(front: &[u8]) -> Refusal
     requires { 1048576 < length front.now }
+    ensures told { result ≢ Memory }
     ensures text { MayBeginText front.now → result ≡ Trace (At Line 1) }
     ensures no_text { (MayBeginText front.now → ⊥) → result ≡ NotText }
     ensures refused { (all : List ℕ) → IsFront 1048576 (Some all) front.now → RefusesText RefusesSchedule all result }
@@ -110,6 +117,7 @@ fn too_long(front: &[u8]) -> Refusal
 pub fn campaign_with_text(alloc: Global, bytes: &[u8]) -> Result<(Campaign, String), Refusal>
     ensures told { IfOk result (λ both. TellsAny bytes.now both.0 × (string_bytes both.1 ≡ bytes.now)) }
     ensures refused { IfErr result (RefusesText RefusesCampaign bytes.now) }
+    ensures none { IfErr result (λ refusal. (IsUtf8 bytes.now → ⊥) → refusal ≡ NotText) }
 {
     let campaign = any_campaign(alloc, bytes)?;
     let text = String::from_str(alloc, as_text(bytes)?)?;

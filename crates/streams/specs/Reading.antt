@@ -14,6 +14,11 @@ IsWithin most known (Whole bytes) = (length bytes.items ≤ most) × AreBytes kn
 IsWithin most known (Longer front number) =
     (most < number) × IfSome known (λ all. (length all ≡ number) × (take most front.items ≡ take most all))
 
+-- of the bytes, be they all or the first, no more than so many are kept
+abbrev pub HasAtMost : ℕ → Within → Type 0
+HasAtMost most (Whole bytes) = length bytes.items ≤ most
+HasAtMost most (Longer front number) = length front.items ≤ most
+
 -- all bytes, where they are at most so many, else some with which they begin
 pub record BeginsSo (most : ℕ) (all front : List ℕ) : Type 0 where
   pub rest : List ℕ

@@ -1,5 +1,5 @@
 //! Reading in pieces, no further than is asked for.
-ghost use Rattle.std.specs.Prelude.{◌≡◌, ◌≢◌, ◌≤◌, IfOk, IfErr, take, vec_len};
+ghost use Rattle.std.specs.Prelude.{◌≡◌, ◌≢◌, ◌≤◌, ◌+◌, IfOk, IfErr, take, vec_len};
 ghost use Rattle.std.specs.Io.KnownBytes.{Consumes, IsAtEnd};
 ghost use Rattle.std.specs.IoError.{error_kind};
 
@@ -28,7 +28,8 @@ fn read_piece<R: Read>(reader: &mut R, piece: &mut [u8; PIECE]) -> io::Result<us
     Err(io::Error::from(ErrorKind::Other))
 }
 
-/// Reads to the end, or until there are more than so many bytes: then nothing is read on.
+/// Reads to the end, or until there are more than so many bytes: then nothing is read on, and there are one piece more
+/// at most.
 ///
 /// # Errors
 ///
@@ -37,6 +38,7 @@ fn read_piece<R: Read>(reader: &mut R, piece: &mut [u8; PIECE]) -> io::Result<us
 pub(crate) fn read_front<R: Read>(reader: &mut R, alloc: Global, most: usize) -> io::Result<Vec<u8>>
     ensures bytes { IfOk result (λ front. Consumes (R.remaining reader.old) (R.remaining reader.new) front.items) }
     ensures end { IfOk result (λ front. vec_len front ≤ most → IsAtEnd (R.remaining reader.new)) }
+    ensures few { IfOk result (λ front. vec_len front ≤ most + 8192) }
 {
     let mut front = Vec::new(alloc);
     let mut piece = [0; PIECE];

@@ -8,8 +8,8 @@ use std::io::{self, ErrorKind, Read};
 
 /// A file to read.
 pub trait Source: Drop {
-    ghost use Rattle.std.specs.Prelude.{◌≡◌, ℕ, List, Option, IfOk, IfSome, OnErr};
-    ghost use Rattle.streams.specs.Reading.{IsFront, IsWithin};
+    ghost use Rattle.std.specs.Prelude.{◌≡◌, ◌≤◌, ◌+◌, ℕ, List, Option, IfOk, IfSome, OnErr, length};
+    ghost use Rattle.streams.specs.Reading.{HasAtMost, IsFront, IsWithin};
 
     // The bytes, where they are known.
     ghost bytes: { Self → Option (List ℕ) };
@@ -27,23 +27,25 @@ pub trait Source: Drop {
         ensures failed { OnErr result (fails self) };
 
     /// All bytes where there are at most so many. Where there are more, they are counted to their end, and the first
-    /// alone are kept.
+    /// alone are kept: those, and 8,192 more at most.
     ///
     /// # Errors
     ///
     /// A read that failed, or want of memory.
     fn read_within(self, alloc: Global, most: usize) -> io::Result<Within>
         ensures within { IfOk result (IsWithin most (bytes self)) }
+        ensures few { IfOk result (HasAtMost (most + 8192)) }
         ensures failed { OnErr result (fails self) };
 
-    /// All bytes where there are at most so many. Where there are more, a beginning that is longer than that; what is
-    /// behind it is not read.
+    /// All bytes where there are at most so many. Where there are more, a beginning that is longer than that, by 8,192
+    /// bytes at most.
     ///
     /// # Errors
     ///
     /// A read that failed, or want of memory.
     fn read_front(self, alloc: Global, most: usize) -> io::Result<Vec<u8>>
         ensures front { IfOk result (λ front. IsFront most (bytes self) front.items) }
+        ensures few { IfOk result (λ front. length front.items ≤ most + 8192) }
         ensures failed { OnErr result (fails self) };
 }
 
