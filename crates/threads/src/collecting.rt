@@ -1,9 +1,10 @@
 //! The letters of a campaign whose generals stay in their threads for all rounds.
-ghost use Rattle.std.specs.Prelude.{◌≡◌, ℕ, ◌<◌, ◌≤◌, [], suc, length, slice_index_or, vec_capacity, None, All, IsPermutation, IfOk};
+ghost use Rattle.std.specs.Prelude.{◌≡◌, ℕ, ◌<◌, ◌≤◌, [], suc, length, slice_index_or, vec_capacity, None, All, IsPermutation, IfOk, IfSome, Err};
 ghost use Rattle.delivery.specs.Told.{WasTold};
 ghost use Rattle.post.specs.Seen.{PosterSeen, poster_seen};
 ghost use Rattle.threads.specs.Answers.{AreAscending};
 ghost use Rattle.threads.specs.Inboxes.{AreOwn};
+ghost use Rattle.threads.specs.declared.halt.Halt.TheVariants.{Unstarted};
 
 use crate::answers::{Refused, kept};
 use crate::camp::{Camp, Home};
@@ -155,6 +156,7 @@ fn finish<R: Threads + Wait, G, J: Room>(
     requires fresh { answers.items ≡ [] }
     requires room { length handles.items ≤ vec_capacity answers }
     ensures refused { result.refused ≡ refused }
+    ensures unstarted { IfSome refused (λ r. result.outcome ≡ Err (Unstarted r)) }
     ensures all { length result.answers.items ≡ length handles.items }
     ensures ascending { AreAscending result.answers.items }
     ensures rounds { IfOk result.outcome (λ r. length r.0.items ≡ suc scenario.now.bound) }
@@ -179,6 +181,7 @@ fn conducted<R: Wait, G, J: Room>(
     requires inboxes { scenario.now.generals ≤ length camp.now.inboxes.items }
     requires own { AreOwn camp.now.inboxes.items }
     requires tally { scenario.now.generals ≤ camp.now.tally.generals }
+    ensures unstarted { IfSome refused (λ r. result ≡ Err (Unstarted r)) }
     ensures rounds { IfOk result (λ r. length r.0.items ≡ suc scenario.now.bound) }
     ensures told { IfOk result (λ r. WasTold scenario.now r.0.items r.1) }
 {
