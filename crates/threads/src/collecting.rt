@@ -10,10 +10,10 @@ use crate::answers::{Refused, kept};
 use crate::camp::{Camp, Home};
 use crate::conducting::conduct;
 use crate::ending::Ending;
-use crate::error::MusterError;
 use crate::gate::Gate;
 use crate::halt::Halt;
 use crate::resident::Answer;
+use crate::uncollected::Uncollected;
 use delivery::Told;
 use letter::Round;
 use post::{Collector, Poster};
@@ -29,8 +29,8 @@ use std::thread::{JoinHandle, Threads};
 ///
 /// # Errors
 ///
-/// `Spawn` where a thread could not be started; else the error of the lowest general who failed, if one has; else
-/// `Memory` where memory is refused, and `Unaccounted` where letters are not of their round.
+/// `Unstarted` where a thread could not be started; else `Failed` by what the lowest general has failed who has; else
+/// `Halted` where the rounds were not all conducted; `Memory` where memory is refused before a thread is started.
 pub(crate) fn collect<R: Threads + Wait + Sync, G: Gate + Sync, J: Room + Send + Sync>(
     rt: &R,
     alloc: Global,
@@ -39,7 +39,7 @@ pub(crate) fn collect<R: Threads + Wait + Sync, G: Gate + Sync, J: Room + Send +
     board: &SharedBoard<J>,
     witnesses: Vec<Witness<J>>,
     stack: usize,
-) -> Result<(Vec<Round>, Told), MusterError>
+) -> Result<(Vec<Round>, Told), Uncollected>
     requires many { scenario.now.generals ≤ length witnesses.items }
     requires unserved { All (λ w. w.made ≡ 0) witnesses.items }
     ensures rounds { IfOk result (λ r. length r.0.items ≡ suc scenario.now.bound) }
