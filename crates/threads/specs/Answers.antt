@@ -10,6 +10,11 @@ use Rattle.threads.specs.declared.halt.Halt.{Halt}
 use Rattle.threads.specs.declared.halt.Halt.TheVariants.{Memory as RefusedToAll, Unstarted, Failed, Strayed}
 use Rattle.threads.specs.declared.resident.Answer.{Answer}
 use Rattle.threads.specs.declared.tally.Reported.{Reported}
+use Rattle.threads.specs.declared.uncollected.Uncollected.{Uncollected}
+use Rattle.threads.specs.declared.uncollected.Uncollected.TheVariants.{Memory as RefusedToThem, Unstarted as NotStarted, Failed as OneFailed, Halted}
+use Rattle.threads.specs.declared.mishap.Mishap.{Mishap}
+use Rattle.threads.specs.declared.mishap.Mishap.TheVariants.{Memory as RefusedAnywhere, Uncollected as NotAll, Unlike}
+use Rattle.board.specs.Ledger.{RecordedBoard}
 
 -- what the failure of a general is told as
 abbrev pub failure_as : Failure → MusterError
@@ -37,28 +42,45 @@ HasStrayedIn round (Unstarted refused) = Unit {0}
 HasStrayedIn round (Failed someone) = Unit {0}
 HasStrayedIn round (Strayed letters) = letters.round ≡ round
 
-abbrev pub outcome_as : {T : Type 0} → Result T Halt → Result T MusterError
-outcome_as (Ok well) = Ok well
-outcome_as (Err halt) = Err (halt_as halt)
+-- what it is told as that the letters were not all collected, and that there is no chronicle
+abbrev pub uncollected_as : Uncollected → MusterError
+uncollected_as RefusedToThem = Memory
+uncollected_as (NotStarted refused) = refused.error
+uncollected_as (OneFailed reported) = failure_as reported.failed.failure
+uncollected_as (Halted halt) = halt_as halt
 
-abbrev pub error_of : {T : Type 0} → Result T Reported → Option MusterError
+abbrev pub mishap_as : Mishap → MusterError
+mishap_as RefusedAnywhere = Memory
+mishap_as (NotAll uncollected) = uncollected_as uncollected
+mishap_as (Unlike found) = Unaccounted
+
+-- if a board does not account for the letters, it is such a one
+abbrev pub IfUnlike : Mishap → (RecordedBoard → Type 0) → Type 0
+IfUnlike RefusedAnywhere Is = Unit {0}
+IfUnlike (NotAll uncollected) Is = Unit {0}
+IfUnlike (Unlike found) Is = Is found.board.value
+
+abbrev pub outcome_as : {T : Type 0} → Result T Halt → Result T Uncollected
+outcome_as (Ok well) = Ok well
+outcome_as (Err halt) = Err (Halted halt)
+
+abbrev pub error_of : {T : Type 0} → Result T Reported → Option Uncollected
 error_of (Ok well) = None
-error_of (Err reported) = Some (failure_as reported.failed.failure)
+error_of (Err reported) = Some (OneFailed reported)
 
 -- by what a general has failed, if he has
-abbrev pub failure_of : Answer → Option MusterError
+abbrev pub failure_of : Answer → Option Uncollected
 failure_of answer = error_of answer.ended
 
 -- by what the first has failed who has: where they stand by general, ascending, the lowest
-abbrev pub first_failure : List (Option MusterError) → Option MusterError
+abbrev pub first_failure : {E : Type 0} → List (Option E) → Option E
 first_failure failures = option_flatten (find (λ failure. is_some failure) failures)
 
 abbrev pub AreAscending : List Answer → Type 0
 AreAscending answers = IsSortedByKey (λ (a : Answer). a.general) nat_cmp answers
 
 -- that a thread was not started stands before what the generals have failed by, and that before the outcome
-abbrev pub ended_as : {T : Type 0} → Option MusterError → Option MusterError → Result T MusterError
-    → Result T MusterError
+abbrev pub ended_as : {T E : Type 0} → Option E → Option E → Result T E → Result T E
 ended_as (Some refused) failed outcome = Err refused
 ended_as None (Some failure) outcome = Err failure
 ended_as None None outcome = outcome

@@ -62,11 +62,11 @@ pub(crate) fn kept<H: Drop>(handles: &mut Vec<H>, started: io::Result<H>) -> Opt
 
 /// What a muster ends with: why a thread was not started, where one was not; else by what the lowest general has failed
 /// who has; else what was conducted. These have failed by general, ascending.
-pub fn ended<T: Drop>(
-    refused: Option<MusterError>,
-    failures: &[Option<MusterError>],
-    outcome: Result<T, MusterError>,
-) -> Result<T, MusterError>
+pub fn ended<T: Drop, E: Copy>(
+    refused: Option<E>,
+    failures: &[Option<E>],
+    outcome: Result<T, E>,
+) -> Result<T, E>
     ensures { result ≡ ended_as refused (first_failure failures.now) outcome }
 {
     match refused.or(first_failed(failures).flatten()) {
@@ -76,7 +76,7 @@ pub fn ended<T: Drop>(
 }
 
 /// The first of these that is a failure.
-fn first_failed(failures: &[Option<MusterError>]) -> Option<Option<MusterError>>
+fn first_failed<E: Copy>(failures: &[Option<E>]) -> Option<Option<E>>
     ensures { result ≡ find (λ failure. is_some failure) failures.now }
 {
     failures.iter().copied().find(|failure| failure.is_some())

@@ -1,18 +1,19 @@
 //! The letters of a campaign whose generals stay in their threads for all rounds.
-ghost use Rattle.std.specs.Prelude.{◌≡◌, ℕ, ◌<◌, ◌≤◌, [], suc, length, slice_index_or, vec_capacity, None, All, IsPermutation, IfOk};
+ghost use Rattle.std.specs.Prelude.{◌≡◌, ℕ, ◌<◌, ◌≤◌, [], suc, length, slice_index_or, vec_capacity, None, All, IsPermutation, IfOk, IfSome, Err};
 ghost use Rattle.delivery.specs.Told.{WasTold};
 ghost use Rattle.post.specs.Seen.{PosterSeen, poster_seen};
 ghost use Rattle.threads.specs.Answers.{AreAscending};
 ghost use Rattle.threads.specs.Inboxes.{AreOwn};
+ghost use Rattle.threads.specs.declared.halt.Halt.TheVariants.{Unstarted};
 
 use crate::answers::{Refused, kept};
 use crate::camp::{Camp, Home};
 use crate::conducting::conduct;
 use crate::ending::Ending;
-use crate::error::MusterError;
 use crate::gate::Gate;
 use crate::halt::Halt;
 use crate::resident::Answer;
+use crate::uncollected::Uncollected;
 use delivery::Told;
 use letter::Round;
 use post::{Collector, Poster};
@@ -28,8 +29,8 @@ use std::thread::{JoinHandle, Threads};
 ///
 /// # Errors
 ///
-/// `Spawn` where a thread could not be started; else the error of the lowest general who failed, if one has; else
-/// `Memory` where memory is refused, and `Unaccounted` where letters are not of their round.
+/// `Unstarted` where a thread could not be started; else `Failed` by what the lowest general has failed who has; else
+/// `Halted` where the rounds were not all conducted; `Memory` where memory is refused before a thread is started.
 pub(crate) fn collect<R: Threads + Wait + Sync, G: Gate + Sync, J: Room + Send + Sync>(
     rt: &R,
     alloc: Global,
@@ -38,7 +39,7 @@ pub(crate) fn collect<R: Threads + Wait + Sync, G: Gate + Sync, J: Room + Send +
     board: &SharedBoard<J>,
     witnesses: Vec<Witness<J>>,
     stack: usize,
-) -> Result<(Vec<Round>, Told), MusterError>
+) -> Result<(Vec<Round>, Told), Uncollected>
     requires many { scenario.now.generals ≤ length witnesses.items }
     requires unserved { All (λ w. w.made ≡ 0) witnesses.items }
     ensures rounds { IfOk result (λ r. length r.0.items ≡ suc scenario.now.bound) }
@@ -155,6 +156,7 @@ fn finish<R: Threads + Wait, G, J: Room>(
     requires fresh { answers.items ≡ [] }
     requires room { length handles.items ≤ vec_capacity answers }
     ensures refused { result.refused ≡ refused }
+    ensures unstarted { IfSome refused (λ r. result.outcome ≡ Err (Unstarted r)) }
     ensures all { length result.answers.items ≡ length handles.items }
     ensures ascending { AreAscending result.answers.items }
     ensures rounds { IfOk result.outcome (λ r. length r.0.items ≡ suc scenario.now.bound) }
@@ -179,6 +181,7 @@ fn conducted<R: Wait, G, J: Room>(
     requires inboxes { scenario.now.generals ≤ length camp.now.inboxes.items }
     requires own { AreOwn camp.now.inboxes.items }
     requires tally { scenario.now.generals ≤ camp.now.tally.generals }
+    ensures unstarted { IfSome refused (λ r. result ≡ Err (Unstarted r)) }
     ensures rounds { IfOk result (λ r. length r.0.items ≡ suc scenario.now.bound) }
     ensures told { IfOk result (λ r. WasTold scenario.now r.0.items r.1) }
 {

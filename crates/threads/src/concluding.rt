@@ -1,5 +1,5 @@
 //! What a campaign comes to.
-ghost use Rattle.std.specs.Prelude.{◌≡◌, ◌≢◌, ◌≤◌, [], suc, All, List, length, IfOk, OnOk, IfErr};
+ghost use Rattle.std.specs.Prelude.{◌≡◌, ◌≢◌, ◌≤◌, [], suc, All, List, length, Ok, IfOk, OnOk, IfErr, IsErrAnd, MatchBool};
 ghost use Rattle.board.specs.Board.{IsLegal};
 ghost use Rattle.letter.specs.Letters.{Letter as LetterSeen, messages};
 ghost use Rattle.delivery.specs.Told.{WasTold};
@@ -9,11 +9,11 @@ ghost use Rattle.world.specs.Lists.{IsComplete, replayed, names_in};
 ghost use Rattle.world.specs.Promises.{AgreeUnderBound, IsVerdictOn, IsWellUnderBound};
 ghost use Rattle.world.specs.Replay.{replay_of};
 ghost use Rattle.world.specs.Safety.{IsShort};
+ghost use Rattle.threads.specs.Answers.{mishap_as, IfUnlike};
 ghost use Rattle.threads.specs.declared.error.MusterError.TheVariants.{Memory, Unaccounted, Spawn, Post};
 
 use crate::account::are_accounted;
-use crate::answers::accounted;
-use crate::error::MusterError;
+use crate::mishap::Mishap;
 use arrayvec::ArrayVec;
 use board::{Access, Board};
 use delivery::Told;
@@ -21,9 +21,17 @@ use letter::Round;
 use resolve::resolve_all;
 use roster::Scenario;
 use std::alloc::{AllocError, Global};
+use std::snapshot::Snapshot;
 use std::thread;
 use std::thread::Threads;
 use world::Chronicle;
+
+/// That a board does not account for the letters of a campaign, as `accounted` alone tells.
+#[derive(Drop)]
+pub(crate) struct Unlike {
+    /// Which board that is.
+    board: Snapshot<Board>,
+}
 
 /// What the lieutenants decide of the letters of a campaign, ascending by number, where the ledger of the board that
 /// served it accounts for these letters, all of which were told. The letters are compared with the ledger while the
@@ -31,7 +39,7 @@ use world::Chronicle;
 ///
 /// # Errors
 ///
-/// `Unaccounted` where the board opened with other words than the scenario's, or its ledger does not account for the
+/// `Unlike` where the board opened with other words than the scenario's, or its ledger does not account for the
 /// letters; `Memory` where memory is refused.
 pub(crate) fn judge<R: Threads + Sync>(
     rt: &R,
@@ -40,32 +48,34 @@ pub(crate) fn judge<R: Threads + Sync>(
     board: &Board,
     rows: &[Round],
     told: &Told,
-) -> Result<ArrayVec<u32, 12>, MusterError>
+) -> Result<ArrayVec<u32, 12>, Mishap>
     requires rounds { length rows.now ≡ suc scenario.now.bound }
     requires told { WasTold scenario.now rows.now told.now }
     ensures legal { OnOk result (IsLegal scenario.now.board board.now.ledger) }
     ensures accounted { OnOk result (AreAccounted scenario.now [] board.now.ledger rows.now) }
     ensures decisions { IfOk result (λ orders. orders.items ≡ decisions scenario.now (messages rows.now)) }
-    ensures unaccounted { IfErr result (λ e. e ≡ Unaccounted →
+    ensures unaccounted { IfErr result (λ e. mishap_as e ≡ Unaccounted →
         ¬ ((board.now.opening ≡ scenario.now.board) × AreAccounted scenario.now [] board.now.ledger rows.now)) }
-    ensures memory { IfErr result (λ e. e ≡ Memory → board.now.opening ≡ scenario.now.board) }
-    ensures started { IfErr result (λ e. e ≢ Spawn) }
-    ensures posted { IfErr result (λ e. e ≢ Post) }
+    ensures memory { IfErr result (λ e. mishap_as e ≡ Memory → board.now.opening ≡ scenario.now.board) }
+    ensures started { IfErr result (λ e. mishap_as e ≢ Spawn) }
+    ensures posted { IfErr result (λ e. mishap_as e ≢ Post) }
+    ensures unlike { IfErr result (λ e. IfUnlike e (λ b. b ≡ board.now)) }
 {
     let (compared, decided) = thread::join(
         rt,
-        || -> Result<(), MusterError>
+        || -> Result<(), Mishap>
             requires rounds { length rows.now ≡ suc scenario.now.bound }
             requires told { WasTold scenario.now rows.now told.now }
             ensures legal { OnOk result (IsLegal scenario.entry.now.board board.entry.now.ledger) }
             ensures accounted { OnOk result (AreAccounted scenario.entry.now [] board.entry.now.ledger rows.entry.now) }
-            ensures unaccounted { IfErr result (λ e. e ≡ Unaccounted
+            ensures unaccounted { IfErr result (λ e. mishap_as e ≡ Unaccounted
                 → ¬ ((board.entry.now.opening ≡ scenario.entry.now.board)
                 × AreAccounted scenario.entry.now [] board.entry.now.ledger rows.entry.now)) }
             ensures opening { OnOk result (board.entry.now.opening ≡ scenario.entry.now.board) }
-            ensures memory { IfErr result (λ e. e ≡ Memory → board.entry.now.opening ≡ scenario.entry.now.board) }
-            ensures started { IfErr result (λ e. e ≢ Spawn) }
-            ensures posted { IfErr result (λ e. e ≢ Post) }
+            ensures memory { IfErr result (λ e. mishap_as e ≡ Memory → board.entry.now.opening ≡ scenario.entry.now.board) }
+            ensures started { IfErr result (λ e. mishap_as e ≢ Spawn) }
+            ensures posted { IfErr result (λ e. mishap_as e ≢ Post) }
+            ensures unlike { IfErr result (λ e. IfUnlike e (λ b. b ≡ board.entry.now)) }
         { account(alloc, scenario, board, rows, told) },
         || -> Result<ArrayVec<u32, 12>, AllocError>
             requires { (before : List (List LetterSeen)) × WasTold scenario.now before told.now }
@@ -82,7 +92,7 @@ pub(crate) fn judge<R: Threads + Sync>(
 ///
 /// # Errors
 ///
-/// `Unaccounted` where the board opened with other words than the scenario's, or its ledger does not account for the
+/// `Unlike` where the board opened with other words than the scenario's, or its ledger does not account for the
 /// letters; `Memory` where memory is refused.
 fn account(
     alloc: Global,
@@ -90,21 +100,37 @@ fn account(
     board: &Board,
     rows: &[Round],
     told: &Told,
-) -> Result<(), MusterError>
+) -> Result<(), Mishap>
     requires rounds { length rows.now ≡ suc scenario.now.bound }
     requires told { WasTold scenario.now rows.now told.now }
     ensures legal { OnOk result (IsLegal scenario.now.board board.now.ledger) }
     ensures opening { OnOk result (board.now.opening ≡ scenario.now.board) }
     ensures accounted { OnOk result (AreAccounted scenario.now [] board.now.ledger rows.now) }
-    ensures unaccounted { IfErr result (λ e. e ≡ Unaccounted →
+    ensures unaccounted { IfErr result (λ e. mishap_as e ≡ Unaccounted →
         ¬ ((board.now.opening ≡ scenario.now.board) × AreAccounted scenario.now [] board.now.ledger rows.now)) }
-    ensures memory { IfErr result (λ e. e ≡ Memory → board.now.opening ≡ scenario.now.board) }
-    ensures started { IfErr result (λ e. e ≢ Spawn) }
-    ensures posted { IfErr result (λ e. e ≢ Post) }
+    ensures memory { IfErr result (λ e. mishap_as e ≡ Memory → board.now.opening ≡ scenario.now.board) }
+    ensures started { IfErr result (λ e. mishap_as e ≢ Spawn) }
+    ensures posted { IfErr result (λ e. mishap_as e ≢ Post) }
+    ensures unlike { IfErr result (λ e. IfUnlike e (λ b. b ≡ board.now)) }
 {
-    accounted(board.opening().as_slice() == scenario.board().as_slice())?;
+    let is_opened = board.opening().as_slice() == scenario.board().as_slice();
+    accounted(board, is_opened)?;
     let are_accounted = are_accounted(alloc, told, scenario, rows, 0, board.ledger())?;
-    accounted(are_accounted)
+    accounted(board, are_accounted)?;
+    Ok(())
+}
+
+/// Tests of something whether it is as it has to be: where it is not, this board does not account for the letters.
+fn accounted(board: &Board, is_so: bool) -> Result<(), Unlike>
+    ensures { MatchBool is_so (result ≡ Ok tt) (IsErrAnd result (λ unlike. unlike.board.value ≡ board.now)) }
+{
+    if is_so {
+        Ok(())
+    } else {
+        Err(Unlike {
+            board: Snapshot::of(board),
+        })
+    }
 }
 
 /// What the lieutenants decide of what they were told, ascending by number.

@@ -1,11 +1,12 @@
 //! What a campaign by threads has come to.
 ghost use Rattle.std.specs.Prelude.{◌≡◌, ◌≤◌, length, map, option_map};
 ghost use Rattle.threads.specs.Answers.{ended_as, failure_of, first_failure, outcome_as};
+ghost use Rattle.threads.specs.declared.uncollected.Uncollected.TheVariants.{Unstarted};
 
 use crate::answers::{Refused, ended};
-use crate::error::MusterError;
 use crate::halt::Halt;
 use crate::resident::Answer;
+use crate::uncollected::Uncollected;
 use arrayvec::ArrayVec;
 use delivery::Told;
 use letter::Round;
@@ -37,20 +38,20 @@ impl Ending {
     }
 
     /// What was conducted, unless not all threads were started, or a general has failed.
-    pub(crate) fn told(self) -> Result<(Vec<Round>, Told), MusterError>
+    pub(crate) fn told(self) -> Result<(Vec<Round>, Told), Uncollected>
         requires { length self.answers.items ≤ 13 }
-        ensures { result ≡ ended_as (option_map (λ r. r.error) self.refused)
+        ensures { result ≡ ended_as (option_map Unstarted self.refused)
             (first_failure (map failure_of self.answers.items)) (outcome_as self.outcome) }
     {
         let failures = failures(self.answers.as_slice());
-        let refused = self.refused.map(|refused| refused.error());
-        let outcome = self.outcome.map_err(|halt| halt.error());
+        let refused = self.refused.map(|refused| Uncollected::Unstarted(refused));
+        let outcome = self.outcome.map_err(|halt| Uncollected::Halted(halt));
         ended(refused, failures.as_slice(), outcome)
     }
 }
 
 /// By what each has failed, if he has.
-fn failures(answers: &[Answer]) -> ArrayVec<Option<MusterError>, 13>
+fn failures(answers: &[Answer]) -> ArrayVec<Option<Uncollected>, 13>
     requires { length answers.now ≤ 13 }
     ensures { result.items ≡ map failure_of answers.now }
 {

@@ -15,12 +15,14 @@ mod gathering;
 mod halt;
 mod inbox;
 mod made;
+mod mishap;
 mod mustering;
 mod receiving;
 mod resident;
 mod taking;
 mod tally;
 mod task;
+mod uncollected;
 
 pub use answers::ended;
 pub use error::MusterError;

@@ -1,5 +1,5 @@
 //! Campaigns whose generals act in threads.
-ghost use Rattle.std.specs.Prelude.{◌≡◌, ◌≤◌, suc, length, All, IfOk};
+ghost use Rattle.std.specs.Prelude.{◌≡◌, ◌≤◌, suc, length, All, IfOk, IfErr};
 ghost use mathlib.Core.List.{IsPrefix};
 ghost use Rattle.board.specs.Board.{IsLegal};
 ghost use Rattle.letter.specs.Letters.{messages};
@@ -8,11 +8,13 @@ ghost use Rattle.world.specs.Lists.{IsComplete, replayed, names_in};
 ghost use Rattle.world.specs.Promises.{AgreeUnderBound, IsVerdictOn, IsWellUnderBound};
 ghost use Rattle.world.specs.Replay.{replay_of};
 ghost use Rattle.world.specs.Safety.{IsShort};
+ghost use Rattle.threads.specs.Answers.{IfUnlike};
 
 use crate::collecting::collect;
 use crate::concluding::{conclude, judge};
 use crate::error::MusterError;
 use crate::gate::Gate;
+use crate::mishap::Mishap;
 use board::Board;
 use roster::Scenario;
 use shared_board::{Room, SharedBoard, Unshared, Witness};
@@ -61,7 +63,7 @@ pub fn muster<R: Threads + Wait + Sync, G: Gate + Sync>(
     ensures verdict { IfOk result (λ chronicle. IsVerdictOn scenario chronicle.decisions chronicle.verdict) }
     ensures well { IfOk result (λ chronicle. IsWellUnderBound chronicle.verdict) }
 {
-    muster_with(rt, alloc, scenario, gate, STACK)
+    Ok(muster_on(rt, alloc, scenario, gate, STACK)?)
 }
 
 /// The same, where each thread gets a stack of so many bytes.
@@ -88,6 +90,29 @@ pub fn muster_with<R: Threads + Wait + Sync, G: Gate + Sync>(
     ensures verdict { IfOk result (λ chronicle. IsVerdictOn scenario chronicle.decisions chronicle.verdict) }
     ensures well { IfOk result (λ chronicle. IsWellUnderBound chronicle.verdict) }
 {
+    Ok(muster_on(rt, alloc, scenario, gate, stack)?)
+}
+
+/// The same: where there is no chronicle, what was found.
+fn muster_on<R: Threads + Wait + Sync, G: Gate + Sync>(
+    rt: &R,
+    alloc: Global,
+    scenario: Scenario,
+    gate: &G,
+    stack: usize,
+) -> Result<Chronicle, Mishap>
+    ensures scenario { IfOk result (λ chronicle. chronicle.scenario ≡ scenario) }
+    ensures replay { IfOk result (λ chronicle. chronicle ≡ chronicle_of (replay_of scenario chronicle.accesses)) }
+    ensures complete { IfOk result
+        (λ chronicle. IsComplete scenario (replayed scenario (names_in 1 chronicle.accesses (suc scenario.bound)))) }
+    ensures legal { IfOk result (λ chronicle. IsLegal scenario.board chronicle.accesses) }
+    ensures short { IfOk result (λ chronicle. All (λ letters. All IsShort letters) chronicle.letters) }
+    ensures decisions { IfOk result
+        (λ chronicle. chronicle.decisions ≡ decisions scenario (messages chronicle.letters)) }
+    ensures agree { IfOk result (λ chronicle. AgreeUnderBound scenario chronicle.decisions) }
+    ensures verdict { IfOk result (λ chronicle. IsVerdictOn scenario chronicle.decisions chronicle.verdict) }
+    ensures well { IfOk result (λ chronicle. IsWellUnderBound chronicle.verdict) }
+{
     let threads = scenario.generals();
     let unshared = Unshared::new(Board::new(alloc, *scenario.board()), threads + 1);
     mustered::<R, G, Brand>(rt, alloc, scenario, gate, stack, unshared)
@@ -101,7 +126,7 @@ fn mustered<R: Threads + Wait + Sync, G: Gate + Sync, J: Room + Send + Sync>(
     gate: &G,
     stack: usize,
     unshared: Unshared,
-) -> Result<Chronicle, MusterError>
+) -> Result<Chronicle, Mishap>
     requires book { unshared.book ≡ J.book }
     requires opening { unshared.opening ≡ J.opening }
     requires words { unshared.opening ≡ scenario.board }
@@ -138,10 +163,12 @@ fn by_board<R: Threads + Wait + Sync, G: Gate + Sync, J: Room + Send + Sync>(
     board: SharedBoard<J>,
     witness: Witness<J>,
     witnesses: Vec<Witness<J>>,
-) -> Result<Chronicle, MusterError>
+) -> Result<Chronicle, Mishap>
     requires words { J.opening ≡ scenario.board }
     requires witnesses { scenario.generals ≤ length witnesses.items }
     requires unserved { All (λ w. w.made ≡ 0) witnesses.items }
+    ensures unlike { IfErr result (λ e.
+        IfUnlike e (λ b. (b.opening ≡ scenario.board) × IsPrefix witness.seen b.ledger)) }
     ensures history { IfOk result (λ chronicle. IsPrefix witness.seen chronicle.accesses) }
     ensures scenario { IfOk result (λ chronicle. chronicle.scenario ≡ scenario) }
     ensures replay { IfOk result (λ chronicle. chronicle ≡ chronicle_of (replay_of scenario chronicle.accesses)) }

@@ -13,6 +13,7 @@ use crate::inbox::{Closed, Inbox};
 use crate::made::Made;
 use crate::tally::{Reported, Tally, Uncounted, send};
 use crate::task::Task;
+use crate::uncollected::Uncollected;
 use letter::Letter;
 use post::{Post, Poster};
 use shared_board::{Room, SharedBoard, Witness};
@@ -53,12 +54,12 @@ impl Answer {
     }
 
     /// By what he has failed, if he has.
-    pub(crate) fn failure(&self) -> Option<MusterError>
+    pub(crate) fn failure(&self) -> Option<Uncollected>
         ensures { result ≡ failure_of self.now }
     {
         match &self.ended {
             Ok(_) => None,
-            Err(reported) => Some(reported.error()),
+            Err(reported) => Some(Uncollected::Failed(*reported)),
         }
     }
 }

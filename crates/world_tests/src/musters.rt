@@ -129,8 +129,8 @@ fn a_thread_that_cannot_start(rt: HostRuntime) {
 #[test]
 fn the_failure_of_the_lowest_general(rt: HostRuntime) {
     for &(refused, failures, error) in FAILURES {
-        let told = ended::<()>(refused, failures, Err(MusterError::Unaccounted));
+        let told = ended::<(), _>(refused, failures, Err(MusterError::Unaccounted));
         assert!(rt; told == Err(error));
     }
-    assert!(rt; ended(None, &[None, None], Ok(())).is_ok());
+    assert!(rt; ended::<(), MusterError>(None, &[None, None], Ok(())).is_ok());
 }

@@ -1,0 +1,56 @@
+//! Why a muster has no chronicle.
+ghost use Rattle.std.specs.Prelude.{◌≡◌};
+ghost use Rattle.threads.specs.Answers.{mishap_as};
+ghost use Rattle.threads.specs.declared.mishap.Mishap.TheVariants.{Memory, Uncollected as NotAll, Unlike as NotTheirs};
+
+use crate::concluding::Unlike;
+use crate::error::MusterError;
+use crate::uncollected::Uncollected;
+use std::alloc::AllocError;
+
+/// Why a muster has no chronicle: memory aside, only what finds it can tell so.
+#[derive(Drop)]
+pub(crate) enum Mishap {
+    /// Memory was refused.
+    Memory,
+    /// The letters were not all collected.
+    Uncollected(Uncollected),
+    /// The board does not account for the letters.
+    Unlike(Unlike),
+}
+
+impl From<Mishap> for MusterError {
+    ghost from_gives = { λ mishap error. error ≡ mishap_as mishap };
+
+    fn from(mishap: Mishap) -> MusterError {
+        match mishap {
+            Mishap::Memory => MusterError::Memory,
+            Mishap::Uncollected(uncollected) => uncollected.error(),
+            Mishap::Unlike(_) => MusterError::Unaccounted,
+        }
+    }
+}
+
+impl From<AllocError> for Mishap {
+    ghost from_gives = { λ _ mishap. mishap ≡ Memory };
+
+    fn from(_refused: AllocError) -> Mishap {
+        Mishap::Memory
+    }
+}
+
+impl From<Uncollected> for Mishap {
+    ghost from_gives = { λ uncollected mishap. mishap ≡ NotAll uncollected };
+
+    fn from(uncollected: Uncollected) -> Mishap {
+        Mishap::Uncollected(uncollected)
+    }
+}
+
+impl From<Unlike> for Mishap {
+    ghost from_gives = { λ unlike mishap. mishap ≡ NotTheirs unlike };
+
+    fn from(unlike: Unlike) -> Mishap {
+        Mishap::Unlike(unlike)
+    }
+}

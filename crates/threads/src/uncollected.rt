@@ -1,0 +1,45 @@
+//! Why the letters of a campaign were not all collected.
+ghost use Rattle.std.specs.Prelude.{◌≡◌};
+ghost use Rattle.threads.specs.Answers.{uncollected_as};
+ghost use Rattle.threads.specs.declared.uncollected.Uncollected.TheVariants.{Memory};
+
+use crate::answers::Refused;
+use crate::error::MusterError;
+use crate::halt::Halt;
+use crate::tally::Reported;
+use std::alloc::AllocError;
+
+/// Why the letters of a campaign were not all collected: memory aside, only what finds it can tell so.
+#[derive(Clone, Copy)]
+pub(crate) enum Uncollected {
+    /// Memory was refused.
+    Memory,
+    /// Not all threads were started.
+    Unstarted(Refused),
+    /// A general has failed.
+    Failed(Reported),
+    /// The rounds were not all conducted.
+    Halted(Halt),
+}
+
+impl Uncollected {
+    /// The error that tells it.
+    pub(crate) fn error(self) -> MusterError
+        ensures { result ≡ uncollected_as self }
+    {
+        match self {
+            Uncollected::Memory => MusterError::Memory,
+            Uncollected::Unstarted(refused) => refused.error(),
+            Uncollected::Failed(reported) => reported.error(),
+            Uncollected::Halted(halt) => halt.error(),
+        }
+    }
+}
+
+impl From<AllocError> for Uncollected {
+    ghost from_gives = { λ _ uncollected. uncollected ≡ Memory };
+
+    fn from(_refused: AllocError) -> Uncollected {
+        Uncollected::Memory
+    }
+}
