@@ -12,10 +12,11 @@ use Rattle.surveyor.specs.declared.asked.Shape.{Shape}
 use Rattle.surveyor.specs.declared.asked.Shape.TheVariants.{Sums, Lines, Table, Picture, Least}
 use Rattle.surveyor.specs.declared.asked.Survey.{Survey}
 use Rattle.surveyor.specs.declared.fault.Fault.{Fault}
-use Rattle.surveyor.specs.declared.fault.Fault.TheVariants.{Unread, Unwritten, Refused, Campaign, Words, Memory}
+use Rattle.surveyor.specs.declared.fault.Fault.TheVariants.{Unread, NotText, Unwritten, Refused, Campaign, Words, Memory}
 use Rattle.surveyor.specs.Ends.{IsDrawnRefused, IsStopped, IsUnended, IsUnsurveyed}
+use Rattle.survey.specs.declared.parts.PartError.{PartError}
 use Rattle.surveyor.specs.declared.asked.Merge.{Merge}
-use Rattle.surveyor.specs.Faults.{IsFile, IsKeptIn, IsNoPart, IsUnkept, IsUnprinted, IsUnread, IsUnsummed, IsUntaken, IsUntold}
+use Rattle.surveyor.specs.Faults.{IsFile, IsKeptIn, IsNoPart, IsUnkept, IsUnkeptIn, IsUnprinted, IsUnread, IsUnsummed, IsUntaken, IsUntold}
 use Rattle.surveyor.specs.Words.{IsFamilyOf}
 
 pub stopped_printing : (s : Survey) (R : ℕ → ℕ → ScenarioError → Type 0) (fault : Fault) → IsUnprinted fault → IsStopped s R fault
@@ -23,6 +24,7 @@ stopped_printing s R (Unwritten None) h = tt
 stopped_printing s R (Unwritten (Some name)) h = absurd h
 stopped_printing s R Memory h = tt
 stopped_printing s R (Unread name) h = absurd h
+stopped_printing s R (NotText name) h = absurd h
 stopped_printing s R (Refused line) h = absurd h
 stopped_printing s R (Campaign first last e) h = absurd h
 stopped_printing s R Words h = absurd h
@@ -32,6 +34,7 @@ stopped_keeping s R (Unwritten None) h = absurd h
 stopped_keeping s R (Unwritten (Some name)) h = h
 stopped_keeping s R Memory h = tt
 stopped_keeping s R (Unread name) h = absurd h
+stopped_keeping s R (NotText name) h = absurd h
 stopped_keeping s R (Refused line) h = absurd h
 stopped_keeping s R (Campaign first last e) h = absurd h
 stopped_keeping s R Words h = absurd h
@@ -61,6 +64,7 @@ unended s R f (Unwritten None) family h = tt
 unended s R f (Unwritten (Some name)) family h = h
 unended s R f Memory family h = tt
 unended s R f (Unread name) family h = absurd h
+unended s R f (NotText name) family h = absurd h
 unended s R f (Refused line) family h = absurd h
 unended s R f (Campaign first last e) family h = (f, family, h)
 unended s R f Words family h = absurd h
@@ -71,22 +75,34 @@ untaken s R (Unwritten None) file h = absurd h
 untaken s R (Unwritten (Some name)) file h = absurd h
 untaken s R Memory file h = tt
 untaken s R (Unread name) file h = (file, h)
-untaken s R (Refused line) file h = file
+untaken s R (NotText name) file h = (file, h)
+untaken s R (Refused line) file h = (file, h.0, h.1)
 untaken s R (Campaign first last e) file h = absurd h
 untaken s R Words file h = absurd h
 
 -- a file of a campaign that is kept
-pub kept_in : (name beside : List ℕ) (is_kept : Bool) (fault : Fault) → is_kept ≡ true → IsUnkept name beside fault → IsKeptIn is_kept fault
-kept_in name beside is_kept (Unwritten None) some h = absurd h
-kept_in name beside is_kept (Unwritten (Some own)) some h = some
-kept_in name beside is_kept Memory some h = tt
-kept_in name beside is_kept (Unread own) some h = absurd h
-kept_in name beside is_kept (Refused line) some h = absurd h
-kept_in name beside is_kept (Campaign first last e) some h = absurd h
-kept_in name beside is_kept Words some h = absurd h
+pub unkept_one : (name beside : List ℕ) (fault : Fault) → IsUnkept name beside fault → IsUnkeptIn fault
+unkept_one name beside (Unwritten None) h = absurd h
+unkept_one name beside (Unwritten (Some own)) h = tt
+unkept_one name beside Memory h = tt
+unkept_one name beside (Unread own) h = absurd h
+unkept_one name beside (NotText own) h = absurd h
+unkept_one name beside (Refused line) h = absurd h
+unkept_one name beside (Campaign first last e) h = absurd h
+unkept_one name beside Words h = absurd h
 
-pub kept_by_memory : (is_kept : Bool) (fault : Fault) → fault ≡ Memory → IsKeptIn is_kept fault
-kept_by_memory is_kept fault is = subst (IsKeptIn is_kept) (sym is) tt
+pub unkept_by_memory : (fault : Fault) → fault ≡ Memory → IsUnkeptIn fault
+unkept_by_memory fault is = subst IsUnkeptIn (sym is) tt
+
+pub kept_where : (is_kept : Bool) (fault : Fault) → is_kept ≡ true → IsUnkeptIn fault → IsKeptIn is_kept fault
+kept_where is_kept (Unwritten None) some h = absurd h
+kept_where is_kept (Unwritten (Some own)) some h = some
+kept_where is_kept Memory some h = tt
+kept_where is_kept (Unread own) some h = absurd h
+kept_where is_kept (NotText own) some h = absurd h
+kept_where is_kept (Refused line) some h = absurd h
+kept_where is_kept (Campaign first last e) some h = absurd h
+kept_where is_kept Words some h = absurd h
 
 -- a folder that is named takes no file
 pub unopened : (s : Survey) (R : Family → ℕ → ℕ → ScenarioError → Type 0) (name beside : List ℕ) (fault : Fault) → is_some s.keep ≡ true → IsUnkept name beside fault → IsUnended s R fault
@@ -94,6 +110,7 @@ unopened s R name beside (Unwritten None) some h = absurd h
 unopened s R name beside (Unwritten (Some own)) some h = some
 unopened s R name beside Memory some h = tt
 unopened s R name beside (Unread own) some h = absurd h
+unopened s R name beside (NotText own) some h = absurd h
 unopened s R name beside (Refused line) some h = absurd h
 unopened s R name beside (Campaign first last e) some h = absurd h
 unopened s R name beside Words some h = absurd h
@@ -115,26 +132,29 @@ unended_drawn s f fault not family h = unended s (IsDrawnRefused s.shape) f faul
 -- one of the files that are summed cannot be read, or is refused
 pub unread_one : (m : Merge) (k : ℕ) (own : String Global) (fault : Fault) → k < length m.names.items → get_or m.names.items k own ≡ own → IsUnread (string_bytes own) fault → IsUntold m fault
 unread_one m k own (Unread name) less at h = (k, own, less, at, sym h)
+unread_one m k own (NotText name) less at h = absurd h
 unread_one m k own (Unwritten name) less at h = absurd h
 unread_one m k own Memory less at h = tt
 unread_one m k own (Refused line) less at h = absurd h
 unread_one m k own (Campaign first last e) less at h = absurd h
 unread_one m k own Words less at h = absurd h
 
-pub no_part_told : (m : Merge) (fault : Fault) → IsNoPart fault → IsUntold m fault
-no_part_told m (Unread name) h = absurd h
-no_part_told m (Unwritten name) h = absurd h
-no_part_told m Memory h = tt
-no_part_told m (Refused line) h = tt
-no_part_told m (Campaign first last e) h = absurd h
-no_part_told m Words h = absurd h
+pub no_part_told : (m : Merge) (k : ℕ) (own : String Global) (first : List ℕ) (error : PartError) (fault : Fault) → k < length m.names.items → get_or m.names.items k own ≡ own → IsNoPart (string_bytes own) first error fault → IsUntold m fault
+no_part_told m k own first error (Unread name) less at h = absurd h
+no_part_told m k own first error (NotText name) less at h = absurd h
+no_part_told m k own first error (Unwritten name) less at h = absurd h
+no_part_told m k own first error Memory less at h = tt
+no_part_told m k own first error (Refused line) less at h = (string_bytes own, first, error, (k, own, less, at, refl), h)
+no_part_told m k own first error (Campaign low high e) less at h = absurd h
+no_part_told m k own first error Words less at h = absurd h
 
 -- or their sums are not printed
 pub untold_summed : (m : Merge) (fault : Fault) → IsUntold m fault → IsUnsummed m fault
 untold_summed m (Unread name) h = h
+untold_summed m (NotText name) h = absurd h
 untold_summed m (Unwritten name) h = absurd h
 untold_summed m Memory h = tt
-untold_summed m (Refused line) h = tt
+untold_summed m (Refused line) h = h
 untold_summed m (Campaign first last e) h = absurd h
 untold_summed m Words h = absurd h
 
@@ -143,6 +163,7 @@ unprinted_summed m (Unwritten None) h = tt
 unprinted_summed m (Unwritten (Some name)) h = absurd h
 unprinted_summed m Memory h = tt
 unprinted_summed m (Unread name) h = absurd h
+unprinted_summed m (NotText name) h = absurd h
 unprinted_summed m (Refused line) h = absurd h
 unprinted_summed m (Campaign first last e) h = absurd h
 unprinted_summed m Words h = absurd h

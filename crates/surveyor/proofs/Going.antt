@@ -12,7 +12,9 @@ use Rattle.survey.specs.Lines.{line_text}
 use Rattle.surveyor.specs.declared.asked.Shape.{Shape}
 use Rattle.surveyor.specs.declared.asked.Shape.TheVariants.{Sums, Lines, Table, Picture, Least}
 use Rattle.surveyor.specs.declared.asked.Survey.{Survey}
-use Rattle.surveyor.specs.Printed.{IsPlayed, IsPrinted, IsToldIn, added, head_in, lines_in, summary_text}
+use Rattle.surveyor.specs.Kept.{File, Gains, campaign_files}
+use Rattle.surveyor.specs.Printed.{IsPlayed, IsPrinted, IsToldIn, added, broken_seeds, head_in, lines_in, summary_text}
+use Rattle.surveyor.proofs.KeptLemmas.{campaigns_gained, no_campaigns, none_gained}
 
 -- numbers up to a middle, and from there on
 pub range_both : (a n m : ℕ) → range_with_len a (n + m) ≡ range_with_len a n ++ range_with_len (a + n) m
@@ -68,17 +70,18 @@ summed_added Table found = refl
 summed_added Picture found = refl
 summed_added Least found = refl
 
--- the campaigns up to the next seed are played, and what there is to print of them so far is printed
-pub record IsUnderWay (s : Survey) (f : Family) (start now : Option (List ℕ)) (next : ℕ) (all : List Finding) : Type 0 where
+-- the campaigns up to the next seed are played, and what there is to print and to keep of them so far is printed and kept
+pub record IsUnderWay (s : Survey) (f : Family) (start now : Option (List ℕ)) (empty full : Option (List File)) (next : ℕ) (all : List Finding) : Type 0 where
   pub from : s.first ≤ next
   pub until : next ≤ s.last + 1
   pub found : List Finding
   pub so_far : AllZip (IsFindingOf f) (range_with_len s.first (next - s.first)) found
   pub kept : all ≡ added s.shape found
   pub written : Appends start now (head_in s.shape f ++ lines_in s.shape found)
+  pub filed : Gains empty full (campaign_files s.keep f (broken_seeds found))
 
-pub begins : (s : Survey) (f : Family) (start now : Option (List ℕ)) (next : ℕ) (all : List Finding) → next ≡ s.first → s.first ≤ s.last → all ≡ [] → Appends start now (head_in s.shape f) → IsUnderWay s f start now next all
-begins s f start now next all is some none head =
+pub begins : (s : Survey) (f : Family) (start now : Option (List ℕ)) (empty : Option (List File)) (next : ℕ) (all : List Finding) → next ≡ s.first → s.first ≤ s.last → all ≡ [] → Appends start now (head_in s.shape f) → IsUnderWay s f start now empty empty next all
+begins s f start now empty next all is some none head =
     let zero_long : next - s.first ≡ 0 = omega arith in
     let text : head_in s.shape f ≡ head_in s.shape f ++ lines_in s.shape [] = sym (append-nil (head_in s.shape f)) ∙ ap (λ (l : List ℕ). head_in s.shape f ++ l) (sym (no_lines s.shape)) in
     record {
@@ -88,11 +91,12 @@ begins s f start now next all is some none head =
       so_far = subst (λ (n : ℕ). AllZip (IsFindingOf f) (range_with_len s.first n) []) (sym zero_long) tt;
       kept = none ∙ sym (none_added s.shape);
       written = subst (λ (l : List ℕ). Appends start now l) text head;
+      filed = subst (λ (l : List File). Gains empty empty l) (sym (no_campaigns s.keep f)) (none_gained empty);
     }
 
-pub goes : (s : Survey) (f : Family) (start now later : Option (List ℕ)) (next to : ℕ) (all more after : List Finding) → IsUnderWay s f start now next all → next ≤ to → to ≤ s.last + 1
-    → AllZip (IsFindingOf f) (range_with_len next (to - next)) more → Appends now later (lines_in s.shape more) → after ≡ all ++ added s.shape more → IsUnderWay s f start later to after
-goes s f start now later next to all more after w low high played lines is =
+pub goes : (s : Survey) (f : Family) (start now later : Option (List ℕ)) (empty some full : Option (List File)) (next to : ℕ) (all more after : List Finding) → IsUnderWay s f start now empty some next all → next ≤ to → to ≤ s.last + 1
+    → AllZip (IsFindingOf f) (range_with_len next (to - next)) more → Appends now later (lines_in s.shape more) → after ≡ all ++ added s.shape more → Gains some full (campaign_files s.keep f (broken_seeds more)) → IsUnderWay s f start later empty full to after
+goes s f start now later empty some full next to all more after w low high played lines is files =
     let from = w.from in
     let front = head_in s.shape f ++ lines_in s.shape w.found in
     let text : front ++ lines_in s.shape more ≡ head_in s.shape f ++ lines_in s.shape (w.found ++ more) =
@@ -104,17 +108,18 @@ goes s f start now later next to all more after w low high played lines is =
       so_far = zip_both (IsFindingOf f) s.first next to w.found more from low w.so_far played;
       kept = is ∙ (ap (λ (l : List Finding). l ++ added s.shape more) w.kept ∙ sym (added_both s.shape w.found more));
       written = subst (λ (l : List ℕ). Appends start later l) text (Appends-trans start now later front (lines_in s.shape more) w.written lines);
+      filed = campaigns_gained s.keep f w.found more empty some full w.filed files;
     }
 
-told_in : (shape : Shape) (s : Survey) (f : Family) (text : List ℕ) → shape ≢ Least → IsPlayed s f text → IsToldIn shape s f text
-told_in Sums s f text ne h = h
-told_in Lines s f text ne h = h
-told_in Table s f text ne h = h
-told_in Picture s f text ne h = h
-told_in Least s f text ne h = absurd (ne refl)
+told_in : (shape : Shape) (s : Survey) (f : Family) (text : List ℕ) (files : List File) → shape ≢ Least → IsPlayed s f text files → IsToldIn shape s f text files
+told_in Sums s f text files ne h = h
+told_in Lines s f text files ne h = h
+told_in Table s f text files ne h = h
+told_in Picture s f text files ne h = h
+told_in Least s f text files ne h = absurd (ne refl)
 
-pub ends : (s : Survey) (f : Family) (start now last : Option (List ℕ)) (next : ℕ) (all : List Finding) → s.shape ≢ Least → IsUnderWay s f start now next all → s.last + 1 ≤ next → Appends now last (summary_text s.shape all) → IsPrinted s f start last
-ends s f start now last next all ne w done summary =
+pub ends : (s : Survey) (f : Family) (start now last : Option (List ℕ)) (empty full : Option (List File)) (next : ℕ) (all : List Finding) → s.shape ≢ Least → IsUnderWay s f start now empty full next all → s.last + 1 ≤ next → Appends now last (summary_text s.shape all) → IsPrinted s f start last empty full
+ends s f start now last empty full next all ne w done summary =
     let until = w.until in
     let end : next ≡ s.last + 1 = omega arith in
     let front = head_in s.shape f ++ lines_in s.shape w.found in
@@ -123,10 +128,13 @@ ends s f start now last next all ne w done summary =
     ap (λ (l : List ℕ). front ++ l) same ∙ append_assoc (head_in s.shape f) (lines_in s.shape w.found) (summary_text s.shape w.found) in
     record {
       text = front ++ summary_text s.shape all;
-      told = told_in s.shape s f (front ++ summary_text s.shape all) ne (record {
+      files = campaign_files s.keep f (broken_seeds w.found);
+      told = told_in s.shape s f (front ++ summary_text s.shape all) (campaign_files s.keep f (broken_seeds w.found)) ne (record {
         found = w.found;
         all = subst (λ (n : ℕ). AllZip (IsFindingOf f) (range_with_len s.first (n - s.first)) w.found) end w.so_far;
         whole = text;
+        kept = refl;
       });
       written = Appends-trans start now last front (summary_text s.shape all) w.written summary;
+      kept = w.filed;
     }

@@ -1,3 +1,4 @@
+mod KeptLemmas
 mod Going
 mod LeastLemmas
 mod SumLemmas

@@ -1,5 +1,5 @@
 -- Why a survey comes to no end (docs/FORMATS.md, "Surveys").
-use Rattle.std.specs.Prelude.{⊤, ℕ, ◌≡◌, ◌+◌, ◌≤◌, is_some, true, None, Some, string_bytes}
+use Rattle.std.specs.Prelude.{⊤, ℕ, ◌≡◌, ◌+◌, ◌≤◌, List, is_some, true, None, Some, string_bytes}
 use Rattle.scenario.specs.declared.fault.ScenarioError.{ScenarioError}
 use Rattle.survey.specs.Family.{Family}
 use Rattle.survey.specs.Judging.{IsRefusedIn}
@@ -7,13 +7,13 @@ use Rattle.survey.specs.Plotting.{plot_of}
 use Rattle.shrink.specs.Breaches as Lessened
 use Rattle.shrink.specs.Breaches.{IsRefusedWith}
 use Rattle.surveyor.specs.Broken.{cut_to}
-use Rattle.surveyor.specs.Faults.{IsFile}
+use Rattle.surveyor.specs.Faults.{IsFile, IsRefusedBy}
 use Rattle.surveyor.specs.Words.{IsFamilyOf}
 use Rattle.surveyor.specs.declared.asked.Shape.{Shape}
 use Rattle.surveyor.specs.declared.asked.Shape.TheVariants.{Least}
 use Rattle.surveyor.specs.declared.asked.Survey.{Survey}
 use Rattle.surveyor.specs.declared.fault.Fault.{Fault}
-use Rattle.surveyor.specs.declared.fault.Fault.TheVariants.{Unread, Unwritten, Refused, Campaign, Words, Memory}
+use Rattle.surveyor.specs.declared.fault.Fault.TheVariants.{Unread, NotText, Unwritten, Refused, Campaign, Words, Memory}
 
 -- one of its campaigns is refused, as it is told below
 pub record IsCampaign (s : Survey) (Refuses : ℕ → ℕ → ScenarioError → Type 0) (first last : ℕ) (e : ScenarioError)
@@ -36,7 +36,10 @@ IsStopped s Refuses _ = ⊥
 abbrev pub IsUnended : Survey → (Family → ℕ → ℕ → ScenarioError → Type 0) → Fault → Type 0
 IsUnended s Refuses (Unread name) =
     IsFile (string_bytes s.adversary) × (string_bytes name ≡ string_bytes s.adversary)
-IsUnended s Refuses (Refused line) = IsFile (string_bytes s.adversary)
+IsUnended s Refuses (NotText name) =
+    IsFile (string_bytes s.adversary) × (string_bytes name ≡ string_bytes s.adversary)
+IsUnended s Refuses (Refused line) =
+    IsFile (string_bytes s.adversary) × (text : List ℕ) × IsRefusedBy text (string_bytes line)
 IsUnended s Refuses (Campaign first last e) =
     (f : Family) × IsFamilyOf s f × IsCampaign s (Refuses f) first last e
 IsUnended s Refuses (Unwritten None) = ⊤

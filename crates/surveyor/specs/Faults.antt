@@ -1,13 +1,21 @@
 -- Which fault is told of what (docs/FORMATS.md, "Surveys").
-use Rattle.std.specs.Prelude.{⊤, ℕ, ◌≡◌, ◌≢◌, ◌⊎◌, ◌++◌, Bool, true, List, codes, decimal, None, Some, string_bytes}
+use Rattle.std.specs.Prelude.{⊤, ℕ, ◌≡◌, ◌≢◌, ◌⊎◌, ◌++◌, Bool, true, List, codes, decimal, Option, None, Some, Err, IfSome, IsSomeAnd, string_bytes}
 use Rattle.std.specs.List.{Any}
+use Rattle.std.specs.Fmt.{◌++?◌}
+use Rattle.asm.specs.ErrorText as asm_text
+use Rattle.asm.specs.Program.{program_of, said}
 use Rattle.asm.specs.declared.fault.AsmError.{AsmError}
 use Rattle.asm.specs.declared.fault.AsmError.TheVariants as asm
+use Rattle.streams.specs.Names.{shown}
+use Rattle.survey.specs.declared.parts.PartError.{PartError}
+use Rattle.survey.specs.declared.parts.PartError.TheVariants as part
+use Rattle.verify.specs.ErrorText as verifier_text
+use Rattle.verify.specs.Judgement.{judged}
 use Rattle.verify.specs.declared.error.VerifyError.{VerifyError}
 use Rattle.verify.specs.declared.error.VerifyError.TheVariants as verifier
 use Rattle.surveyor.specs.declared.asked.Merge.{Merge}
 use Rattle.surveyor.specs.declared.fault.Fault.{Fault}
-use Rattle.surveyor.specs.declared.fault.Fault.TheVariants.{Unread, Unwritten, Refused, Campaign, Words, Memory}
+use Rattle.surveyor.specs.declared.fault.Fault.TheVariants.{Unread, NotText, Unwritten, Refused, Campaign, Words, Memory}
 use Rattle.surveyor.specs.Words.{IsProgramOf}
 
 -- a file of this name cannot be read
@@ -22,24 +30,45 @@ IsUnprinted (Unwritten None) = ⊤
 IsUnprinted Memory = ⊤
 IsUnprinted _ = ⊥
 
+-- ---- a file of assembly
+
 -- a text is no program that the verifier accepts
 abbrev pub IsNoProgram : List ℕ → Type 0
 IsNoProgram text = (hex : List ℕ) → IsProgramOf text hex → ⊥
 
+-- the line tells an assembler's, or a verifier's error
+abbrev pub asm_line : AsmError → List ℕ
+asm_line error = codes "refused " ++ asm_text.told error
+
+abbrev pub verifier_line : VerifyError → List ℕ
+verifier_line error = codes "refused " ++ verifier_text.told error
+
+-- the assembler finds this fault in a text, which is no want of memory; or the verifier finds one in its program
+abbrev pub IsAsmLine : List ℕ → List ℕ → Type 0
+IsAsmLine text line = (error : AsmError) × (error ≢ asm.Memory) × (said text ≡ Err error) × (line ≡ asm_line error)
+
+abbrev pub IsVerifierLine : List ℕ → List ℕ → Type 0
+IsVerifierLine text line = (error : VerifyError) × (error ≢ verifier.Memory)
+    × IsSomeAnd (program_of text) (λ program. judged program ≡ Some error) × (line ≡ verifier_line error)
+
+-- a text is refused by this line
+abbrev pub IsRefusedBy : List ℕ → List ℕ → Type 0
+IsRefusedBy text line = IsNoProgram text × (IsAsmLine text line ⊎ IsVerifierLine text line)
+
 -- a text is refused so, but for want of memory
 abbrev pub IsRefusedText : List ℕ → Fault → Type 0
-IsRefusedText text (Refused line) = IsNoProgram text
+IsRefusedText text (Refused line) = IsRefusedBy text (string_bytes line)
 IsRefusedText text Memory = ⊤
 IsRefusedText text _ = ⊥
 
 -- what is told of an assembler's, and of a verifier's error: want of memory is no fault of a text
 abbrev pub IsUnsaid : AsmError → Fault → Type 0
-IsUnsaid error (Refused line) = error ≢ asm.Memory
+IsUnsaid error (Refused line) = (error ≢ asm.Memory) × (string_bytes line ≡ asm_line error)
 IsUnsaid error Memory = ⊤
 IsUnsaid error _ = ⊥
 
 abbrev pub IsUnsound : VerifyError → Fault → Type 0
-IsUnsound error (Refused line) = error ≢ verifier.Memory
+IsUnsound error (Refused line) = (error ≢ verifier.Memory) × (string_bytes line ≡ verifier_line error)
 IsUnsound error Memory = ⊤
 IsUnsound error _ = ⊥
 
@@ -49,21 +78,15 @@ pub record IsFile (word : List ℕ) : Type 0 where
   pub silent : word ≢ codes "silent"
   pub collude : word ≢ codes "collude"
 
--- it is not read, or what it says is refused
+-- it is not read, is no text, or what it says is refused
 abbrev pub IsUntaken : List ℕ → Fault → Type 0
 IsUntaken name (Unread own) = string_bytes own ≡ name
-IsUntaken name (Refused line) = ⊤
+IsUntaken name (NotText own) = string_bytes own ≡ name
+IsUntaken name (Refused line) = (text : List ℕ) × IsRefusedBy text (string_bytes line)
 IsUntaken name Memory = ⊤
 IsUntaken name _ = ⊥
 
 -- ---- a folder
-
--- the file of a seed's campaign, and where it is written first
-abbrev pub kept_name : List ℕ → ℕ → List ℕ
-kept_name folder seed = folder ++ (codes "/" ++ (decimal seed ++ codes ".toml"))
-
-abbrev pub beside_name : List ℕ → ℕ → List ℕ
-beside_name folder seed = folder ++ (codes "/." ++ (decimal seed ++ codes ".toml.new"))
 
 -- the file by which it is tried whether a folder takes files
 abbrev pub tried_name : List ℕ → ℕ → List ℕ
@@ -75,6 +98,12 @@ IsUnkept name beside (Unwritten (Some own)) = (string_bytes own ≡ name) ⊎ (s
 IsUnkept name beside Memory = ⊤
 IsUnkept name beside _ = ⊥
 
+-- a file of a campaign cannot be written
+abbrev pub IsUnkeptIn : Fault → Type 0
+IsUnkeptIn (Unwritten (Some name)) = ⊤
+IsUnkeptIn Memory = ⊤
+IsUnkeptIn _ = ⊥
+
 -- only where campaigns are kept a file cannot be written
 abbrev pub IsKeptIn : Bool → Fault → Type 0
 IsKeptIn is_kept (Unwritten (Some name)) = is_kept ≡ true
@@ -83,16 +112,36 @@ IsKeptIn is_kept _ = ⊥
 
 -- ---- files that are summed
 
--- a file's lines are refused
-abbrev pub IsNoPart : Fault → Type 0
-IsNoPart (Refused line) = ⊤
-IsNoPart Memory = ⊤
-IsNoPart _ = ⊥
+-- the line that tells why the file of a name is no part of the survey that the file of another begins
+abbrev pub part_line : List ℕ → List ℕ → PartError → Option (List ℕ)
+part_line name first (part.Line n) =
+    Some (codes "refused ") ++? shown name ++? Some (codes " line ") ++? Some (decimal n)
+part_line name first (part.Family n) = Some (codes "refused ") ++? shown name ++? Some (codes " line ")
+    ++? Some (decimal n) ++? Some (codes ": another family than that of ") ++? shown first
+part_line name first (part.Seed n seed) = Some (codes "refused ") ++? shown name ++? Some (codes " line ")
+    ++? Some (decimal n) ++? Some (codes ": seed ") ++? Some (decimal seed) ++? Some (codes " is none of --seeds")
+part_line name first part.Memory = None
 
--- or one of the files cannot be read
+-- the line is this one, where the names are such that it is known
+abbrev pub IsPartLine : List ℕ → List ℕ → PartError → List ℕ → Type 0
+IsPartLine name first error line =
+    (error ≢ part.Memory) × IfSome (part_line name first error) (λ told. line ≡ told)
+
+-- a file's lines are refused so
+abbrev pub IsNoPart : List ℕ → List ℕ → PartError → Fault → Type 0
+IsNoPart name first error (Refused line) = IsPartLine name first error (string_bytes line)
+IsNoPart name first error Memory = ⊤
+IsNoPart name first error _ = ⊥
+
+-- a file has this name
+abbrev pub IsNameIn : Merge → List ℕ → Type 0
+IsNameIn m name = Any (λ own. string_bytes own ≡ name) m.names.items
+
+-- one of the files cannot be read, or its lines are refused
 abbrev pub IsUntold : Merge → Fault → Type 0
-IsUntold m (Unread name) = Any (λ own. string_bytes own ≡ string_bytes name) m.names.items
-IsUntold m (Refused line) = ⊤
+IsUntold m (Unread name) = IsNameIn m (string_bytes name)
+IsUntold m (Refused line) = (name first : List ℕ) × (error : PartError)
+    × IsNameIn m name × IsPartLine name first error (string_bytes line)
 IsUntold m Memory = ⊤
 IsUntold m _ = ⊥
 

@@ -4,9 +4,11 @@ pub mod Words
 pub mod Flags
 pub mod Meant
 pub mod Wrong
+pub mod Kept
 pub mod Printed
 pub mod Summed
 pub mod Broken
 pub mod Faults
 pub mod Ends
 pub mod Statuses
+pub mod Done

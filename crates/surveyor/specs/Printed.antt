@@ -16,10 +16,11 @@ use Rattle.survey_tables.specs.Groups.{groups_of}
 use Rattle.survey_tables.specs.Pictures.{picture_text}
 use Rattle.survey_tables.specs.Tables.{table_text}
 use Rattle.shrink.specs.declared.breach.Breach.{Breach}
-use Rattle.shrink.specs.Breaches.{IsLeastBreach, statements}
+use Rattle.shrink.specs.Breaches.{IsLeastOf, IsShrunk, statements}
 use Rattle.surveyor.specs.declared.asked.Shape.{Shape}
 use Rattle.surveyor.specs.declared.asked.Shape.TheVariants.{Sums, Lines, Table, Picture, Least}
 use Rattle.surveyor.specs.declared.asked.Survey.{Survey}
+use Rattle.surveyor.specs.Kept.{File, Gains, breach_files, campaign_files}
 use Rattle.surveyor.specs.Words.{IsFamilyOf}
 
 -- what is told of campaigns in the end
@@ -49,11 +50,12 @@ abbrev pub broken_seeds : List Finding → List ℕ
 broken_seeds [] = []
 broken_seeds (f ∷ found) = cond (is_sound f.verdict) (broken_seeds found) (f.seed ∷ broken_seeds found)
 
--- the text is that of the campaigns of the seeds
-pub record IsPlayed (s : Survey) (f : Family) (text : List ℕ) : Type 0 where
+-- the text is that of the campaigns of the seeds, and the broken ones are kept
+pub record IsPlayed (s : Survey) (f : Family) (text : List ℕ) (files : List File) : Type 0 where
   pub found : List Finding
   pub all : AllZip (IsFindingOf f) (nat_range s.first (s.last + 1)) found
   pub whole : text ≡ head_in s.shape f ++ (lines_in s.shape found ++ summary_text s.shape found)
+  pub kept : files ≡ campaign_files s.keep f (broken_seeds found)
 
 -- a broken campaign of which nothing more can be taken out, as a scenario behind a comment
 abbrev pub least_head : ℕ → ℕ → ℕ → List ℕ
@@ -65,24 +67,38 @@ abbrev pub least_text : Option Breach → List ℕ
 least_text None = codes "# no campaign is broken\n"
 least_text (Some b) = least_head b.seed (length b.plot.traitors) (statements b.plot) ++ plot_text b.plot
 
--- the text is that of the least that is left of the seeds' campaigns
-pub record IsShrunken (s : Survey) (f : Family) (text : List ℕ) : Type 0 where
+-- the text is that of the least that is left of the seeds' campaigns, and what is left of the broken ones is kept
+pub record IsShrunken (s : Survey) (f : Family) (text : List ℕ) (files : List File) : Type 0 where
+  pub all : List (Option Breach)
+  pub shrunk : AllZip (IsShrunk (plot_of f)) (nat_range s.first (s.last + 1)) all
   pub found : Option Breach
-  pub least : IsLeastBreach (plot_of f) s.first (s.last + 1) found
+  pub least : IsLeastOf all found
   pub whole : text ≡ least_text found
+  pub kept : files ≡ breach_files s.keep all
 
-abbrev pub IsToldIn : Shape → Survey → Family → List ℕ → Type 0
-IsToldIn Least s f text = IsShrunken s f text
-IsToldIn _ s f text = IsPlayed s f text
+-- this is the least, and what is left of the broken ones was kept
+pub record IsLeastKept (s : Survey) (f : Family) (before after : Option (List File)) (found : Option Breach)
+    : Type 0 where
+  pub all : List (Option Breach)
+  pub shrunk : AllZip (IsShrunk (plot_of f)) (nat_range s.first (s.last + 1)) all
+  pub least : IsLeastOf all found
+  pub kept : Gains before after (breach_files s.keep all)
 
--- what is asked of a family is printed
-pub record IsPrinted (s : Survey) (f : Family) (old new : Option (List ℕ)) : Type 0 where
+abbrev pub IsToldIn : Shape → Survey → Family → List ℕ → List File → Type 0
+IsToldIn Least s f text files = IsShrunken s f text files
+IsToldIn _ s f text files = IsPlayed s f text files
+
+-- what is asked of a family is printed and kept
+pub record IsPrinted (s : Survey) (f : Family) (old new : Option (List ℕ)) (before after : Option (List File))
+    : Type 0 where
   pub text : List ℕ
-  pub told : IsToldIn s.shape s f text
+  pub files : List File
+  pub told : IsToldIn s.shape s f text files
   pub written : Appends old new text
+  pub kept : Gains before after files
 
 -- so it is with the family that is asked for
-pub record IsSurveyed (s : Survey) (old new : Option (List ℕ)) : Type 0 where
+pub record IsSurveyed (s : Survey) (old new : Option (List ℕ)) (before after : Option (List File)) : Type 0 where
   pub family : Family
   pub asked : IsFamilyOf s family
-  pub printed : IsPrinted s family old new
+  pub printed : IsPrinted s family old new before after

@@ -1,21 +1,37 @@
 -- The exit status where a survey comes to no end, or the words ask for none (docs/FORMATS.md, "Surveys").
-use Rattle.std.specs.Prelude.{ℕ, ◌≡◌, ◌≢◌, ◌⊎◌}
+use Rattle.std.specs.Prelude.{ℕ, ◌≡◌, ◌≢◌, ◌⊎◌, ◌++◌, List, Option, None, Some, codes, decimal, string_bytes}
+use Rattle.std.specs.Fmt.{◌++?◌}
 use Rattle.clap.specs.Words.{kind_of}
 use Rattle.clap.specs.declared.error.kind.ErrorKind.{ErrorKind}
 use Rattle.clap.specs.declared.error.kind.ErrorKind.TheVariants.{DisplayHelp, DisplayVersion}
+use Rattle.scenario.specs.ErrorText.{told}
+use Rattle.streams.specs.Names.{shown}
 use Rattle.surveyor.specs.declared.asked.AskedError.{AskedError}
 use Rattle.surveyor.specs.declared.asked.AskedError.TheVariants as asked
 use Rattle.surveyor.specs.declared.fault.Fault.{Fault}
-use Rattle.surveyor.specs.declared.fault.Fault.TheVariants.{Unread, Unwritten, Refused, Campaign, Words, Memory}
+use Rattle.surveyor.specs.declared.fault.Fault.TheVariants.{Unread, NotText, Unwritten, Refused, Campaign, Words, Memory}
 
 -- a file, the output or what they tell is at fault; the words are no text; memory is wanting
 abbrev pub status_of : Fault → ℕ
 status_of (Unread name) = 1
+status_of (NotText name) = 1
 status_of (Unwritten name) = 1
 status_of (Refused line) = 1
 status_of (Campaign first last error) = 1
 status_of Words = 2
 status_of Memory = 3
+
+-- what is told then; the name of a file as docs/FORMATS.md, "Faults of files", says
+abbrev pub fault_text : Fault → Option (List ℕ)
+fault_text (Unread name) = Some (codes "fault read ") ++? shown (string_bytes name)
+fault_text (NotText name) = Some (codes "fault text ") ++? shown (string_bytes name)
+fault_text (Unwritten (Some name)) = Some (codes "fault write ") ++? shown (string_bytes name)
+fault_text (Unwritten None) = Some (codes "fault write")
+fault_text (Refused line) = Some (string_bytes line)
+fault_text (Campaign first last error) = Some (codes "refused " ++ (told error
+    ++ (codes " (of seeds " ++ (decimal first ++ (codes ".." ++ (decimal last ++ codes ")"))))))
+fault_text Words = Some (codes "error: the words are not UTF-8")
+fault_text Memory = Some (codes "out of memory")
 
 -- the words are refused, and do not ask for help
 abbrev pub IsMistake : ErrorKind → Type 0
@@ -28,3 +44,9 @@ IsUnasked (asked.Words refusal) status =
 IsUnasked (asked.Value why) status = status ≡ 2
 IsUnasked asked.Rule status = status ≡ 2
 IsUnasked asked.Memory status = ⊥
+
+-- help cannot be printed, or memory is wanting
+abbrev pub IsUnhelped : AskedError → Fault → Type 0
+IsUnhelped (asked.Words refusal) fault = ¬ IsMistake (kind_of refusal)
+IsUnhelped asked.Memory fault = fault ≡ Memory
+IsUnhelped _ fault = ⊥

@@ -17,7 +17,7 @@ use verify::{VerifyError, verify};
 ///
 /// # Errors
 ///
-/// The file is not read, or refused.
+/// The file is not read, is no text, or is refused.
 pub fn family_of(rt: &HostRuntime, survey: &Survey) -> Result<Family, Fault>
     requires { IsSurvey survey.now }
     ensures family { IfOk result (IsFamilyOf survey.now) }
@@ -59,7 +59,7 @@ fn hex_of(rt: &HostRuntime, name: &str) -> Result<String, Fault>
     let bytes = bytes_of(rt, name)?;
     match str::from_utf8(bytes.as_slice()) {
         Ok(text) => program_hex(alloc, text),
-        Err(_) => Err(Fault::Unread(String::from_str(alloc, name)?)),
+        Err(_) => Err(Fault::NotText(String::from_str(alloc, name)?)),
     }
 }
 

@@ -1,16 +1,22 @@
 //! What is told where a survey comes to no end.
-ghost use Rattle.std.specs.Prelude.{◌≡◌};
-ghost use Rattle.surveyor.specs.Statuses.{status_of};
+ghost use Rattle.std.specs.Prelude.{◌≡◌, ◌⊎◌, IfSome};
+ghost use Rattle.std.specs.Fmt.{with_newline};
+ghost use Rattle.std.specs.Io.KnownBytes.{Appends};
+ghost use Rattle.surveyor.specs.Statuses.{fault_text, status_of};
 
 use scenario::ScenarioError;
 use std::alloc::{AllocError, AllocFailed};
+use std::fmt;
 use std::io::{self, ErrorKind};
+use streams::{FileName, Output};
 
 /// Why a survey comes to no end.
 #[derive(Drop)]
 pub enum Fault {
     /// A file of this name cannot be read.
     Unread(String),
+    /// A file of this name is no text in UTF-8.
+    NotText(String),
     /// A file of this name, or standard output, cannot be written.
     Unwritten(Option<String>),
     /// The text of a program or a line is refused, as this line says.
@@ -21,6 +27,27 @@ pub enum Fault {
     Words,
     /// Want of memory.
     Memory,
+}
+
+impl fmt::Display for Fault {
+    ghost use Rattle.surveyor.specs.Statuses.{fault_text};
+
+    ghost output = { fault_text };
+
+    fn fmt<W: fmt::Write>(&self, f: &mut fmt::Formatter<W>) -> fmt::Result {
+        match self {
+            Fault::Unread(name) => write!(f, "fault read {}", FileName(name.as_str())),
+            Fault::NotText(name) => write!(f, "fault text {}", FileName(name.as_str())),
+            Fault::Unwritten(Some(name)) => write!(f, "fault write {}", FileName(name.as_str())),
+            Fault::Unwritten(None) => f.write_str("fault write"),
+            Fault::Refused(line) => f.write_str(line.as_str()),
+            Fault::Campaign(first, last, error) => {
+                write!(f, "refused {error} (of seeds {first}..{last})")
+            }
+            Fault::Words => f.write_str("error: the words are not UTF-8"),
+            Fault::Memory => f.write_str("out of memory"),
+        }
+    }
 }
 
 impl From<AllocError> for Fault {
@@ -60,27 +87,22 @@ fn status_of(fault: &Fault) -> u8
     ensures { result ≡ status_of fault.now }
 {
     match fault {
-        Fault::Unread(_) | Fault::Unwritten(_) | Fault::Refused(_) | Fault::Campaign(_, _, _) => 1,
+        Fault::Unread(_)
+        | Fault::NotText(_)
+        | Fault::Unwritten(_)
+        | Fault::Refused(_)
+        | Fault::Campaign(_, _, _) => 1,
         Fault::Words => 2,
         Fault::Memory => 3,
     }
 }
 
-/// Says why on standard error. The result is the exit status; what stands there no contract can say.
-pub fn tell(rt: &HostRuntime, fault: Fault) -> u8
-    ensures { result ≡ status_of fault }
+/// Says why on standard error. The result is the exit status.
+pub fn tell<F: Output>(fault: &Fault, error: &mut F) -> u8
+    ensures status { result ≡ status_of fault.now }
+    ensures told { F.fails error.old ⊎ IfSome (with_newline (fault_text fault.now))
+        (Appends (F.contents error.old) (F.contents error.new)) }
 {
-    let status = status_of(&fault);
-    let _ = match fault {
-        Fault::Unread(name) => rt.eprintln(format_args!("fault read {name}")),
-        Fault::Unwritten(Some(name)) => rt.eprintln(format_args!("fault write {name}")),
-        Fault::Unwritten(None) => rt.eprintln("fault write"),
-        Fault::Refused(line) => rt.eprintln(line),
-        Fault::Campaign(first, last, error) => {
-            rt.eprintln(format_args!("refused {error} (of seeds {first}..{last})"))
-        }
-        Fault::Words => rt.eprintln("error: the words are not UTF-8"),
-        Fault::Memory => rt.eprintln("out of memory"),
-    };
-    status
+    let _ = error.tell(fault);
+    status_of(fault)
 }

@@ -1,10 +1,12 @@
-//! Campaigns that are kept in a folder. What files hold no contract can say.
-ghost use Rattle.std.specs.Prelude.{IfErr, string_bytes};
-ghost use Rattle.surveyor.specs.Faults.{IsUnkept, beside_name, kept_name, tried_name};
+//! Campaigns that are kept in a folder. Whether the files are still there no contract can say.
+ghost use Rattle.std.specs.Prelude.{IfErr, IfOk, string_bytes};
+ghost use Rattle.surveyor.specs.Faults.{IsUnkept, tried_name};
+ghost use Rattle.surveyor.specs.Kept.{IsFilledBy, beside_name, kept_name};
 
 use crate::fault::Fault;
+use crate::filling::{Filled, fill};
 use std::fs::{File, OpenOptions, create_dir, metadata, remove_file, rename};
-use std::io::{self, ErrorKind, Write};
+use std::io::{self, ErrorKind};
 
 /// Writes the campaign of a seed to FOLDER/SEED.toml: beside it first, so that no half of it ever stands there;
 /// where that fails, nothing is left.
@@ -12,8 +14,14 @@ use std::io::{self, ErrorKind, Write};
 /// # Errors
 ///
 /// The file cannot be written, or one stands where it is to be written first, which is told then.
-pub fn keep(rt: &HostRuntime, folder: &str, seed: u64, text: &str) -> Result<(), Fault>
-    ensures { IfErr result (IsUnkept (kept_name folder.now seed) (beside_name folder.now seed)) }
+pub fn keep<'t>(
+    rt: &HostRuntime,
+    folder: &str,
+    seed: u64,
+    text: &'t str,
+) -> Result<Filled<'t, File>, Fault>
+    ensures written { IfOk result (IsFilledBy (kept_name folder.now seed) text.now) }
+    ensures unkept { IfErr result (IsUnkept (kept_name folder.now seed) (beside_name folder.now seed)) }
 {
     let alloc = rt.alloc();
     let name = format!(in alloc; "{folder}/{seed}.toml")?;
@@ -23,7 +31,7 @@ pub fn keep(rt: &HostRuntime, folder: &str, seed: u64, text: &str) -> Result<(),
         Err(error) => Err(error),
     };
     match written {
-        Ok(()) => Ok(()),
+        Ok(filled) => Ok(filled),
         Err(error) => Err(unwritten(error.kind(), name, beside)),
     }
 }
@@ -84,15 +92,34 @@ fn new_file(rt: &HostRuntime, name: &str) -> io::Result<File> {
 }
 
 /// Writes a file beside its name, and gives it that name; where that fails, it is taken away.
-fn moved(rt: &HostRuntime, mut file: File, beside: &str, name: &str, text: &str) -> io::Result<()> {
-    let filled = file.write_all(text.as_bytes());
-    drop(file);
-    let written = match filled {
-        Ok(()) => rename(rt, beside, name),
-        Err(error) => Err(error),
-    };
+fn moved<'t>(
+    rt: &HostRuntime,
+    file: File,
+    beside: &str,
+    name: &str,
+    text: &'t str,
+) -> io::Result<Filled<'t, File>>
+    ensures { IfOk result (IsFilledBy name.now text.now) }
+{
+    let written = named(rt, file, beside, name, text);
     if written.is_err() {
         let _ = remove_file(rt, beside);
     }
     written
+}
+
+/// Writes the file, and gives it its name.
+fn named<'t>(
+    rt: &HostRuntime,
+    mut file: File,
+    beside: &str,
+    name: &str,
+    text: &'t str,
+) -> io::Result<Filled<'t, File>>
+    ensures { IfOk result (IsFilledBy name.now text.now) }
+{
+    let filled = fill(rt.alloc(), &mut file, name, text.as_bytes())?;
+    drop(file);
+    rename(rt, beside, name)?;
+    Ok(filled)
 }

@@ -4,11 +4,14 @@
 
 mod asked;
 mod breaking;
+mod ending;
 mod family;
 mod fault;
+mod filling;
 mod flags;
 mod given;
 mod input;
+mod keeper;
 mod keeping;
 mod meant;
 mod numbers;
@@ -19,71 +22,52 @@ mod shrinking;
 mod summing;
 mod surveying;
 
-ghost use Rattle.std.specs.Prelude.{IfOk};
-ghost use Rattle.surveyor.specs.Statuses.{IsUnasked};
+ghost use Rattle.std.specs.Prelude.{Result, IfErr, IfOk};
+ghost use Rattle.surveyor.specs.Done.{IsAskedBy, IsUndone};
+ghost use Rattle.surveyor.specs.Flags.{words_of};
+ghost use Rattle.surveyor.specs.declared.asked.Asked.{Asked as Wish};
+ghost use Rattle.surveyor.specs.declared.asked.AskedError.{AskedError as NoWish};
 
-use asked::{Asked, AskedError, request};
-use breaking::broken;
-use combine::Rule;
+use asked::request;
+use ending::Ending;
 use fault::{Fault, tell};
+use keeper::Disk;
 use std::env;
+use std::io::Stdout;
 use std::process::ExitCode;
 use std::thread::Threads;
-use summing::summed;
-use surveying::surveyed;
 
 fn main(rt: HostRuntime) -> ExitCode {
     let status = match called(&rt, &rt) {
-        Ok(status) => status,
-        Err(fault) => tell(&rt, fault),
+        Ok(ending) => ending.status(),
+        Err(fault) => tell(&fault, &mut rt.stderr()),
     };
     ExitCode::from(status)
 }
 
-/// Reads the words, and does what they ask for. The result is the exit status.
-fn called<T: Threads + Sync>(rt: &HostRuntime, threads: &T) -> Result<u8, Fault> {
+/// Reads the words, and does what they ask for, as the result shows: `Ending::of` alone makes it.
+fn called<'a, T: Threads + Sync>(
+    rt: &'a HostRuntime,
+    threads: &T,
+) -> Result<Ending<Stdout, Disk<'a>>, Fault> {
     let alloc = rt.alloc();
     let words: Vec<String> = env::args(rt)?.skip(1).collect(alloc)?;
     let mut texts: Vec<&str> = Vec::with_capacity(alloc, words.len())?;
     for word in &words {
         texts.push(word.as_str())?;
     }
-    match request(alloc, texts.as_slice()) {
-        Ok(Asked::Survey(survey)) => {
-            surveyed(rt, threads, &mut rt.stdout(), &survey)?;
-            Ok(0)
-        }
-        Ok(Asked::Break(survey, is_table)) => {
-            broken(rt, threads, &mut rt.stdout(), &survey, is_table)?;
-            Ok(0)
-        }
-        Ok(Asked::Merge(merge)) => summed(rt, &mut rt.stdout(), &merge),
-        Err(error) => unasked(rt, error),
-    }
+    answered(rt, threads, texts.as_slice())
 }
 
-/// Says why the words ask for nothing, or prints help. The result is the exit status.
-fn unasked(rt: &HostRuntime, error: AskedError) -> Result<u8, Fault>
-    ensures { IfOk result (IsUnasked error) }
+/// Does what these words ask for, or says why they ask for nothing.
+fn answered<'a, T: Threads + Sync>(
+    rt: &'a HostRuntime,
+    threads: &T,
+    words: &[&str],
+) -> Result<Ending<Stdout, Disk<'a>>, Fault>
+    ensures asked { IfOk result (λ ending. IsAskedBy (words_of words.now) ending.asked) }
+    ensures undone { IfErr result (λ fault. (asked : Result Wish NoWish) × IsAskedBy (words_of words.now) asked × IsUndone asked fault) }
 {
-    match error {
-        AskedError::Words(error) => {
-            if error.use_stderr() {
-                let _ = error.print(rt);
-                return Ok(2);
-            }
-            error.print(rt)?;
-            Ok(0)
-        }
-        AskedError::Value(why) => {
-            let _ = rt.eprintln(format_args!("error: {why}"));
-            Ok(2)
-        }
-        AskedError::Rule => {
-            let names = Rule::names();
-            let _ = rt.eprintln(format_args!("error: --rule takes {names}"));
-            Ok(2)
-        }
-        AskedError::Memory => Err(Fault::Memory),
-    }
+    let asked = request(rt.alloc(), words);
+    Ending::of(rt, threads, &mut rt.stdout(), &mut Disk { rt }, asked)
 }

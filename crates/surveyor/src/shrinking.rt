@@ -1,16 +1,17 @@
 //! The least of all campaigns in which agreement is broken.
-ghost use Rattle.std.specs.Prelude.{◌≡◌, ◌+◌, List, ℕ, IfErr, IfOk, OnOk, is_some, length, option_map, string_bytes};
+ghost use Rattle.std.specs.Prelude.{◌≡◌, List, ℕ, IfErr, IfOk, OnOk, count_by, flat_map, is_some, length, option_map, string_bytes};
 ghost use Rattle.std.specs.Io.KnownBytes.{Appends};
-ghost use Rattle.shrink.specs.Breaches.{IsLeastBreach, IsRefusedIn};
+ghost use Rattle.shrink.specs.Breaches.{IsRefusedIn};
 ghost use Rattle.survey.specs.Plotting.{plot_of};
 ghost use Rattle.surveyor.specs.Asked.{IsSurvey};
 ghost use Rattle.surveyor.specs.Ends.{IsStopped};
-ghost use Rattle.surveyor.specs.Faults.{IsKeptIn};
-ghost use Rattle.surveyor.specs.Printed.{IsShrunken, least_head, least_text};
+ghost use Rattle.surveyor.specs.Faults.{IsKeptIn, IsUnkeptIn};
+ghost use Rattle.surveyor.specs.Kept.{Gains, breach_file, breach_files};
+ghost use Rattle.surveyor.specs.Printed.{IsLeastKept, IsShrunken, least_head, least_text};
 
 use crate::asked::Survey;
 use crate::fault::Fault;
-use crate::keeping::keep;
+use crate::keeper::Keeper;
 use crate::pieces::{at_once, refused};
 use crate::printing::print;
 use crate::progress::Progress;
@@ -27,32 +28,36 @@ use survey::{Family, Plot, plot_text};
 ///
 /// What keeps it from its end.
 #[tactic(auto, using(crate::proofs::FaultLemmas::stopped_printing, crate::proofs::FaultLemmas::stopped_by_memory))]
-pub fn shrunken<T: Threads + Sync, O: Output>(
+pub fn shrunken<T: Threads + Sync, O: Output, K: Keeper>(
     rt: &HostRuntime,
     threads: &T,
     out: &mut O,
+    keeper: &mut K,
     asked: &Survey,
     family: &Family,
 ) -> Result<(), Fault>
     requires { IsSurvey asked.now }
-    ensures printed { OnOk result ((text : List ℕ) × IsShrunken asked.now family.now text
-        × Appends (O.contents out.old) (O.contents out.new) text) }
+    ensures printed { OnOk result ((text : List ℕ) × (files : List (List ℕ × List ℕ))
+        × IsShrunken asked.now family.now text files × Appends (O.contents out.old) (O.contents out.new) text
+        × Gains (K.files keeper.old) (K.files keeper.new) files) }
     ensures stopped { IfErr result (IsStopped asked.now (IsRefusedIn (plot_of family.now))) }
 {
-    let least = least_left(rt, threads, asked, family)?;
+    let least = least_left(rt, threads, keeper, asked, family)?;
     print(out, least_text(rt.alloc(), least.as_ref())?.as_str())
 }
 
-/// The least of what is left of the seeds' campaigns; none where none is broken.
+/// The least of what is left of the seeds' campaigns, which is kept of each; none where none is broken.
 #[tactic(auto, using(crate::proofs::FaultLemmas::stopped_keeping, crate::proofs::FaultLemmas::stopped_by_memory, crate::proofs::FaultLemmas::stopped_campaign))]
-fn least_left<T: Threads + Sync>(
+fn least_left<T: Threads + Sync, K: Keeper>(
     rt: &HostRuntime,
     threads: &T,
+    keeper: &mut K,
     asked: &Survey,
     family: &Family,
 ) -> Result<Option<Breach>, Fault>
     requires { IsSurvey asked.now }
-    ensures least { IfOk result (IsLeastBreach (plot_of family.now) asked.now.first (asked.now.last + 1)) }
+    ensures least { IfOk result
+        (IsLeastKept asked.now family.now (K.files keeper.old) (K.files keeper.new)) }
     ensures stopped { IfErr result (IsStopped asked.now (IsRefusedIn (plot_of family.now))) }
 {
     let alloc = rt.alloc();
@@ -68,7 +73,8 @@ fn least_left<T: Threads + Sync>(
             Ok(found) => found,
             Err(error) => return Err(refused(next, until, error)),
         };
-        broken = broken.saturating_add(kept(rt, asked, found.as_slice())?);
+        keep_all(rt, keeper, asked, found.as_slice())?;
+        broken = broken.saturating_add(count_broken(found.as_slice()));
         so_far = better(so_far, least(found));
         next = until;
         progress.tell(next.saturating_sub(1), broken)?;
@@ -76,22 +82,66 @@ fn least_left<T: Threads + Sync>(
     Ok(so_far)
 }
 
-/// Keeps what is left of campaigns, where a folder is named. The result is how many there are.
-#[tactic(auto, using(crate::proofs::FaultLemmas::kept_in, crate::proofs::FaultLemmas::kept_by_memory))]
-fn kept(rt: &HostRuntime, asked: &Survey, found: &[Option<Breach>]) -> Result<u64, Fault>
-    ensures { IfErr result (IsKeptIn (is_some asked.now.keep)) }
+/// How many of the campaigns are broken.
+fn count_broken(found: &[Option<Breach>]) -> u64
+    ensures { result ≡ count_by is_some found.now }
 {
-    let mut broken: u64 = 0;
-    for breach in found {
-        if let Some(breach) = breach {
-            broken = broken.saturating_add(1);
-            if let Some(folder) = &asked.keep {
-                let text = plot_text(rt.alloc(), &breach.plot)?;
-                keep(rt, folder.as_str(), breach.seed, text.as_str())?;
-            }
-        }
+    found.iter().filter(|breach| breach.is_some()).count() as u64
+}
+
+/// Keeps what is left of campaigns, where a folder is named.
+#[tactic(auto, using(crate::proofs::FaultLemmas::kept_where, crate::proofs::KeptLemmas::none_gained))]
+fn keep_all<K: Keeper>(
+    rt: &HostRuntime,
+    keeper: &mut K,
+    asked: &Survey,
+    found: &[Option<Breach>],
+) -> Result<(), Fault>
+    ensures kept { OnOk result
+        (Gains (K.files keeper.old) (K.files keeper.new) (breach_files asked.now.keep found.now)) }
+    ensures unkept { IfErr result (IsKeptIn (is_some asked.now.keep)) }
+{
+    match &asked.keep {
+        Some(folder) => keep_in(rt, keeper, folder.as_str(), found),
+        None => Ok(()),
     }
-    Ok(broken)
+}
+
+/// Keeps what is left of campaigns in this folder.
+fn keep_in<K: Keeper>(
+    rt: &HostRuntime,
+    keeper: &mut K,
+    folder: &str,
+    found: &[Option<Breach>],
+) -> Result<(), Fault>
+    ensures kept { OnOk result
+        (Gains (K.files keeper.old) (K.files keeper.new) (flat_map (breach_file folder.now) found.now)) }
+    ensures unkept { IfErr result IsUnkeptIn }
+{
+    for breach in found {
+        keep_one(rt, keeper, folder, breach.as_ref())?;
+    }
+    Ok(())
+}
+
+/// Keeps what is left of a campaign in this folder, where it is broken.
+#[tactic(auto, using(crate::proofs::FaultLemmas::unkept_one, crate::proofs::FaultLemmas::unkept_by_memory, crate::proofs::KeptLemmas::none_gained))]
+fn keep_one<K: Keeper>(
+    rt: &HostRuntime,
+    keeper: &mut K,
+    folder: &str,
+    breach: Option<&Breach>,
+) -> Result<(), Fault>
+    ensures kept { OnOk result (Gains (K.files keeper.old) (K.files keeper.new)
+        (breach_file folder.now (option_map (λ breach. breach.now) breach.entry))) }
+    ensures unkept { IfErr result IsUnkeptIn }
+{
+    let Some(breach) = breach else {
+        return Ok(());
+    };
+    let text = plot_text(rt.alloc(), &breach.plot)?;
+    keeper.keep(folder, breach.seed, text.as_str())?;
+    Ok(())
 }
 
 /// How many traitors a campaign has.

@@ -9,7 +9,7 @@ use crate::fault::Fault;
 use crate::input::bytes_of;
 use crate::printing::put_summary;
 use std::alloc::{AllocError, Global};
-use streams::Output;
+use streams::{FileName, Output};
 use survey::{Finding, PartError, Parts, read_part};
 use survey_tables::{Stretch, doubles, holes};
 
@@ -71,7 +71,7 @@ fn span_of(seeds: Option<(u64, u64)>) -> (u64, u64)
 
 /// Why a file is no part of the survey that the first one with lines begins.
 fn refused(alloc: Global, name: &str, first: &str, error: PartError) -> Fault
-    ensures { IsNoPart result }
+    ensures { IsNoPart name.now first.now error result }
 {
     match refusal(alloc, name, first, error) {
         Ok(fault) => fault,
@@ -81,19 +81,29 @@ fn refused(alloc: Global, name: &str, first: &str, error: PartError) -> Fault
 
 /// The line that says why.
 fn refusal(alloc: Global, name: &str, first: &str, error: PartError) -> Result<Fault, AllocError>
-    ensures { IfOk result IsNoPart }
+    ensures { IfOk result (IsNoPart name.now first.now error) }
 {
-    let line = match error {
-        PartError::Line(number) => format!(in alloc; "refused {name} line {number}")?,
-        PartError::Family(number) => format!(in alloc;
-            "refused {name} line {number}: another family than that of {first}"
-        )?,
-        PartError::Seed(number, seed) => format!(in alloc;
-            "refused {name} line {number}: seed {seed} is none of --seeds"
-        )?,
-        PartError::Memory => return Ok(Fault::Memory),
-    };
-    Ok(Fault::Refused(line))
+    let name = FileName(name);
+    let first = FileName(first);
+    match error {
+        PartError::Line(number) => {
+            let line = format!(in alloc; "refused {name} line {number}")?;
+            Ok(Fault::Refused(line))
+        }
+        PartError::Family(number) => {
+            let line = format!(in alloc;
+                "refused {name} line {number}: another family than that of {first}"
+            )?;
+            Ok(Fault::Refused(line))
+        }
+        PartError::Seed(number, seed) => {
+            let line = format!(in alloc;
+                "refused {name} line {number}: seed {seed} is none of --seeds"
+            )?;
+            Ok(Fault::Refused(line))
+        }
+        PartError::Memory => Ok(Fault::Memory),
+    }
 }
 
 /// These ends, or further ones, so that a seed lies within.

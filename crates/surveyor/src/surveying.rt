@@ -1,16 +1,18 @@
 //! The campaigns of a survey.
-ghost use Rattle.std.specs.Prelude.{◌≡◌, ◌≢◌, ◌++◌, IfErr, IfOk, OnOk, Some, is_some, true};
+ghost use Rattle.std.specs.Prelude.{◌≡◌, ◌≢◌, ◌++◌, IfErr, IfOk, OnOk, Some, is_some, map, true};
 ghost use Rattle.std.specs.Io.KnownBytes.{Appends};
 ghost use Rattle.surveyor.specs.Asked.{IsSurvey};
 ghost use Rattle.survey.specs.Judging.{IsRefusedIn};
 ghost use Rattle.surveyor.specs.Ends.{IsStopped, IsUnsurveyed};
-ghost use Rattle.surveyor.specs.Faults.{IsKeptIn, IsUnprinted};
+ghost use Rattle.surveyor.specs.Faults.{IsKeptIn, IsUnkeptIn, IsUnprinted};
+ghost use Rattle.surveyor.specs.Kept.{Gains, campaign_file, campaign_files};
 ghost use Rattle.surveyor.specs.Printed.{IsPrinted, IsSurveyed, added, broken_seeds, head_in, lines_in};
 
 use crate::asked::{Shape, Survey};
 use crate::family::family_of;
 use crate::fault::Fault;
-use crate::keeping::{keep, open_folder};
+use crate::keeper::Keeper;
+use crate::keeping::open_folder;
 use crate::pieces::{at_once, refused};
 use crate::printing::{print, put_summary};
 use crate::progress::Progress;
@@ -27,14 +29,16 @@ use survey_tables::lines_text;
 ///
 /// What keeps it from its end.
 #[tactic(auto, using(crate::proofs::FaultLemmas::untaken, crate::proofs::FaultLemmas::unopened, crate::proofs::FaultLemmas::unended_least, crate::proofs::FaultLemmas::unended_drawn))]
-pub fn surveyed<T: Threads + Sync, O: Output>(
+pub fn surveyed<T: Threads + Sync, O: Output, K: Keeper>(
     rt: &HostRuntime,
     threads: &T,
     out: &mut O,
+    keeper: &mut K,
     asked: &Survey,
 ) -> Result<(), Fault>
     requires { IsSurvey asked.now }
-    ensures answered { OnOk result (IsSurveyed asked.now (O.contents out.old) (O.contents out.new)) }
+    ensures answered { OnOk result
+        (IsSurveyed asked.now (O.contents out.old) (O.contents out.new) (K.files keeper.old) (K.files keeper.new)) }
     ensures refused { IfErr result (IsUnsurveyed asked.now) }
 {
     let family = family_of(rt, asked)?;
@@ -42,23 +46,26 @@ pub fn surveyed<T: Threads + Sync, O: Output>(
         open_folder(rt, folder.as_str(), asked.first)?;
     }
     if asked.shape == Shape::Least {
-        return shrunken(rt, threads, out, asked, &family);
+        return shrunken(rt, threads, out, keeper, asked, &family);
     }
-    played(rt, threads, out, asked, &family)
+    played(rt, threads, out, keeper, asked, &family)
 }
 
-/// Plays the campaigns, and prints their lines or what they come to.
+/// Plays the campaigns, keeps those that are broken, and prints their lines or what they come to.
 #[tactic(auto, using(crate::proofs::FaultLemmas::stopped_printing, crate::proofs::FaultLemmas::stopped_keeping, crate::proofs::FaultLemmas::stopped_by_memory, crate::proofs::FaultLemmas::stopped_campaign))]
-fn played<T: Threads + Sync, O: Output>(
+fn played<T: Threads + Sync, O: Output, K: Keeper>(
     rt: &HostRuntime,
     threads: &T,
     out: &mut O,
+    keeper: &mut K,
     asked: &Survey,
     family: &Family,
 ) -> Result<(), Fault>
     requires asked { IsSurvey asked.now }
     requires shape { asked.now.shape ≢ Shape.Least }
-    ensures printed { OnOk result (IsPrinted asked.now family.now (O.contents out.old) (O.contents out.new)) }
+    ensures printed { OnOk result
+        (IsPrinted asked.now family.now (O.contents out.old) (O.contents out.new) (K.files keeper.old)
+        (K.files keeper.new)) }
     ensures stopped { IfErr result (IsStopped asked.now (IsRefusedIn family.now)) }
 {
     let alloc = rt.alloc();
@@ -77,7 +84,7 @@ fn played<T: Threads + Sync, O: Output>(
         };
         put_lines(rt, out, asked.shape, found.as_slice())?;
         let seeds = broken_seeds(alloc, found.as_slice())?;
-        keep_all(rt, asked, family, seeds.as_slice())?;
+        keep_all(rt, keeper, asked, family, seeds.as_slice())?;
         broken = broken.saturating_add(seeds.len() as u64);
         add(asked.shape, &mut all, found.as_slice())?;
         next = until;
@@ -145,16 +152,40 @@ fn put_lines<O: Output>(
 }
 
 /// Keeps the campaigns of these seeds, where a folder is named.
-#[tactic(auto, using(crate::proofs::FaultLemmas::kept_in, crate::proofs::FaultLemmas::kept_by_memory))]
-fn keep_all(rt: &HostRuntime, asked: &Survey, family: &Family, seeds: &[u64]) -> Result<(), Fault>
-    ensures { IfErr result (IsKeptIn (is_some asked.now.keep)) }
+#[tactic(auto, using(crate::proofs::FaultLemmas::kept_where, crate::proofs::KeptLemmas::none_gained))]
+fn keep_all<K: Keeper>(
+    rt: &HostRuntime,
+    keeper: &mut K,
+    asked: &Survey,
+    family: &Family,
+    seeds: &[u64],
+) -> Result<(), Fault>
+    ensures kept { OnOk result
+        (Gains (K.files keeper.old) (K.files keeper.new) (campaign_files asked.now.keep family.now seeds.now)) }
+    ensures unkept { IfErr result (IsKeptIn (is_some asked.now.keep)) }
 {
-    let Some(folder) = &asked.keep else {
-        return Ok(());
-    };
+    match &asked.keep {
+        Some(folder) => keep_in(rt, keeper, folder.as_str(), family, seeds),
+        None => Ok(()),
+    }
+}
+
+/// Keeps the campaigns of these seeds in this folder.
+#[tactic(auto, using(crate::proofs::FaultLemmas::unkept_one, crate::proofs::FaultLemmas::unkept_by_memory))]
+fn keep_in<K: Keeper>(
+    rt: &HostRuntime,
+    keeper: &mut K,
+    folder: &str,
+    family: &Family,
+    seeds: &[u64],
+) -> Result<(), Fault>
+    ensures kept { OnOk result (Gains (K.files keeper.old) (K.files keeper.new)
+        (map (campaign_file folder.now family.now) seeds.now)) }
+    ensures unkept { IfErr result IsUnkeptIn }
+{
     for seed in seeds {
         let text = campaign_text(rt.alloc(), family, *seed)?;
-        keep(rt, folder.as_str(), *seed, text.as_str())?;
+        keeper.keep(folder, *seed, text.as_str())?;
     }
     Ok(())
 }

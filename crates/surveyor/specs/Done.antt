@@ -1,0 +1,38 @@
+-- What is done of what words ask for.
+use Rattle.std.specs.Prelude.{ℕ, ◌≡◌, List, [], Option, Result, Ok, Err, IfErr, IfOk}
+use Rattle.clap.specs.Words.{Text, fault_of, matches_of}
+use Rattle.surveyor.specs.Broken.{IsBreakAnswered}
+use Rattle.surveyor.specs.Ends.{IsSearchRefused, IsUnended, IsUnsurveyed}
+use Rattle.surveyor.specs.Faults.{IsUnsummed}
+use Rattle.surveyor.specs.Flags.{survey_app}
+use Rattle.surveyor.specs.Kept.{File}
+use Rattle.surveyor.specs.Meant.{Asks}
+use Rattle.surveyor.specs.Printed.{IsSurveyed}
+use Rattle.surveyor.specs.Statuses.{IsUnasked, IsUnhelped}
+use Rattle.surveyor.specs.Summed.{IsSummed}
+use Rattle.surveyor.specs.Wrong.{IsUnmet}
+use Rattle.surveyor.specs.declared.asked.Asked.{Asked}
+use Rattle.surveyor.specs.declared.asked.Asked.TheVariants.{Survey, Break, Merge}
+use Rattle.surveyor.specs.declared.asked.AskedError.{AskedError}
+use Rattle.surveyor.specs.declared.fault.Fault.{Fault}
+
+-- the words ask for this, or for nothing, since they are at fault so
+pub record IsAskedBy (words : List Text) (asked : Result Asked AskedError) : Type 0 where
+  pub found : IfOk asked (Asks (matches_of survey_app words))
+  pub taken : IfOk asked (λ _. fault_of survey_app words ≡ [])
+  pub refused : IfErr asked (IsUnmet words)
+
+-- it is done on an output and where files are kept, with this status; where nothing is asked for, nothing is
+abbrev pub IsDone : Result Asked AskedError → Option (List ℕ) → Option (List ℕ) → Option (List File) → Option (List File) → ℕ → Type 0
+IsDone (Ok (Survey s)) old new before after status = IsSurveyed s old new before after × (status ≡ 0)
+IsDone (Ok (Break s is_table)) old new before after status =
+    IsBreakAnswered s is_table old new × (after ≡ before) × (status ≡ 0)
+IsDone (Ok (Merge m)) old new before after status = IsSummed m old new status × (after ≡ before)
+IsDone (Err error) old new before after status = IsUnasked error status × (new ≡ old) × (after ≡ before)
+
+-- this keeps it from its end
+abbrev pub IsUndone : Result Asked AskedError → Fault → Type 0
+IsUndone (Ok (Survey s)) fault = IsUnsurveyed s fault
+IsUndone (Ok (Break s is_table)) fault = IsUnended s (IsSearchRefused s) fault
+IsUndone (Ok (Merge m)) fault = IsUnsummed m fault
+IsUndone (Err error) fault = IsUnhelped error fault

@@ -1,0 +1,46 @@
+-- The files of campaigns that are kept in a folder (docs/FORMATS.md, "Surveys").
+use Rattle.std.specs.Prelude.{ℕ, ◌≡◌, List, [], ◌∷◌, ◌++◌, Option, None, Some, IfSome, codes, decimal, flat_map, map, string_bytes}
+use Rattle.std.specs.Global.{Global}
+use Rattle.std.specs.Prelude.{String}
+use Rattle.survey.specs.Family.{Family}
+use Rattle.survey.specs.Wording.{campaign_text, plot_text}
+use Rattle.shrink.specs.declared.breach.Breach.{Breach}
+use Rattle.surveyor.specs.declared.filling.Filled.{Filled}
+
+-- a name, and the bytes that were written whole to the file of this name
+abbrev pub File : Type 0
+File = List ℕ × List ℕ
+
+abbrev pub file_of : {O : Type 0} → Filled O → File
+file_of filled = (string_bytes filled.name, filled.bytes.now)
+
+abbrev pub IsFilledBy : {O : Type 0} → List ℕ → List ℕ → Filled O → Type 0
+IsFilledBy name bytes filled = file_of filled ≡ (name, bytes)
+
+-- known files grow by these
+abbrev pub Gains : Option (List File) → Option (List File) → List File → Type 0
+Gains old new more = IfSome old (λ known. new ≡ Some (known ++ more))
+
+-- the file of a seed's campaign, and where it is written first
+abbrev pub kept_name : List ℕ → ℕ → List ℕ
+kept_name folder seed = folder ++ (codes "/" ++ (decimal seed ++ codes ".toml"))
+
+abbrev pub beside_name : List ℕ → ℕ → List ℕ
+beside_name folder seed = folder ++ (codes "/." ++ (decimal seed ++ codes ".toml.new"))
+
+-- the files of the campaigns of these seeds
+abbrev pub campaign_file : List ℕ → Family → ℕ → File
+campaign_file folder f seed = (kept_name folder seed, campaign_text f seed)
+
+abbrev pub campaign_files : Option (String Global) → Family → List ℕ → List File
+campaign_files None f seeds = []
+campaign_files (Some folder) f seeds = map (campaign_file (string_bytes folder) f) seeds
+
+-- the files of what is left of those that are broken
+abbrev pub breach_file : List ℕ → Option Breach → List File
+breach_file folder None = []
+breach_file folder (Some b) = (kept_name folder b.seed, plot_text b.plot) ∷ []
+
+abbrev pub breach_files : Option (String Global) → List (Option Breach) → List File
+breach_files None all = []
+breach_files (Some folder) all = flat_map (breach_file (string_bytes folder)) all

@@ -1,0 +1,118 @@
+//! How a call comes out. Only what is here makes an `Ending`: of what was done, or of words that ask for nothing.
+ghost use Rattle.std.specs.Prelude.{◌≡◌, IfErr, IfOk};
+ghost use Rattle.surveyor.specs.Asked.{IsAsked};
+ghost use Rattle.surveyor.specs.Done.{IsDone, IsUndone};
+ghost use Rattle.surveyor.specs.Statuses.{IsUnasked, IsUnhelped};
+
+use crate::asked::{Asked, AskedError};
+use crate::breaking::broken;
+use crate::fault::Fault;
+use crate::keeper::Keeper;
+use crate::summing::summed;
+use crate::surveying::surveyed;
+use combine::Rule;
+use std::marker::PhantomData;
+use std::thread::Threads;
+use streams::Output;
+
+/// How a call comes out whose output is an `O`, and whose campaigns are kept by a `K`.
+#[derive(Drop)]
+pub struct Ending<O, K> {
+    /// What the words ask for, or why they ask for nothing.
+    asked: Result<Asked, AskedError>,
+    /// The exit status.
+    status: u8,
+    output: PhantomData<O>,
+    keeper: PhantomData<K>,
+}
+
+impl<O: Output, K: Keeper> Ending<O, K> {
+    /// Does what is asked for, or says why nothing is.
+    ///
+    /// # Errors
+    ///
+    /// What keeps it from its end.
+    pub fn of<T: Threads + Sync>(
+        rt: &HostRuntime,
+        threads: &T,
+        out: &mut O,
+        keeper: &mut K,
+        asked: Result<Asked, AskedError>,
+    ) -> Result<Ending<O, K>, Fault>
+        requires { IfOk asked IsAsked }
+        ensures asked { IfOk result (λ ending. ending.asked ≡ asked) }
+        ensures done { IfOk result (λ ending.
+            IsDone asked (O.contents out.old) (O.contents out.new) (K.files keeper.old) (K.files keeper.new)
+            ending.status) }
+        ensures undone { IfErr result (IsUndone asked) }
+    {
+        let status = done(rt, threads, out, keeper, &asked)?;
+        Ok(Ending {
+            asked,
+            status,
+            output: PhantomData,
+            keeper: PhantomData,
+        })
+    }
+
+    /// The exit status.
+    pub fn status(&self) -> u8
+        ensures { result ≡ self.now.status }
+    {
+        self.status
+    }
+}
+
+/// Does what is asked for, or says why nothing is. The result is the exit status.
+fn done<T: Threads + Sync, O: Output, K: Keeper>(
+    rt: &HostRuntime,
+    threads: &T,
+    out: &mut O,
+    keeper: &mut K,
+    asked: &Result<Asked, AskedError>,
+) -> Result<u8, Fault>
+    requires { IfOk asked.now IsAsked }
+    ensures done { IfOk result
+        (IsDone asked.now (O.contents out.old) (O.contents out.new) (K.files keeper.old) (K.files keeper.new)) }
+    ensures undone { IfErr result (IsUndone asked.now) }
+{
+    match asked {
+        Ok(Asked::Survey(survey)) => {
+            surveyed(rt, threads, out, keeper, survey)?;
+            Ok(0)
+        }
+        Ok(Asked::Break(survey, is_table)) => {
+            broken(rt, threads, out, survey, *is_table)?;
+            Ok(0)
+        }
+        Ok(Asked::Merge(merge)) => summed(rt, out, merge),
+        Err(error) => unasked(rt, error),
+    }
+}
+
+/// Says why the words ask for nothing, or prints help. The result is the exit status.
+fn unasked(rt: &HostRuntime, error: &AskedError) -> Result<u8, Fault>
+    ensures status { IfOk result (IsUnasked error.now) }
+    ensures unhelped { IfErr result (IsUnhelped error.now) }
+{
+    match error {
+        AskedError::Words(error) => {
+            if error.use_stderr() {
+                let _ = error.print(rt);
+                return Ok(2);
+            }
+            error.print(rt)?;
+            Ok(0)
+        }
+        AskedError::Value(why) => {
+            let _ = rt.eprintln(format_args!("error: {why}"));
+            Ok(2)
+        }
+        AskedError::Rule => {
+            let names = Rule::names();
+            let _ = rt.eprintln(format_args!("error: --rule takes {names}"));
+            Ok(2)
+        }
+        AskedError::Memory => Err(Fault::Memory),
+    }
+}

@@ -1,0 +1,42 @@
+//! Files of campaigns that are written whole.
+ghost use Rattle.std.specs.Prelude.{IfOk, OnErr, OnOk};
+ghost use Rattle.std.specs.Io.KnownBytes.{Appends};
+ghost use Rattle.streams.specs.Writing.{AppendsFront};
+ghost use Rattle.surveyor.specs.Kept.{IsFilledBy};
+
+use std::alloc::Global;
+use std::io;
+use std::marker::PhantomData;
+use streams::Output;
+
+/// That bytes were written whole to an `O`, for the file of this name: `fill` alone tells it.
+#[derive(Drop)]
+pub struct Filled<'a, O> {
+    name: String,
+    bytes: &'a [u8],
+    stream: PhantomData<O>,
+}
+
+/// Writes all of the file of this name.
+///
+/// # Errors
+///
+/// A write that failed, or want of memory.
+pub fn fill<'a, O: Output>(
+    alloc: Global,
+    file: &mut O,
+    name: &str,
+    bytes: &'a [u8],
+) -> io::Result<Filled<'a, O>>
+    ensures whole { OnOk result (Appends (O.contents file.old) (O.contents file.new) bytes.now) }
+    ensures begun { OnErr result (AppendsFront (O.contents file.old) (O.contents file.new) bytes.now) }
+    ensures told { IfOk result (IsFilledBy name.now bytes.now) }
+{
+    let name = String::from_str(alloc, name)?;
+    file.put(bytes)?;
+    Ok(Filled {
+        name,
+        bytes,
+        stream: PhantomData,
+    })
+}

@@ -1,0 +1,52 @@
+//! What takes the files of campaigns.
+use crate::fault::Fault;
+use crate::filling::Filled;
+use crate::keeping::keep;
+use std::fs::File;
+
+/// What takes the files of campaigns.
+pub trait Keeper {
+    ghost use Rattle.std.specs.Prelude.{ℕ, List, [], ◌∷◌, Option, IfErr, IfOk, OnOk};
+    ghost use Rattle.surveyor.specs.Faults.{IsUnkept};
+    ghost use Rattle.surveyor.specs.Kept.{Gains, IsFilledBy, beside_name, kept_name};
+
+    // The names and the bytes of the files that it has taken, where they are known.
+    ghost files: { Self → Option (List (List ℕ × List ℕ)) };
+
+    /// Writes the campaign of a seed to FOLDER/SEED.toml.
+    ///
+    /// # Errors
+    ///
+    /// The file cannot be written, or one stands where it is to be written first, which is told then.
+    fn keep<'t>(
+        &mut self,
+        folder: &str,
+        seed: u64,
+        text: &'t str,
+    ) -> Result<Filled<'t, File>, Fault>
+        ensures kept { OnOk result
+            (Gains (files self.old) (files self.new) ((kept_name folder.now seed, text.now) ∷ [])) }
+        ensures written { IfOk result (IsFilledBy (kept_name folder.now seed) text.now) }
+        ensures unkept { IfErr result (IsUnkept (kept_name folder.now seed) (beside_name folder.now seed)) };
+}
+
+/// The file system.
+#[derive(Drop)]
+pub struct Disk<'a> {
+    pub rt: &'a HostRuntime,
+}
+
+impl Keeper for Disk<'_> {
+    ghost use Rattle.std.specs.Prelude.{None};
+
+    ghost files = { λ _. None };
+
+    fn keep<'t>(
+        &mut self,
+        folder: &str,
+        seed: u64,
+        text: &'t str,
+    ) -> Result<Filled<'t, File>, Fault> {
+        keep(self.rt, folder, seed, text)
+    }
+}
