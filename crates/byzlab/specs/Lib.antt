@@ -2,3 +2,4 @@ pub mod Beside
 pub mod Failures
 pub mod Files
 pub mod Kept
+pub mod Turns

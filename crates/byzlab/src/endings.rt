@@ -1,10 +1,11 @@
 //! How requests come out that are done one behind another.
-ghost use Rattle.std.specs.Prelude.{◌≡◌, ◌+◌, ◌<◌, ◌^◌, false, max};
+ghost use Rattle.std.specs.Prelude.{◌≡◌, ◌+◌, ◌<◌, ◌^◌, None, Some, false, max};
 
 use crate::ending::Ending;
+use crate::unasked::Unasked;
 
 /// How requests came out that were done one behind another. Only what is here makes it: of none, of one more ending, of
-/// words that ask for nothing.
+/// words behind them that ask for nothing.
 #[derive(Drop)]
 pub struct Endings {
     /// How many requests they are.
@@ -13,6 +14,8 @@ pub struct Endings {
     worst: u8,
     /// Whether the last one's output failed, so that no further answer can be written.
     is_unwritten: bool,
+    /// The words behind them that ask for nothing, where such ended them.
+    unasked: Option<Unasked>,
 }
 
 impl Endings {
@@ -21,11 +24,13 @@ impl Endings {
         ensures count { result.count ≡ 0 }
         ensures worst { result.worst ≡ 0 }
         ensures written { result.is_unwritten ≡ false }
+        ensures unasked { result.unasked ≡ None }
     {
         Endings {
             count: 0,
             worst: 0,
             is_unwritten: false,
+            unasked: None,
         }
     }
 
@@ -35,22 +40,25 @@ impl Endings {
         ensures count { self.new.count ≡ self.old.count + 1 }
         ensures worst { self.new.worst ≡ max self.old.worst ending.status }
         ensures unwritten { self.new.is_unwritten ≡ ending.is_unwritten }
+        ensures unasked { self.new.unasked ≡ self.old.unasked }
     {
         self.count += 1;
         self.worst = worse(self.worst, ending.status());
         self.is_unwritten = ending.is_unwritten();
     }
 
-    /// These, and the exit status of words behind them that ask for nothing.
-    pub fn with_unasked(self, status: u8) -> Endings
+    /// These, and words behind them that ask for nothing.
+    pub fn with_unasked(self, unasked: Unasked) -> Endings
         ensures count { result.count ≡ self.count }
-        ensures worst { result.worst ≡ max self.worst status }
+        ensures worst { result.worst ≡ max self.worst unasked.status }
         ensures unwritten { result.is_unwritten ≡ self.is_unwritten }
+        ensures unasked { result.unasked ≡ Some unasked }
     {
         Endings {
             count: self.count,
-            worst: worse(self.worst, status),
+            worst: worse(self.worst, unasked.status()),
             is_unwritten: self.is_unwritten,
+            unasked: Some(unasked),
         }
     }
 

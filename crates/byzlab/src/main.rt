@@ -13,21 +13,25 @@ mod progress;
 mod target;
 mod telling;
 mod told;
+mod unasked;
 mod watched;
 
-ghost use Rattle.std.specs.Prelude.{◌≡◌, ◌≢◌, ◌≤◌, ◌⊎◌, ◌↔◌, Any, Ok, IfOk, IfErr, IfNone, IfSome, IsErr, IsUtf8, None, Some, false, length, option_map, true};
+ghost use Rattle.std.specs.Prelude.{◌≡◌, ◌≢◌, ◌≤◌, ◌⊎◌, ◌↔◌, Any, Ok, IfOk, IfErr, IfNone, IfSome, IsErr, IsUtf8, List, None, Some, false, length, option_map, true};
 ghost use Rattle.std.specs.Result.{result_ok};
+ghost use Rattle.command_line.specs.Asked.{words_of};
 ghost use Rattle.command_line.specs.Tasks.{file_of, folder_of, schedule_target_of, second_of, seed_of, target_of};
+ghost use Rattle.command_line.specs.Usage.{Text};
 ghost use Rattle.neighbours.specs.Seen.{reads_scenario};
 ghost use Rattle.neighbours.specs.Story.{with_story};
 ghost use Rattle.faults.specs.declared.failure.Failure.TheVariants.{Read as unreadable};
 ghost use Rattle.own_lines.specs.Refused.{IsTold};
 ghost use Rattle.byzlab.specs.Files.{IsInputIf, IsOpened, IsSecondIf, IsSeededIf, IsSeen, IsServedFor, IsTargetOf, IsTextOf};
 ghost use Rattle.byzlab.specs.Kept.{IsUnexplored, KeepsIn};
-ghost use Rattle.byzlab.specs.Failures.{AsksNothing, IsStatus, IsUnasked, IsUnreadable};
+ghost use Rattle.byzlab.specs.Failures.{AsksNothing, IsStatus, IsUnreadable};
+ghost use Rattle.byzlab.specs.Turns.{AreDone, AreEndingsOf};
 
 use chance::seeded;
-use command_line::{Request, Task, TaskError, each};
+use command_line::{Request, Task, each};
 use ending::{Ending, Printed, Served, lacking, settled};
 use endings::Endings;
 use failures::why_unwritten;
@@ -41,13 +45,14 @@ use progress::Progress;
 use std::alloc::AllocError;
 use std::env;
 use std::fs::File;
-use std::io::{self, Cursor, ErrorKind, Read, Stdin};
+use std::io::{self, Cursor, Read, Stdin};
 use std::process::ExitCode;
 use std::sync::Wait;
 use std::thread::Threads;
 use target::{Target, target_of};
 use telling::{Unread, tell_unread, tell_untaken, turn_down};
 use told::Said;
+use unasked::Unasked;
 use watched::Watched;
 
 fn main(rt: HostRuntime) -> ExitCode {
@@ -60,7 +65,8 @@ fn main(rt: HostRuntime) -> ExitCode {
 
 /// Reads the words, and does each request of theirs, up to the first that is none or whose output fails.
 fn called<T: Threads + Wait + Sync>(rt: &HostRuntime, threads: &T) -> io::Result<Endings>
-    ensures { IfOk result (λ endings. endings.worst ≤ 3) }
+    ensures status { IfOk result (λ endings. endings.worst ≤ 3) }
+    ensures done { IfOk result (λ endings. (words : List Text) × AreDone words endings) }
 {
     let alloc = rt.alloc();
     let words: Vec<String> = env::args(rt)?.skip(1).collect(alloc)?;
@@ -68,7 +74,19 @@ fn called<T: Threads + Wait + Sync>(rt: &HostRuntime, threads: &T) -> io::Result
     for word in &words {
         texts.push(word.as_str())?;
     }
-    let requests = each(alloc, texts.as_slice())?;
+    done_each(rt, threads, texts.as_slice())
+}
+
+/// Does each request that the words make, up to the first that is none or whose output fails.
+fn done_each<T: Threads + Wait + Sync>(
+    rt: &HostRuntime,
+    threads: &T,
+    words: &[&str],
+) -> io::Result<Endings>
+    ensures status { IfOk result (λ endings. endings.worst ≤ 3) }
+    ensures done { IfOk result (AreDone (words_of words.now)) }
+{
+    let requests = each(rt.alloc(), words)?;
     in_turn(rt, threads, requests.as_slice())
 }
 
@@ -79,6 +97,7 @@ fn in_turn<T: Threads + Wait + Sync>(
     requests: &[Vec<&str>],
 ) -> io::Result<Endings>
     ensures status { IfOk result (λ endings. endings.worst ≤ 3) }
+    ensures done { IfOk result (AreEndingsOf requests.now) }
     ensures all { IfOk result (λ endings. (endings.count ≡ length requests.now)
         ⊎ ((endings.is_unwritten ≡ true) ⊎ Any (λ words. AsksNothing words.items) requests.now)) }
     ensures unasked { IfOk result
@@ -89,7 +108,7 @@ fn in_turn<T: Threads + Wait + Sync>(
     for words in requests {
         let request = match command_line::request(rt.alloc(), words.as_slice()) {
             Ok(request) => request,
-            Err(error) => return Ok(endings.with_unasked(unasked(rt, error)?)),
+            Err(error) => return Ok(endings.with_unasked(Unasked::told(rt, error)?)),
         };
         let _ = progress.clear();
         endings.enter(ended(rt, threads, &request));
@@ -278,27 +297,6 @@ fn random<'a>(rt: &HostRuntime, task: &Task) -> Result<Option<Input<'a>>, AllocE
     };
     let schedule = seeded(rt.alloc(), seed)?;
     Ok(Some(Opened::Text(Cursor::new(schedule.into_bytes()))))
-}
-
-/// Says why the words name no task, or prints help. The result is the exit status.
-fn unasked(rt: &HostRuntime, error: TaskError) -> io::Result<u8>
-    ensures { IfOk result (IsUnasked error) }
-{
-    match error {
-        TaskError::Words(error) => {
-            if error.use_stderr() {
-                let _ = error.print(rt);
-                return Ok(2);
-            }
-            error.print(rt)?;
-            Ok(0)
-        }
-        error @ TaskError::Misuse(_) => {
-            let _ = rt.eprintln(error);
-            Ok(2)
-        }
-        TaskError::Memory => Err(io::Error::from(ErrorKind::OutOfMemory)),
-    }
 }
 
 /// The first file, in which a scenario has the files that it names; or that a line was told, where one of them is not

@@ -1,4 +1,4 @@
-use Rattle.std.specs.Prelude.{◌≡◌}
+use Rattle.std.specs.Prelude.{◌≡◌, None}
 use Rattle.byzlab.specs.Failures.{IsStatus}
 use Rattle.byzlab.proofs.in_turn.Given as goal
 
@@ -6,4 +6,5 @@ abbrev pub invariant-loop-words : goal.invariant-loop-words
 invariant-loop-words g l = record {
   status : IsStatus l.endings.worst;
   count : l.endings.count ≡ l.words-index;
+  asked : l.endings.unasked ≡ None;
 }

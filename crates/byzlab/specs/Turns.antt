@@ -1,0 +1,43 @@
+-- How requests come out that are done one behind another.
+use Rattle.std.specs.Prelude.{ℕ, ◌≡◌, ◌≤◌, ◌<◌, ◌⊎◌, List, Option, IfSome, IsSome, IsSomeAnd, Vec, length, map, slice_index_or, true}
+use Rattle.std.specs.Borrow.{Bor}
+use Rattle.std.specs.Global.{Global}
+use Rattle.clap.specs.Words.{IsAmong, fault_of, kind_of}
+use Rattle.command_line.specs.Asked.{asked, spelt, words_of}
+use Rattle.command_line.specs.Lab.{lab_app}
+use Rattle.command_line.specs.Several.{requests_of}
+use Rattle.command_line.specs.Tasks.{IfMisuse, IfRefused, IfWords, IsMisused}
+use Rattle.command_line.specs.Usage.{Text}
+use Rattle.command_line.specs.declared.errors.TaskError.{TaskError}
+use Rattle.byzlab.specs.Failures.{AsksNothing, IsUnasked}
+use Rattle.byzlab.specs.declared.endings.Endings.{Endings}
+use Rattle.byzlab.specs.declared.unasked.Unasked.{Unasked}
+
+-- the words ask for nothing, and have such an error
+pub record IsErrorOf (words : List (Bor Text)) (error : TaskError) : Type 0 where
+  pub nothing : AsksNothing words
+  pub kind : IfWords error (λ refusal. IsAmong (kind_of refusal) (fault_of lab_app (words_of words)))
+  pub misused : IfMisuse error (λ misuse. IsSomeAnd (spelt (words_of words)) (λ told. IsMisused told misuse))
+
+-- this was told of these words
+abbrev pub IsToldOf : List (Bor Text) → Unasked → Type 0
+IsToldOf words unasked = IsErrorOf words unasked.error × IsUnasked unasked.error unasked.status
+
+-- it was told of the words at this place
+abbrev pub IsToldAt : ℕ → List (Vec (Bor Text) Global) → Unasked → Type 0
+IsToldAt place requests unasked =
+    (words : Vec (Bor Text) Global) × (place < length requests) × (slice_index_or requests place words ≡ words)
+    × IsToldOf words.items unasked
+
+-- so many requests were done: all, unless the last one's output failed, or the next words ask for nothing
+pub record AreEndingsOf (requests : List (Vec (Bor Text) Global)) (endings : Endings) : Type 0 where
+  pub few : endings.count ≤ length requests
+  pub all : (endings.count ≡ length requests) ⊎ ((endings.is_unwritten ≡ true) ⊎ IsSome endings.unasked)
+  pub unasked : IfSome endings.unasked (λ unasked.
+      (unasked.status ≤ endings.worst) × IsToldAt endings.count requests unasked)
+
+-- the same, of the requests that these words make
+abbrev pub AreDone : List Text → Endings → Type 0
+AreDone words endings =
+    (requests : List (Vec (Bor Text) Global))
+    × (map (λ request. words_of request.items) requests ≡ requests_of words) × AreEndingsOf requests endings
