@@ -7,7 +7,6 @@ mod breaking;
 mod ending;
 mod family;
 mod fault;
-mod filling;
 mod flags;
 mod given;
 mod input;
