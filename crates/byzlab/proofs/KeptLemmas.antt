@@ -4,10 +4,11 @@ use Rattle.std.specs.Prelude.{Result, Ok, Err, IfErr, String, string_bytes}
 use Rattle.std.specs.Global.{Global}
 use Rattle.std.proofs.lemmas.List.{drop_all}
 use Rattle.std.specs.Result.{IsErrAnd}
+use Rattle.streams.specs.Filling.{file_of}
+use Rattle.streams.specs.declared.filling.Filled.{Filled}
 use Rattle.byzlab.specs.declared.keeping.Unkept.{Unkept}
 use Rattle.byzlab.specs.declared.keeping.Unkept.TheVariants.{Memory, Unwritten}
-use Rattle.byzlab.specs.declared.filling.Filled.{Filled}
-use Rattle.byzlab.specs.Kept.{IsKeptIn, Tells, file_of, kept_files, scenario_name, schedule_files, schedule_name}
+use Rattle.byzlab.specs.Kept.{IsKeptIn, Tells, kept_files, scenario_name, schedule_files, schedule_name}
 
 -- these files are written, and behind them come the schedules that are left
 abbrev pub AreKeptTo : {O : Type 0} → List ℕ → List ℕ → List (String Global) → List (String Global) → ℕ → List (Filled O) → Type 0

@@ -3,6 +3,8 @@ use Rattle.std.specs.Prelude.{ℕ, suc, ◌≡◌, ◌≢◌, ◌≤◌, ◌⊎�
 use Rattle.std.specs.declared.io.ErrorKind.{ErrorKind}
 use Rattle.std.specs.declared.io.ErrorKind.TheVariants.{OutOfMemory}
 use Rattle.std.specs.Global.{Global}
+use Rattle.streams.specs.Filling.{IsFilledBy, file_of}
+use Rattle.streams.specs.declared.filling.Filled.{Filled}
 use Rattle.command_line.specs.declared.tasks.Task.{Task}
 use Rattle.command_line.specs.declared.tasks.Task.TheVariants.{Explore}
 use Rattle.command_line.specs.Tasks.{schedule_target_of, seed_of}
@@ -12,16 +14,8 @@ use Rattle.campaign_tasks.specs.Exploring.{KeepsOrders}
 use Rattle.inputs.specs.Refusals.{RefusesScenario, RefusesText}
 use Rattle.inputs.specs.declared.refusal.Refusal.{Refusal}
 use Rattle.inputs.specs.declared.refusal.Refusal.TheVariants as refusal
-use Rattle.byzlab.specs.declared.filling.Filled.{Filled}
 use Rattle.byzlab.specs.declared.keeping.Unkept.{Unkept}
 use Rattle.byzlab.specs.declared.keeping.Unkept.TheVariants.{Memory, Unwritten}
-
--- a file's name, and the bytes that were written whole
-abbrev pub file_of : {O : Type 0} → Filled O → List ℕ × List ℕ
-file_of filled = (string_bytes filled.name, filled.bytes.now)
-
-abbrev pub IsFilledBy : {O : Type 0} → List ℕ → List ℕ → Filled O → Type 0
-IsFilledBy name bytes filled = file_of filled ≡ (name, bytes)
 
 -- the schedule of the task's seed was written, for the file that the task names
 abbrev pub IsScheduleKept : {O : Type 0} → Task → Filled O → Type 0

@@ -11,7 +11,6 @@ ghost use Rattle.byzlab.specs.Failures.{IsStatus, IsTurnedDown, failure_of};
 ghost use Rattle.byzlab.specs.Files.{IsServedFor, IsTargetOf, IsTextOf};
 ghost use Rattle.byzlab.specs.Kept.{IsExplorationKept, IsScheduleKept, IsUnexplored};
 
-use crate::filling::Filled;
 use crate::input::Input;
 use crate::keeping::Unkept;
 use crate::target::Target;
@@ -27,7 +26,7 @@ use std::io::{ErrorKind, Write};
 use std::snapshot::Snapshot;
 use std::sync::Wait;
 use std::thread::Threads;
-use streams::{Output, Source};
+use streams::{Filled, Output, Source};
 
 /// How a request came out.
 #[derive(Drop)]

@@ -1,11 +1,12 @@
 //! Files that are written besides an answer.
 ghost use Rattle.std.specs.Prelude.{◌≡◌, ◌++◌, ◌∷◌, [], IfErr, IfOk, OnOk, length, map, string_bytes};
-ghost use Rattle.byzlab.specs.Kept.{IsFilledBy, IsKeptIn, IsUnwritten, Tells, file_of, kept_files, name_beside, schedule_name};
+ghost use Rattle.streams.specs.Filling.{IsFilledBy, file_of};
+ghost use Rattle.byzlab.specs.Kept.{IsKeptIn, IsUnwritten, Tells, kept_files, name_beside, schedule_name};
 
-use crate::filling::{Filled, fill};
 use std::alloc::{AllocError, Global};
 use std::fs::{File, create_dir, metadata, remove_file, rename, symlink_metadata};
 use std::io::{self, ErrorKind};
+use streams::{Filled, fill};
 
 /// Why a file was not written.
 #[derive(Drop)]

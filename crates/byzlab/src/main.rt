@@ -5,7 +5,6 @@
 mod ending;
 mod endings;
 mod failures;
-mod filling;
 mod folder;
 mod input;
 mod keeping;

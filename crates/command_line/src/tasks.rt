@@ -268,7 +268,7 @@ impl Accesses {
 
 impl Task {
     ghost use Rattle.std.specs.Prelude.{◌≡◌, option_map};
-    ghost use Rattle.command_line.specs.Tasks.{file_of, folder_of, schedule_target_of, second_of, seed_of, target_of};
+    ghost use Rattle.command_line.specs.Tasks.{file_of, schedule_target_of, second_of, seed_of, target_of};
 
     /// The name of the only file, or of the first; none where the task reads no file.
     pub fn file(&self) -> Option<&str>
@@ -336,16 +336,6 @@ impl Task {
     {
         match self {
             Task::Play { turns, .. } => turns.target(),
-            _ => None,
-        }
-    }
-
-    /// The name of the folder that what comes out is kept in, where one is named.
-    pub fn folder(&self) -> Option<&str>
-        ensures { option_map (λ folder. folder.now) result ≡ folder_of self.now }
-    {
-        match self {
-            Task::Explore { folder, .. } => folder.as_deref(),
             _ => None,
         }
     }

@@ -1,11 +1,12 @@
 //! The chronicles of campaigns that bytes tell. Whether they are a text is asked only where they tell none.
-ghost use Rattle.std.specs.Prelude.{◌≡◌, IfOk, IfErr};
+ghost use Rattle.std.specs.Prelude.{◌≡◌, ◌≢◌, IfOk, IfErr, None, false};
 ghost use Rattle.std.specs.Str.{IsUtf8};
 ghost use Rattle.scenario.specs.declared.messages.Campaign.TheVariants.{Oral, Signed};
+ghost use Rattle.trace.specs.Audit.{version_named};
 ghost use Rattle.trace.specs.Laws.{IsSoundText};
 ghost use Rattle.trace.specs.Names.{chronicle_told};
-ghost use Rattle.trace.specs.SignedAudit.{IsSoundSignedText, signed_chronicle_told};
-ghost use Rattle.inputs.specs.declared.refusal.Refusal.TheVariants.{NotText};
+ghost use Rattle.trace.specs.SignedAudit.{IsSoundSignedText, is_third_version, signed_chronicle_told};
+ghost use Rattle.inputs.specs.declared.refusal.Refusal.TheVariants.{Memory, NotText};
 ghost use Rattle.inputs.specs.Refusals.{RefusesChronicle, RefusesText};
 
 use crate::refusal::Refusal;
@@ -19,7 +20,8 @@ use world::Chronicle;
 ///
 /// # Errors
 ///
-/// That the bytes are no text, or the first line that is not the chronicle's, or want of memory.
+/// That the bytes are no text, or the first line that is not the chronicle's, or, where they name a version, want of
+/// memory.
 pub fn sound_chronicle(
     alloc: Global,
     scenario: &Scenario,
@@ -29,6 +31,7 @@ pub fn sound_chronicle(
     ensures chronicle { IfOk result (λ chronicle. chronicle ≡ chronicle_told scenario.now bytes.now) }
     ensures refused { IfErr result (RefusesText (RefusesChronicle (Oral scenario.now)) bytes.now) }
     ensures none { IfErr result (λ refusal. (IsUtf8 bytes.now → ⊥) → refusal ≡ NotText) }
+    ensures unnamed { IfErr result (λ refusal. version_named scenario.now.rule bytes.now ≡ None → refusal ≢ Memory) }
 {
     match trace::sound_chronicle(alloc, scenario, bytes) {
         Ok(chronicle) => Ok(chronicle),
@@ -53,6 +56,7 @@ pub fn sound_signed_chronicle(
     ensures chronicle { IfOk result (λ chronicle. chronicle ≡ signed_chronicle_told scenario.now bytes.now) }
     ensures refused { IfErr result (RefusesText (RefusesChronicle (Signed scenario.now)) bytes.now) }
     ensures none { IfErr result (λ refusal. (IsUtf8 bytes.now → ⊥) → refusal ≡ NotText) }
+    ensures unnamed { IfErr result (λ refusal. is_third_version bytes.now ≡ false → refusal ≢ Memory) }
 {
     match trace::sound_signed_chronicle(alloc, scenario, bytes) {
         Ok(chronicle) => Ok(chronicle),

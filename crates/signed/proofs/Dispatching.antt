@@ -1,7 +1,7 @@
 -- Of what entries and letters send: whose signature a chain ends with, what comes to whom, and how many chains there are.
 use Rattle.std.proofs.Common.{◌≡◌, ℕ, zero, suc, ◌+◌, ◌<◌, ◌≤◌, Bool, true, false, not, cond, List, [], ◌∷◌, ◌++◌, map, length, refl, sym, ap, ◌∙◌, arith, inl, inr, length-append, append-nil, append_assoc, get_or, take, Option, None, Some}
-use Rattle.std.specs.Prelude.{filter, slice_get, is_some, nat_lt, ◌==◌, ◌⊎◌}
-use Rattle.std.proofs.lemmas.Bool.{cases_Bool, and_parts, ltb-true, eqb-true, not_from_false, not_from_true, or_left, or_right, or_cases, false_from_ne_true}
+use Rattle.std.specs.Prelude.{filter, slice_get, ◌==◌, ◌⊎◌}
+use Rattle.std.proofs.lemmas.Bool.{cases_Bool, eqb-true, not_from_false, not_from_true, or_left, or_right, or_cases, false_from_ne_true}
 use Rattle.std.proofs.lemmas.List.{take_more}
 use Rattle.label.specs.Labels.{on, generals, others}
 use Rattle.label.proofs.Counting.{range-on, others-on}

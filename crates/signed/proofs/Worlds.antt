@@ -17,7 +17,7 @@ use Rattle.letter.proofs.Lists.{some_at}
 use Rattle.world.specs.declared.event.Event.{Event}
 use Rattle.world.specs.Kind.{loyal_letter}
 use Rattle.world.specs.Safety.{IsMade, IsLetterIn}
-use Rattle.world.specs.Campaigns.{IsCampaign, AreCampaigns}
+use Rattle.world.specs.Campaigns.{AreCampaigns}
 use Rattle.world.proofs.Arranged.{snoc}
 use Rattle.world.proofs.Kept.{Tells}
 use Rattle.world.proofs.Standing.{standing}

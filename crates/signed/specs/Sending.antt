@@ -1,7 +1,7 @@
 -- How code holds what was sent (own). No claim rests on this but what `SignedChronicle::sent` lends (`named`,
 -- `dispatch_of`):
 -- what is sent, Entries.antt and Sent.antt say.
-use Rattle.std.specs.Prelude.{ℕ, suc, ◌≡◌, ◌≤◌, ◌==◌, ◌<◌, ◌-◌, nat_lt, cond, Bool, List, [], ◌∷◌, ◌++◌, map, filter, flat_map, take, drop, All, length, Option, Some, None, slice_get}
+use Rattle.std.specs.Prelude.{ℕ, suc, ◌≡◌, ◌==◌, ◌-◌, nat_lt, cond, Bool, List, [], ◌∷◌, ◌++◌, map, filter, flat_map, take, All, length, Option, Some, None, slice_get}
 use Rattle.std.specs.Borrow.{Bor}
 use Rattle.std.specs.Int.{bit_at}
 use Rattle.insn.specs.declared.insn.Insn.{Insn}

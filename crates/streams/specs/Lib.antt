@@ -1,3 +1,4 @@
+pub mod Filling
 pub mod Names
 pub mod Reading
 pub mod Writing

@@ -1,6 +1,7 @@
 //! The files that a program reads and the streams that it writes, with what is said where a call fails.
 #![tactic(auto)]
 
+mod filling;
 mod flushing;
 mod interrupted;
 mod name;
@@ -11,6 +12,7 @@ mod texts;
 mod within;
 mod writing;
 
+pub use filling::{Filled, fill};
 pub use name::FileName;
 pub use output::Output;
 pub use source::Source;

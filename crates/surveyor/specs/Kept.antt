@@ -5,17 +5,10 @@ use Rattle.std.specs.Prelude.{String}
 use Rattle.survey.specs.Family.{Family}
 use Rattle.survey.specs.Wording.{campaign_text, plot_text}
 use Rattle.shrink.specs.declared.breach.Breach.{Breach}
-use Rattle.surveyor.specs.declared.filling.Filled.{Filled}
 
 -- a name, and the bytes that were written whole to the file of this name
 abbrev pub File : Type 0
 File = List ℕ × List ℕ
-
-abbrev pub file_of : {O : Type 0} → Filled O → File
-file_of filled = (string_bytes filled.name, filled.bytes.now)
-
-abbrev pub IsFilledBy : {O : Type 0} → List ℕ → List ℕ → Filled O → Type 0
-IsFilledBy name bytes filled = file_of filled ≡ (name, bytes)
 
 -- known files grow by these
 abbrev pub Gains : Option (List File) → Option (List File) → List File → Type 0

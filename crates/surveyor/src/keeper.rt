@@ -1,14 +1,15 @@
 //! What takes the files of campaigns.
 use crate::fault::Fault;
-use crate::filling::Filled;
 use crate::keeping::keep;
 use std::fs::File;
+use streams::Filled;
 
 /// What takes the files of campaigns.
 pub trait Keeper {
     ghost use Rattle.std.specs.Prelude.{ℕ, List, [], ◌∷◌, Option, IfErr, IfOk, OnOk};
+    ghost use Rattle.streams.specs.Filling.{IsFilledBy};
     ghost use Rattle.surveyor.specs.Faults.{IsUnkept};
-    ghost use Rattle.surveyor.specs.Kept.{Gains, IsFilledBy, beside_name, kept_name};
+    ghost use Rattle.surveyor.specs.Kept.{Gains, beside_name, kept_name};
 
     // The names and the bytes of the files that it has taken, where they are known.
     ghost files: { Self → Option (List (List ℕ × List ℕ)) };

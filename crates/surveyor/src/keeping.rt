@@ -1,12 +1,13 @@
 //! Campaigns that are kept in a folder. Whether the files are still there no contract can say.
 ghost use Rattle.std.specs.Prelude.{IfErr, IfOk, string_bytes};
+ghost use Rattle.streams.specs.Filling.{IsFilledBy};
 ghost use Rattle.surveyor.specs.Faults.{IsUnkept, tried_name};
-ghost use Rattle.surveyor.specs.Kept.{IsFilledBy, beside_name, kept_name};
+ghost use Rattle.surveyor.specs.Kept.{beside_name, kept_name};
 
 use crate::fault::Fault;
-use crate::filling::{Filled, fill};
 use std::fs::{File, OpenOptions, create_dir, metadata, remove_file, rename};
 use std::io::{self, ErrorKind};
+use streams::{Filled, fill};
 
 /// Writes the campaign of a seed to FOLDER/SEED.toml: beside it first, so that no half of it ever stands there;
 /// where that fails, nothing is left.

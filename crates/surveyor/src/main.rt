@@ -7,7 +7,6 @@ mod breaking;
 mod ending;
 mod family;
 mod fault;
-mod filling;
 mod flags;
 mod given;
 mod input;
@@ -22,7 +21,8 @@ mod shrinking;
 mod summing;
 mod surveying;
 
-ghost use Rattle.std.specs.Prelude.{Result, IfErr, IfOk};
+ghost use Rattle.std.specs.Prelude.{List, Result, IfErr, IfOk};
+ghost use Rattle.clap.specs.Words.{Text};
 ghost use Rattle.surveyor.specs.Done.{IsAskedBy, IsUndone};
 ghost use Rattle.surveyor.specs.Flags.{words_of};
 ghost use Rattle.surveyor.specs.declared.asked.Asked.{Asked as Wish};
@@ -49,7 +49,9 @@ fn main(rt: HostRuntime) -> ExitCode {
 fn called<'a, T: Threads + Sync>(
     rt: &'a HostRuntime,
     threads: &T,
-) -> Result<Ending<Stdout, Disk<'a>>, Fault> {
+) -> Result<Ending<Stdout, Disk<'a>>, Fault>
+    ensures { IfOk result (λ ending. (words : List Text) × IsAskedBy words ending.asked) }
+{
     let alloc = rt.alloc();
     let words: Vec<String> = env::args(rt)?.skip(1).collect(alloc)?;
     let mut texts: Vec<&str> = Vec::with_capacity(alloc, words.len())?;

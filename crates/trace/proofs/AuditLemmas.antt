@@ -1,6 +1,6 @@
 -- An audit's answer and the texts of replays.
 use Rattle.std.proofs.Common.{◌≡◌, ℕ, zero, suc, ◌+◌, ◌-◌, ◌++◌, Bool, true, false, List, [], ◌∷◌, length, map, take, drop, Some, None, Result, Ok, Err, IfOk, Vec, refl, sym, ap, subst, ◌∙◌, arith}
-use Rattle.std.specs.Prelude.{slice_get, bytes_eq, codes, if◌then◌else◌}
+use Rattle.std.specs.Prelude.{◌≢◌, Option, slice_get, bytes_eq, codes, if◌then◌else◌}
 use Rattle.std.specs.Global.{Global}
 use Rattle.std.proofs.lemmas.List.{take_all}
 use Rattle.combine.specs.declared.chosen.Rule.{Rule}
@@ -13,13 +13,16 @@ use Rattle.world.specs.KindLists.{names_events, replayed, replayed_rounds, wound
 use Rattle.world.specs.Chronicle.{Chronicle}
 use Rattle.text.specs.Stop.{feed, space}
 use Rattle.text.specs.Parts.{pieces}
+use Rattle.trace.specs.declared.fault.TraceError.{TraceError}
+use Rattle.trace.specs.declared.fault.TraceError.TheVariants.{Memory}
 use Rattle.trace.specs.declared.version.Version.{Version}
 use Rattle.trace.specs.declared.version.Version.TheVariants.{First, Second}
 use Rattle.trace.specs.Text.{lines_in, text_in}
 use Rattle.trace.specs.Names.{Named, named, names_of, chronicle_told}
 use Rattle.trace.specs.Marks.{all_names}
 use Rattle.trace.specs.Laws.{Admits, IsSoundText}
-use Rattle.trace.specs.Audit.{line_version, lines_version, version_named, IsFirstDifference}
+use Rattle.trace.specs.Audit.{fault_at, first_fault, line_at, line_version, lines_version, version_named, IsFirstDifference}
+use Rattle.trace.specs.Shapes.{unshaped_from}
 
 -- the lists behind the first one, as many as there may be
 names_behind : (items : List (Vec ℕ Global)) (n : Named) (k : ℕ) → lists_in items ≡ take (suc k) (all_names n) → lists_in (take (length items - 1) (drop 1 items)) ≡ take k n.1
@@ -36,6 +39,15 @@ first_rounds K (suc k) [] w = refl
 first_rounds K (suc k) (line ∷ lines) w =
     let events = names_events K w line ++ wound_up w.scenario in
     ap (λ (later : List Event). events ++ later) (first_rounds K k lines (run K w events))
+
+-- a fault is told with its line, and is no want of memory
+pub fault_is_told : (t : List ℕ) (place : ℕ) (e : TraceError) → e ≡ fault_at t place → e ≢ Memory
+unfolding fault_at
+fault_is_told t place e told = by (unshaped_from 1 (pieces feed t)) (line_at t place) e told
+  where
+    by : (unshaped : Option ℕ) (line : ℕ) (e : TraceError) → e ≡ first_fault unshaped line → e ≢ Memory
+    by (Some first) line e told none = absurd cc
+    by None line e told none = absurd cc
 
 -- a text names its version
 pub version_known : (rule : Rule) (v : Version) (c : Chronicle) → Admits rule v → version_named rule (text_in v c) ≡ Some v

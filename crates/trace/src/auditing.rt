@@ -1,5 +1,5 @@
 //! Audits of a chronicle's text.
-ghost use Rattle.std.specs.Prelude.{◌≡◌, ◌≢◌, IfOk, IfErr, IfSome, IfNone};
+ghost use Rattle.std.specs.Prelude.{◌≡◌, ◌≢◌, IfOk, IfErr, IfSome, IfNone, None};
 ghost use Rattle.trace.specs.declared.fault.TraceError.TheVariants.{Memory};
 ghost use Rattle.trace.specs.Text.{text_in};
 ghost use Rattle.trace.specs.Laws.{IsSoundText};
@@ -87,6 +87,7 @@ pub fn check(alloc: Global, scenario: &Scenario, text: &str) -> Result<Verdict, 
     ensures verdict { IfOk result (λ v. v ≡ (chronicle_told scenario.now text.now).verdict) }
     ensures unsound { IfErr result (λ e. e ≢ Memory → IsSoundText scenario.now text.now → ⊥) }
     ensures fault { IfErr result (λ e. e ≢ Memory → IsFaultOf scenario.now text.now e) }
+    ensures unnamed { IfErr result (λ e. version_named scenario.now.rule text.now ≡ None → e ≢ Memory) }
 {
     let chronicle = sound_chronicle(alloc, scenario, text.as_bytes())?;
     Ok(chronicle.verdict())
@@ -100,7 +101,8 @@ pub fn check(alloc: Global, scenario: &Scenario, text: &str) -> Result<Verdict, 
 /// # Errors
 ///
 /// `Line` with the first line of no shape, or without its LF; where there is none, `Scenario` or `Differs` with the
-/// line of the first difference, `Scenario` in the first two lines. `Memory` where memory is refused.
+/// line of the first difference, `Scenario` in the first two lines. `Memory` where memory is refused: a text that names
+/// no version asks for none.
 pub fn sound_chronicle(
     alloc: Global,
     scenario: &Scenario,
@@ -110,6 +112,7 @@ pub fn sound_chronicle(
     ensures chronicle { IfOk result (λ chronicle. chronicle ≡ chronicle_told scenario.now text.now) }
     ensures unsound { IfErr result (λ e. e ≢ Memory → IsSoundText scenario.now text.now → ⊥) }
     ensures fault { IfErr result (λ e. e ≢ Memory → IsFaultOf scenario.now text.now e) }
+    ensures unnamed { IfErr result (λ e. version_named scenario.now.rule text.now ≡ None → e ≢ Memory) }
 {
     let Some(version) = version_named(scenario.rule(), text) else {
         return Err(refusal(text, 0));

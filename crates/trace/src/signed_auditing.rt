@@ -1,5 +1,5 @@
 //! Audits of a signed chronicle's text.
-ghost use Rattle.std.specs.Prelude.{◌≡◌, ◌≢◌, IfOk, IfErr, IfSome, IfNone};
+ghost use Rattle.std.specs.Prelude.{◌≡◌, ◌≢◌, IfOk, IfErr, IfSome, IfNone, false};
 ghost use Rattle.trace.specs.declared.fault.TraceError.TheVariants.{Memory};
 ghost use Rattle.trace.specs.Audit.{IsFirstDifference};
 ghost use Rattle.trace.specs.SignedAudit.{IsSignedFaultOf, IsSoundSignedText, is_third_version, signed_chronicle_told};
@@ -59,12 +59,13 @@ fn signed_difference(text: &[u8], chronicle: &SignedChronicle) -> Option<usize>
 ///
 /// `Line` with the first line of no shape, or without its LF; where there is none, `Scenario` or `Differs` with the
 /// line of the first difference, `Scenario` in the first two lines; the first one differs where its version is another.
-/// `Memory` where memory is refused.
+/// `Memory` where memory is refused: a text of another version asks for none.
 pub fn check_signed(alloc: Global, scenario: &Scenario, text: &str) -> Result<Verdict, TraceError>
     ensures sound { IfOk result (λ v. IsSoundSignedText scenario.now text.now) }
     ensures verdict { IfOk result (λ v. v ≡ (signed_chronicle_told scenario.now text.now).verdict) }
     ensures unsound { IfErr result (λ e. e ≢ Memory → IsSoundSignedText scenario.now text.now → ⊥) }
     ensures fault { IfErr result (λ e. e ≢ Memory → IsSignedFaultOf scenario.now text.now e) }
+    ensures unnamed { IfErr result (λ e. is_third_version text.now ≡ false → e ≢ Memory) }
 {
     let chronicle = sound_signed_chronicle(alloc, scenario, text.as_bytes())?;
     Ok(chronicle.verdict())
@@ -84,6 +85,7 @@ pub fn sound_signed_chronicle(
     ensures chronicle { IfOk result (λ chronicle. chronicle ≡ signed_chronicle_told scenario.now text.now) }
     ensures unsound { IfErr result (λ e. e ≢ Memory → IsSoundSignedText scenario.now text.now → ⊥) }
     ensures fault { IfErr result (λ e. e ≢ Memory → IsSignedFaultOf scenario.now text.now e) }
+    ensures unnamed { IfErr result (λ e. is_third_version text.now ≡ false → e ≢ Memory) }
 {
     if !is_third_version(text) {
         return Err(refusal(text, 0));

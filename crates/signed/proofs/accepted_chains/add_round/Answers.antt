@@ -1,6 +1,4 @@
-use Rattle.std.proofs.Common.{◌∙◌, sym, ap, arith, ℕ, ◌≡◌}
-use Rattle.signed.specs.Accepted.{came}
-use Rattle.signed.specs.Gathered.{gathered}
+use Rattle.std.proofs.Common.{sym}
 use Rattle.signed.specs.Sending.{lent}
 use Rattle.signed.specs.Sent.{delivered, sent_in}
 use Rattle.signed.proofs.Gathering.{gathered_more}

@@ -1,13 +1,13 @@
-//! Files of campaigns that are written whole.
+//! Bytes that are written whole.
 ghost use Rattle.std.specs.Prelude.{IfOk, OnErr, OnOk};
 ghost use Rattle.std.specs.Io.KnownBytes.{Appends};
+ghost use Rattle.streams.specs.Filling.{IsFilledBy};
 ghost use Rattle.streams.specs.Writing.{AppendsFront};
-ghost use Rattle.surveyor.specs.Kept.{IsFilledBy};
 
+use crate::output::Output;
 use std::alloc::Global;
 use std::io;
 use std::marker::PhantomData;
-use streams::Output;
 
 /// That bytes were written whole to an `O`, for the file of this name: `fill` alone tells it.
 #[derive(Drop)]
