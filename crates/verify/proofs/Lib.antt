@@ -47,3 +47,4 @@ pub mod ReadyLemmas
 pub mod PairLemmas
 pub mod HandLaws
 pub mod CombineLemmas
+pub mod PlaceLemmas

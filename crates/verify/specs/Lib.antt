@@ -16,3 +16,4 @@ pub mod Laws
 pub mod ErrorText
 pub mod KnownAtUnits
 pub mod Ready
+pub mod Work
