@@ -12,7 +12,7 @@ def classic(*lines):
     return b"".join(struct.pack("<HBBI", *line) for line in lines)
 
 
-# ---- eight shapes, as crates/bench/src/shape.rs has them, each with its classic equivalent where there is one
+# ---- eight shapes, as crates/bench/src/shape.rt has them, each with its classic equivalent where there is one
 
 OPERATIONS = ["add r0, r2", "mul r0, 5", "xor r0, 77", "lsh r0, 3"]
 OPERATIONS += ["sub.w r0, 1", "div r0, 3", "or r0, r2", "arsh r0, 1"]
