@@ -2,7 +2,7 @@
 ghost use Rattle.std.specs.Prelude.{◌≡◌, IsOk, Ok};
 ghost use Rattle.word.specs.Arithmetic.{arithmetic, compared};
 ghost use Rattle.semantics.specs.Step.{number_of};
-ghost use Rattle.verify.specs.Work.{told};
+ghost use Rattle.verify.specs.Work.{operation_of};
 
 use semantics::Value;
 use verify::Work;
@@ -35,7 +35,7 @@ pub fn arithmetic(width: Width, operation: Operation, a: u64, b: u64) -> u64
 /// The result of an operation that is no move.
 #[inline(always)]
 pub fn worked(work: Work, a: u64, b: u64) -> u64
-    ensures { result ≡ arithmetic (told work).0 (told work).1 a b }
+    ensures { result ≡ arithmetic (operation_of work).0 (operation_of work).1 a b }
 {
     match work {
         Work::Add64 => alu64(Operation::Add, a, b),
