@@ -1,5 +1,5 @@
 //! The campaigns and schedules that files tell.
-ghost use Rattle.std.specs.Prelude.{◌≡◌, ◌≢◌, ◌<◌, ℕ, List, length, IfOk, IfErr, Ok, Some, string_bytes};
+ghost use Rattle.std.specs.Prelude.{◌≡◌, ◌≢◌, ◌<◌, ◌≤◌, ℕ, List, length, IfOk, IfErr, Ok, Some, string_bytes};
 ghost use Rattle.std.specs.Str.{IsUtf8};
 ghost use Rattle.scenario.specs.Reading.{Tells, TellsAny};
 ghost use Rattle.trace.specs.Schedules.{schedule_told};
@@ -88,6 +88,11 @@ pub fn schedule_of(alloc: Global, front: &[u8]) -> Result<Schedule, Refusal>
     ensures refused { IfErr result (λ refusal. (all : List ℕ) → IsFront 1048576 (Some all) front.now →
         RefusesText RefusesSchedule all refusal) }
     ensures long { 1048576 < length front.now → IfErr result (λ refusal. refusal ≢ Memory) }
+    ensures text { 1048576 < length front.now → MayBeginText front.now →
+        IfErr result (λ refusal. refusal ≡ Trace (At Line 1)) }
+    ensures no_text { 1048576 < length front.now → (MayBeginText front.now → ⊥) →
+        IfErr result (λ refusal. refusal ≡ NotText) }
+    ensures none { (length front.now ≤ 1048576) → (IsUtf8 front.now → ⊥) → IfErr result (λ refusal. refusal ≡ NotText) }
 {
     if front.len() <= MOST_SCHEDULE_BYTES {
         return schedule(alloc, front);
