@@ -4,22 +4,22 @@ ghost use Rattle.threads.specs.Answers.{failure_as};
 
 mod count;
 mod returned;
-mod uncounted;
 
 use crate::camp::HandedOut;
 use crate::error::MusterError;
 use crate::resident::Failed;
-use count::Count;
-pub(crate) use count::{AllPosted, SomeoneFailed};
+use count::{Count, Counted};
+pub(crate) use count::{AllPosted, SomeoneFailed, Uncounted, send};
 use post::Poster;
 pub(crate) use returned::Returned;
 use std::sync::{Condvar, Mutex, Wait};
-pub(crate) use uncounted::{Uncounted, send};
 
-/// That a general has failed, and the one who waits for the letters was told so, as `Tally::failed` alone tells.
+/// That a general has failed, and that it was counted where the one who waits for the letters reads it, as
+/// `Tally::failed` alone tells.
 #[derive(Clone, Copy)]
 pub(crate) struct Reported {
     failed: Failed,
+    counted: Counted,
 }
 
 impl Reported {
@@ -56,12 +56,10 @@ impl Tally {
         ensures { result ≡ uncounted.poster }
     {
         let mut count = self.count.lock(rt);
-        let more = count.with_one_more(&uncounted);
-        *count = more;
-        if more.is_over(self.generals) {
+        let poster = count.add(uncounted);
+        if count.is_over(self.generals) {
             self.changed.notify_one();
         }
-        let Uncounted { poster } = uncounted;
         poster
     }
 
@@ -69,9 +67,9 @@ impl Tally {
     pub(crate) fn failed<R: Wait>(&self, rt: &R, failed: Failed) -> Reported
         ensures { result.failed ≡ failed }
     {
-        self.count.lock(rt).fail(failed);
+        let counted = self.count.lock(rt).fail(failed);
         self.changed.notify_one();
-        Reported { failed }
+        Reported { failed, counted }
     }
 
     /// Waits until all generals have posted their letters for the tasks that they were given, and begins the next

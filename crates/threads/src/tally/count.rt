@@ -1,9 +1,12 @@
 //! How far the generals have come in a round.
 ghost use Rattle.std.specs.Prelude.{◌≡◌, ◌↔◌, ◌⊎◌, ◌+◌, ◌≤◌, min, None, Some, IsSome, IsTrue, IfOk, OnOk, IfErr};
 
+mod uncounted;
+
 use crate::camp::HandedOut;
 use crate::resident::Failed;
-use crate::tally::uncounted::Uncounted;
+use post::Poster;
+pub(crate) use uncounted::{Uncounted, send};
 
 /// That all generals have posted their letters of a round, as `begin_again` alone tells.
 #[derive(Drop)]
@@ -28,8 +31,14 @@ pub(crate) struct SomeoneFailed {
     failed: Failed,
 }
 
-/// How many letters of a round are posted, and whether a general has failed.
+/// That a failure was counted, as `Count::fail` alone tells.
 #[derive(Clone, Copy)]
+pub(super) struct Counted {
+    failed: Failed,
+}
+
+/// How many letters of a round are posted, and whether a general has failed.
+#[derive(Drop)]
 pub(super) struct Count {
     posted: usize,
     failed: Option<Failed>,
@@ -47,21 +56,23 @@ impl Count {
         }
     }
 
-    /// One more letter is posted.
-    pub(super) fn with_one_more(self, _uncounted: &Uncounted) -> Count
-        ensures { result ≡ record self { posted = min (self.posted + 1) 0xffff_ffff_ffff_ffff } }
+    /// One more letter is posted, and its poster given back.
+    pub(super) fn add(&mut self, uncounted: Uncounted) -> Poster
+        ensures count { self.new ≡ record self.old { posted = min (self.old.posted + 1) 0xffff_ffff_ffff_ffff } }
+        ensures poster { result ≡ uncounted.poster }
     {
-        Count {
-            posted: self.posted.saturating_add(1),
-            failed: self.failed,
-        }
+        self.posted = self.posted.saturating_add(1);
+        let Uncounted { poster } = uncounted;
+        poster
     }
 
     /// A general has failed.
-    pub(super) fn fail(&mut self, failed: Failed)
-        ensures { self.new ≡ record self.old { failed = Some failed } }
+    pub(super) fn fail(&mut self, failed: Failed) -> Counted
+        ensures count { self.new ≡ record self.old { failed = Some failed } }
+        ensures counted { result.failed ≡ failed }
     {
         self.failed = Some(failed);
+        Counted { failed }
     }
 
     /// Begins the next round, where none of so many has to be waited for: all have posted, unless one has failed.
@@ -86,8 +97,8 @@ impl Count {
     }
 
     /// Whether nobody has to be waited for: so many have posted, or one has failed.
-    pub(super) fn is_over(self, generals: usize) -> bool
-        ensures { IsTrue result ↔ ((generals ≤ self.posted) ⊎ IsSome self.failed) }
+    pub(super) fn is_over(&self, generals: usize) -> bool
+        ensures { IsTrue result ↔ ((generals ≤ self.now.posted) ⊎ IsSome self.now.failed) }
     {
         self.posted >= generals || self.failed.is_some()
     }

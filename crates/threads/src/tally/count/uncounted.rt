@@ -6,7 +6,7 @@ use letter::Letter;
 use post::{Post, Poster};
 use std::sync::Wait;
 
-/// A poster with which a letter was posted that is not yet counted: `send` alone makes one, and `Tally::posted` alone
+/// A poster with which a letter was posted that is not yet counted: `send` alone makes one, and `Count::add` alone
 /// gives the poster back.
 #[derive(Drop)]
 pub(crate) struct Uncounted {
