@@ -7,11 +7,8 @@ ghost use Rattle.book.specs.ErrorText as tables;
 ghost use Rattle.label.specs.ErrorText as labels;
 ghost use Rattle.world.specs.ErrorText as events;
 ghost use Rattle.threads.specs.ErrorText as musters;
-ghost use Rattle.scenario.specs.ErrorText as scenarios;
-ghost use Rattle.trace.specs.ErrorText as traces;
 
 use label::LabelError;
-use scenario::ProgramFault;
 use threads::MusterError;
 use verify::Reason;
 use world::EventError;
@@ -110,39 +107,5 @@ pub fn of_muster(error: MusterError) -> &'static str
         MusterError::Unaccounted => "M2",
         MusterError::Spawn => "M3",
         MusterError::Post => "M4",
-    }
-}
-
-/// Of a key of a scenario.
-pub fn of_key(fault: scenario::Fault) -> &'static str
-    ensures { result.now ≡ scenarios.code_of fault }
-{
-    match fault {
-        scenario::Fault::Key => "S2",
-        scenario::Fault::Kind => "S3",
-        scenario::Fault::Range => "S4",
-        scenario::Fault::General => "S5",
-        scenario::Fault::Twice => "S6",
-    }
-}
-
-/// Of a program that a scenario has.
-pub fn of_traitor(fault: ProgramFault) -> &'static str
-    ensures { result.now ≡ scenarios.scenario_code fault }
-{
-    match fault {
-        ProgramFault::Asm(_, _) | ProgramFault::Hex | ProgramFault::Code(_, _) => "S7",
-        ProgramFault::Verifier(_, _) => "S8",
-    }
-}
-
-/// Of a line of a schedule or a chronicle.
-pub fn of_line(fault: trace::Fault) -> &'static str
-    ensures { result.now ≡ traces.code_of fault }
-{
-    match fault {
-        trace::Fault::Line => "X1",
-        trace::Fault::Scenario => "X2",
-        trace::Fault::Differs => "X3",
     }
 }

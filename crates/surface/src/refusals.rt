@@ -1,12 +1,13 @@
 //! What a refusal holds: a fault with its place, or none where memory was refused.
-ghost use Rattle.std.specs.Prelude.{◌≡◌, ◌↔◌, IfNone, IfSome, IsNone};
+ghost use Rattle.std.specs.Prelude.{◌≡◌, ◌↔◌, IfNone, IfSome, IsNone, take};
+ghost use Rattle.scenario.specs.ErrorText as scenarios;
+ghost use Rattle.trace.specs.ErrorText as traces;
 
-use crate::faults;
 use asm::AsmError;
 use book::TableError;
 use codec::CodecError;
 use insn::Program;
-use scenario::ScenarioError;
+use scenario::{ProgramFault, ScenarioError};
 use trace::TraceError;
 use verify::{Reason, Refused, VerifyError};
 
@@ -57,25 +58,36 @@ pub fn of_table(error: TableError) -> Option<(book::Fault, u64)>
     }
 }
 
-/// Of a scenario, by its code.
+/// Of a scenario, by its code, with which its text begins.
 pub fn of_scenario(error: &ScenarioError) -> Option<&'static str>
-    ensures { IsNone result ↔ (error.now ≡ ScenarioError.Memory) }
+    ensures code { IfSome result (λ code. code.now ≡ take 2 (scenarios.told error.now)) }
+    ensures memory { IsNone result ↔ (error.now ≡ ScenarioError.Memory) }
 {
     match error {
         ScenarioError::Toml => Some("S1"),
-        ScenarioError::Unknown(_, _) => Some("S2"),
-        ScenarioError::At(fault, _) => Some(faults::of_key(*fault)),
-        ScenarioError::Program(_, fault) => Some(faults::of_traitor(*fault)),
+        ScenarioError::Unknown(None, _) | ScenarioError::Unknown(Some(_), _) => Some("S2"),
+        ScenarioError::At(scenario::Fault::Key, _) => Some("S2"),
+        ScenarioError::At(scenario::Fault::Kind, _) => Some("S3"),
+        ScenarioError::At(scenario::Fault::Range, _) => Some("S4"),
+        ScenarioError::At(scenario::Fault::General, _) => Some("S5"),
+        ScenarioError::At(scenario::Fault::Twice, _) => Some("S6"),
+        ScenarioError::Program(_, ProgramFault::Asm(_, _)) => Some("S7"),
+        ScenarioError::Program(_, ProgramFault::Hex) => Some("S7"),
+        ScenarioError::Program(_, ProgramFault::Code(_, _)) => Some("S7"),
+        ScenarioError::Program(_, ProgramFault::Verifier(_, _)) => Some("S8"),
         ScenarioError::Memory => None,
     }
 }
 
-/// Of a schedule or a chronicle, by its code.
+/// Of a schedule or a chronicle, or why one was not written, by its code, with which its text begins.
 pub fn of_trace(error: TraceError) -> Option<&'static str>
-    ensures { IsNone result ↔ (error ≡ TraceError.Memory) }
+    ensures code { IfSome result (λ code. code.now ≡ take 2 (traces.told error)) }
+    ensures memory { IsNone result ↔ (error ≡ TraceError.Memory) }
 {
     match error {
-        TraceError::At(fault, _) => Some(faults::of_line(fault)),
+        TraceError::At(trace::Fault::Line, _) => Some("X1"),
+        TraceError::At(trace::Fault::Scenario, _) => Some("X2"),
+        TraceError::At(trace::Fault::Differs, _) => Some("X3"),
         TraceError::Write => Some("X4"),
         TraceError::Memory => None,
     }
