@@ -7,8 +7,10 @@ ghost use Rattle.book.specs.ErrorText as tables;
 ghost use Rattle.label.specs.ErrorText as labels;
 ghost use Rattle.world.specs.ErrorText as events;
 ghost use Rattle.threads.specs.ErrorText as musters;
+ghost use Rattle.scenario.specs.ErrorText as scenarios;
 
 use label::LabelError;
+use scenario::ProgramFault;
 use threads::MusterError;
 use verify::Reason;
 use world::EventError;
@@ -107,5 +109,28 @@ pub fn of_muster(error: MusterError) -> &'static str
         MusterError::Unaccounted => "M2",
         MusterError::Spawn => "M3",
         MusterError::Post => "M4",
+    }
+}
+
+/// Of a key of a scenario.
+pub fn of_key(fault: scenario::Fault) -> &'static str
+    ensures { result.now ≡ scenarios.code_of fault }
+{
+    match fault {
+        scenario::Fault::Key => "S2",
+        scenario::Fault::Kind => "S3",
+        scenario::Fault::Range => "S4",
+        scenario::Fault::General => "S5",
+        scenario::Fault::Twice => "S6",
+    }
+}
+
+/// Of a program that a scenario has.
+pub fn of_traitor(fault: ProgramFault) -> &'static str
+    ensures { result.now ≡ scenarios.scenario_code fault }
+{
+    match fault {
+        ProgramFault::Asm(_, _) | ProgramFault::Hex | ProgramFault::Code(_, _) => "S7",
+        ProgramFault::Verifier(_, _) => "S8",
     }
 }

@@ -1,13 +1,18 @@
 //! What a refusal holds: a fault with its place, or none where memory was refused.
-ghost use Rattle.std.specs.Prelude.{◌≡◌, ◌↔◌, IfNone, IfSome, IsNone, take};
+ghost use Rattle.std.specs.Prelude.{◌≡◌, ◌↔◌, IfNone, IfSome, IsNone, Option, String, codes, take, ℕ};
+ghost use Rattle.std.specs.declared.alloc.Global.{Global};
+ghost use Rattle.scenario.specs.declared.fault.Fault.{Fault};
+ghost use Rattle.scenario.specs.declared.fault.ProgramFault.{ProgramFault};
+ghost use Rattle.scenario.specs.declared.place.Place.{Place};
 ghost use Rattle.scenario.specs.ErrorText as scenarios;
 ghost use Rattle.trace.specs.ErrorText as traces;
 
+use crate::faults;
 use asm::AsmError;
 use book::TableError;
 use codec::CodecError;
 use insn::Program;
-use scenario::{ProgramFault, ScenarioError};
+use scenario::ScenarioError;
 use trace::TraceError;
 use verify::{Reason, Refused, VerifyError};
 
@@ -58,23 +63,22 @@ pub fn of_table(error: TableError) -> Option<(book::Fault, u64)>
     }
 }
 
-/// Of a scenario, by its code, with which its text begins.
+/// Of a scenario, by its code.
 pub fn of_scenario(error: &ScenarioError) -> Option<&'static str>
-    ensures code { IfSome result (λ code. code.now ≡ take 2 (scenarios.told error.now)) }
+    ensures text { error.now ≡ ScenarioError.Toml → IfSome result (λ code. code.now ≡ codes "S1") }
+    ensures unknown { (table : Option ℕ) (key : String Global) → error.now ≡ ScenarioError.Unknown table key
+        → IfSome result (λ code. code.now ≡ codes "S2") }
+    ensures fault { (fault : Fault) (place : Place) → error.now ≡ ScenarioError.At fault place
+        → IfSome result (λ code. code.now ≡ scenarios.code_of fault) }
+    ensures program { (general : ℕ) (fault : ProgramFault) → error.now ≡ ScenarioError.Program general fault
+        → IfSome result (λ code. code.now ≡ scenarios.scenario_code fault) }
     ensures memory { IsNone result ↔ (error.now ≡ ScenarioError.Memory) }
 {
     match error {
         ScenarioError::Toml => Some("S1"),
-        ScenarioError::Unknown(None, _) | ScenarioError::Unknown(Some(_), _) => Some("S2"),
-        ScenarioError::At(scenario::Fault::Key, _) => Some("S2"),
-        ScenarioError::At(scenario::Fault::Kind, _) => Some("S3"),
-        ScenarioError::At(scenario::Fault::Range, _) => Some("S4"),
-        ScenarioError::At(scenario::Fault::General, _) => Some("S5"),
-        ScenarioError::At(scenario::Fault::Twice, _) => Some("S6"),
-        ScenarioError::Program(_, ProgramFault::Asm(_, _)) => Some("S7"),
-        ScenarioError::Program(_, ProgramFault::Hex) => Some("S7"),
-        ScenarioError::Program(_, ProgramFault::Code(_, _)) => Some("S7"),
-        ScenarioError::Program(_, ProgramFault::Verifier(_, _)) => Some("S8"),
+        ScenarioError::Unknown(_, _) => Some("S2"),
+        ScenarioError::At(fault, _) => Some(faults::of_key(*fault)),
+        ScenarioError::Program(_, fault) => Some(faults::of_traitor(*fault)),
         ScenarioError::Memory => None,
     }
 }
