@@ -1,5 +1,5 @@
 //! Labels, trees, tables and decisions.
-ghost use Rattle.std.specs.Prelude.{◌<◌, ◌≤◌, ◌≢◌};
+ghost use Rattle.std.specs.Prelude.{◌≡◌, ◌<◌, ◌≤◌, ◌≢◌};
 ghost use Rattle.label.specs.Space.{IsWithinLimits};
 
 use book::{Table, TableError, decision, read_table};
@@ -24,6 +24,17 @@ pub fn places(
         rank(space, label),
         unrank(space, size, place),
     )
+}
+
+/// The labels of a campaign of so many generals that lack one lieutenant.
+pub fn space(generals: u8, commander: u8, general: u8) -> Space
+    ensures { result ≡ record { generals = generals; commander = commander; general = general } }
+{
+    Space {
+        generals,
+        commander,
+        general,
+    }
 }
 
 /// A lieutenant's tree in which nothing is told.

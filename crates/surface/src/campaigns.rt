@@ -1,4 +1,6 @@
 //! Campaigns, oral and signed, and their texts.
+ghost use Rattle.std.specs.Prelude.{◌≡◌, ◌<◌, is_none, length};
+
 use arrayvec::ArrayVec;
 use board::Access;
 use letter::{Letter, Round};
@@ -74,6 +76,14 @@ pub fn is_traitors(letter: &Letter) -> bool {
 /// A chronicle's text, as far as the sink takes it.
 pub fn written<S: Sink>(chronicle: &Chronicle, sink: &mut S) -> Result<(), TraceError> {
     write_chronicle(chronicle, sink)
+}
+
+/// How many bytes of a piece that is not empty a sink takes; none exactly where it has failed.
+pub fn taken<S: Sink>(sink: &mut S, piece: &[u8]) -> Option<usize>
+    requires { 0 < length piece.now }
+    ensures { S.has_failed sink.new ≡ is_none result }
+{
+    sink.put(piece)
 }
 
 /// Whether what a text is written to has failed.

@@ -1,8 +1,8 @@
 //! What the verifier knows of numbers, values and the stack.
-ghost use Rattle.std.specs.Prelude.{◌+◌, ◌≤◌};
+ghost use Rattle.std.specs.Prelude.{◌≡◌, ◌+◌, ◌≤◌, IfSome};
 
 use absmem::AbsStack;
-use absval::{AbsVal, Offset};
+use absval::{AbsVal, NumberSet, Offset, Offsets};
 use bits::Bits;
 use range::Range;
 use semantics::Region;
@@ -50,6 +50,43 @@ pub fn known_bits(width: Width, operation: Operation, a: Bits, b: Bits) -> (Bits
 /// The least and the greatest number of a range; of words the bits that are unknown, and those known to be 1.
 pub fn ends(range: Range, bits: Bits) -> (u64, u64, u64, u64) {
     (range.lo, range.hi, bits.mask, bits.value)
+}
+
+/// Numbers of which range and bits are known together: what an operation makes of those of a range and of others, and the
+/// range and bits of these.
+pub fn known_numbers(
+    width: Width,
+    operation: Operation,
+    a: Range,
+    b: NumberSet,
+) -> (NumberSet, Range, Bits)
+    ensures { (result.1 ≡ result.0.range) × (result.2 ≡ result.0.bits) }
+{
+    let numbers = NumberSet::operate(width, operation, NumberSet::within(a), b);
+    (numbers, numbers.range(), numbers.bits())
+}
+
+/// The numbers that a value may be, where it is known to be one.
+pub fn numbers(value: AbsVal) -> Option<NumberSet>
+    ensures { IfSome result (λ numbers. value ≡ AbsVal.Number numbers) }
+{
+    match value {
+        AbsVal::Number(numbers) => Some(numbers),
+        AbsVal::Unset | AbsVal::Pointer(_, _) => None,
+    }
+}
+
+/// The region of a value that is known to be a pointer, with the least and the greatest of its offsets.
+pub fn pointer(value: AbsVal) -> Option<(Region, i32, i32)>
+    ensures { IfSome result (λ pointer. value ≡ AbsVal.Pointer pointer.0 (pointer.1, pointer.2)) }
+{
+    match value {
+        AbsVal::Pointer(region, offsets) => {
+            let Offsets { low, high } = offsets;
+            Some((region, low, high))
+        }
+        AbsVal::Unset | AbsVal::Number(_) => None,
+    }
 }
 
 /// What an operation on two values gives.

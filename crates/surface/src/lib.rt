@@ -6,9 +6,13 @@
 
 pub mod agreement;
 pub mod campaigns;
+pub mod faults;
+pub mod happening;
 pub mod knowledge;
 pub mod memory;
 pub mod programs;
+pub mod refusals;
 pub mod rounds;
 pub mod running;
 pub mod threading;
+pub mod words;

@@ -7,10 +7,9 @@ ghost use Rattle.semantics.specs.Replies.{words_in};
 ghost use Rattle.machine.specs.Advance.{IsOfRun};
 
 use board::{Access, Board};
-use label::Shape;
+use helper::{Reply, Request};
 use mem::Context;
-use outbox::Outbox;
-use semantics::{Reply, Request};
+use outbox::{Outbox, Shape};
 use std::alloc::{AllocError, Global};
 use typed::{Activation, Ended, Pause, Waiting};
 use verify::Verified;
@@ -61,6 +60,14 @@ pub fn ended(activation: Activation) -> Ended {
     activation.end()
 }
 
+/// What it left: whom it told what, how many steps it took, and what it exited with, if it did.
+pub fn left(ended: Ended) -> (Outbox, u32, Option<u64>)
+    ensures { result ≡ (ended.outbox, ended.steps, ended.r0) }
+{
+    let Ended { outbox, steps, r0 } = ended;
+    (outbox, steps, r0)
+}
+
 /// A board of zeros, after one request.
 pub fn served(
     alloc: Global,
@@ -81,6 +88,37 @@ pub fn seen(board: &Board) -> (&[u64; 64], &[u64; 64], &[Access]) {
 /// A board's ledger alone.
 pub fn ledger(board: Board) -> Vec<Access> {
     board.into_ledger()
+}
+
+/// Who asked in which round, what he asked, and what the board answered.
+pub fn asked(access: Access) -> (u32, u32, Request, Reply)
+    ensures asked { (result.0 ≡ access.general) × (result.1 ≡ access.round) × (result.2 ≡ access.request) }
+    ensures answered { words_in result.3 ≡ access.reply }
+{
+    let Access {
+        general,
+        round,
+        request,
+        reply,
+    } = access;
+    (general, round, request, reply)
+}
+
+/// A general's relay in a round, among so many generals.
+pub fn relay(generals: u32, commander: u32, general: u32, round: u32) -> Shape
+    ensures { result ≡ record {
+      generals = generals;
+      commander = commander;
+      general = general;
+      round = round;
+    } }
+{
+    Shape {
+        generals,
+        commander,
+        general,
+        round,
+    }
 }
 
 /// An outbox in which one order was put, all relays of a receiver were swayed, and a row was put: whether the first
