@@ -1,6 +1,7 @@
 -- What is said where no task is served, and where a file or the output fails.
 use Rattle.std.specs.Prelude.{ℕ, ◌≡◌, ◌≢◌, ◌⊎◌, ◌++◌, List, Option, None, Some, Bool, false, true, codes}
 use Rattle.clap.specs.Words.{kind_of}
+use Rattle.clap.specs.declared.error.Error.{Error as Refusal}
 use Rattle.clap.specs.declared.error.kind.ErrorKind.{ErrorKind}
 use Rattle.clap.specs.declared.error.kind.ErrorKind.TheVariants.{DisplayHelp, DisplayVersion}
 use Rattle.std.specs.Borrow.{Bor}
@@ -14,6 +15,8 @@ use Rattle.command_line.specs.declared.errors.TaskError.TheVariants as task
 use Rattle.command_line.specs.declared.tasks.Request.{Request}
 use Rattle.desk.specs.Printing.{is_shaped}
 use Rattle.byzlab.specs.declared.ending.Ending.{Ending}
+use Rattle.byzlab.specs.declared.unasked.Why.{Why}
+use Rattle.byzlab.specs.declared.unasked.Why.TheVariants as why
 use Rattle.byzlab.specs.declared.told.Said.{Said}
 use Rattle.std.specs.declared.io.ErrorKind.{ErrorKind as IoKind}
 use Rattle.std.specs.declared.io.ErrorKind.TheVariants.{OutOfMemory, InvalidData}
@@ -28,12 +31,21 @@ failure_of _ = (codes "fault write", 1)
 abbrev pub IsMistake : ErrorKind → Type 0
 IsMistake kind = (kind ≢ DisplayHelp) × (kind ≢ DisplayVersion)
 
--- the exit status where the words name no task: 0 where they ask for help or the version, else 2
-abbrev pub IsUnasked : TaskError → ℕ → Type 0
-IsUnasked (task.Words refusal) status =
+-- the exit status of words that are refused, or ask for help or the version: 0 where they ask for it, else 2
+abbrev pub IsUnaskedBy : Refusal → ℕ → Type 0
+IsUnaskedBy refusal status =
     (IsMistake (kind_of refusal) × (status ≡ 2)) ⊎ (¬ IsMistake (kind_of refusal) × (status ≡ 0))
+
+-- the exit status where the words name no task
+abbrev pub IsUnasked : TaskError → ℕ → Type 0
+IsUnasked (task.Words refusal) status = IsUnaskedBy refusal status
 IsUnasked (task.Misuse misuse) status = status ≡ 2
 IsUnasked task.Memory status = ⊥
+
+-- why the words name no task, as it was told
+abbrev pub error_of : Why → TaskError
+error_of (why.Printed refusal) = task.Words refusal
+error_of (why.Noted told) = told.line
 
 -- these words of a request ask for nothing
 abbrev pub AsksNothing : List (Bor (List ℕ)) → Type 0

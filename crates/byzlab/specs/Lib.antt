@@ -2,4 +2,5 @@ pub mod Beside
 pub mod Failures
 pub mod Files
 pub mod Kept
+pub mod Rejected
 pub mod Turns

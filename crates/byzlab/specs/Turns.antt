@@ -1,15 +1,15 @@
 -- How requests come out that are done one behind another.
-use Rattle.std.specs.Prelude.{ℕ, ◌≡◌, ◌≤◌, ◌<◌, ◌⊎◌, List, Option, IfSome, IsSome, IsSomeAnd, Vec, length, map, slice_index_or, true}
+use Rattle.std.specs.Prelude.{ℕ, suc, ◌≡◌, ◌≤◌, ◌<◌, ◌⊎◌, Bool, List, Option, None, Some, IfSome, IsSome, IsSomeAnd, Vec, false, length, map, slice_index_or, true}
 use Rattle.std.specs.Borrow.{Bor}
 use Rattle.std.specs.Global.{Global}
 use Rattle.clap.specs.Words.{IsAmong, fault_of, kind_of}
 use Rattle.command_line.specs.Asked.{asked, spelt, words_of}
 use Rattle.command_line.specs.Lab.{lab_app}
 use Rattle.command_line.specs.Several.{requests_of}
-use Rattle.command_line.specs.Tasks.{IfMisuse, IfRefused, IfWords, IsMisused}
+use Rattle.command_line.specs.Tasks.{IfMisuse, IfWords, IsMisused}
 use Rattle.command_line.specs.Usage.{Text}
 use Rattle.command_line.specs.declared.errors.TaskError.{TaskError}
-use Rattle.byzlab.specs.Failures.{AsksNothing, IsUnasked}
+use Rattle.byzlab.specs.Failures.{AsksNothing, IsUnasked, error_of}
 use Rattle.byzlab.specs.declared.endings.Endings.{Endings}
 use Rattle.byzlab.specs.declared.unasked.Unasked.{Unasked}
 
@@ -21,7 +21,7 @@ pub record IsErrorOf (words : List (Bor Text)) (error : TaskError) : Type 0 wher
 
 -- this was told of these words
 abbrev pub IsToldOf : List (Bor Text) → Unasked → Type 0
-IsToldOf words unasked = IsErrorOf words unasked.error × IsUnasked unasked.error unasked.status
+IsToldOf words unasked = IsErrorOf words (error_of unasked.why) × IsUnasked (error_of unasked.why) unasked.status
 
 -- it was told of the words at this place
 abbrev pub IsToldAt : ℕ → List (Vec (Bor Text) Global) → Unasked → Type 0
@@ -29,12 +29,20 @@ IsToldAt place requests unasked =
     (words : Vec (Bor Text) Global) × (place < length requests) × (slice_index_or requests place words ≡ words)
     × IsToldOf words.items unasked
 
--- so many requests were done: all, unless the last one's output failed, or the next words ask for nothing
+-- the place of the first request whose output failed, as it was before the one at this place, and behind it
+abbrev pub first_unwritten : Option ℕ → ℕ → Bool → Option ℕ
+first_unwritten None place true = Some place
+first_unwritten None place false = None
+first_unwritten (Some first) place is_unwritten = Some first
+
+-- so many requests were done: all, unless one's output failed, or the next words ask for nothing; no output failed but
+-- the last one's, and none where such words come next
 pub record AreEndingsOf (requests : List (Vec (Bor Text) Global)) (endings : Endings) : Type 0 where
   pub few : endings.count ≤ length requests
-  pub all : (endings.count ≡ length requests) ⊎ ((endings.is_unwritten ≡ true) ⊎ IsSome endings.unasked)
-  pub unasked : IfSome endings.unasked (λ unasked.
-      (unasked.status ≤ endings.worst) × IsToldAt endings.count requests unasked)
+  pub all : (endings.count ≡ length requests) ⊎ (IsSome endings.unwritten ⊎ IsSome endings.unasked)
+  pub last : IfSome endings.unwritten (λ place. endings.count ≡ suc place)
+  pub unasked : IfSome endings.unasked (λ unasked. (endings.unwritten ≡ None)
+      × (unasked.status ≤ endings.worst) × IsToldAt endings.count requests unasked)
 
 -- the same, of the requests that these words make
 abbrev pub AreDone : List Text → Endings → Type 0

@@ -1,20 +1,21 @@
 //! How requests come out. Only what is here makes an `Ending`: of a request that was served, of an exploration that was
 //! kept and printed, of a line that was told.
-ghost use Rattle.std.specs.Prelude.{◌≡◌, ◌≢◌, ◌⊎◌, ℕ, List, IfErr, IfOk, IsOk, IsSomeAnd, None, Ok, codes, false, is_some, true};
+ghost use Rattle.std.specs.Prelude.{◌≡◌, ◌≢◌, ◌⊎◌, ℕ, List, IfErr, IfOk, IsOk, IsSomeAnd, None, Ok, OnErr, OnOk, codes, false, is_some, true};
 ghost use Rattle.std.specs.Io.KnownBytes.{Appends};
 ghost use Rattle.command_line.specs.Tasks.{folder_of, schedule_target_of, seed_of, target_of};
 ghost use Rattle.streams.specs.Writing.{AppendsFront};
 ghost use Rattle.lab.specs.Serving.{IsFault, Tells, files};
 ghost use Rattle.desk.specs.Printing.{is_shaped};
 ghost use Rattle.desk.specs.Serving.{IsAnswerUnwritten, IsPrevented, IsRefusalShown, IsShown};
-ghost use Rattle.byzlab.specs.Failures.{IsStatus, IsTurnedDown, failure_of};
+ghost use Rattle.byzlab.specs.Failures.{IsSaidOf, IsStatus, IsTurnedDown};
 ghost use Rattle.byzlab.specs.Files.{IsServedFor, IsTargetOf, IsTextOf};
 ghost use Rattle.byzlab.specs.Kept.{IsExplorationKept, IsScheduleKept, IsUnexplored};
 
 use crate::input::Input;
 use crate::keeping::Unkept;
+use crate::stopped::Stopped;
 use crate::target::Target;
-use crate::telling::{tell_unkept, turn_down};
+use crate::telling::{TurnedDown, tell_unkept, turn_down};
 use crate::told::Said;
 use crate::watched::Watched;
 use command_line::Request;
@@ -22,11 +23,14 @@ use desk::serve;
 use lab::Failure;
 use std::alloc::{AllocError, Global};
 use std::fs::File;
-use std::io::{ErrorKind, Write};
+use std::io::Write;
 use std::snapshot::Snapshot;
 use std::sync::Wait;
 use std::thread::Threads;
 use streams::{Filled, Output, Source};
+
+/// That it was told of an output that it failed.
+type NotPrinted = TurnedDown<Failure<'static>>;
 
 /// How a request came out.
 #[derive(Drop)]
@@ -38,7 +42,7 @@ pub struct Ending {
 }
 
 impl Ending {
-    ghost use Rattle.std.specs.Prelude.{◌≡◌, false};
+    ghost use Rattle.std.specs.Prelude.{◌≡◌, IfErr, OnErr, OnOk, false, true};
     ghost use Rattle.byzlab.specs.Failures.{IsStatus, status_said};
 
     /// With this status, and an output that did not fail.
@@ -64,6 +68,30 @@ impl Ending {
         }
     }
 
+    /// Of a request for which memory was wanting, where that was said.
+    pub fn stopped(stopped: Stopped) -> Ending
+        ensures status { result.status ≡ stopped.status }
+        ensures written { result.is_unwritten ≡ false }
+    {
+        Ending::with(stopped.status())
+    }
+
+    /// Of a text that was printed, or of which it was told that the output failed on it.
+    fn printed(printed: Result<(), NotPrinted>) -> Ending
+        ensures status { IsStatus result.status }
+        ensures done { OnOk printed.entry ((result.status ≡ 0) × (result.is_unwritten ≡ false)) }
+        ensures failed { IfErr printed.entry (λ told. result.status ≡ status_said told.said.is_lacking) }
+        ensures unwritten { OnErr printed.entry (result.is_unwritten ≡ true) }
+    {
+        match printed {
+            Ok(()) => Ending::with(0),
+            Err(told) => Ending {
+                status: told.said().status(),
+                is_unwritten: true,
+            },
+        }
+    }
+
     /// The exit status.
     pub fn status(&self) -> u8
         ensures { result ≡ self.now.status }
@@ -76,17 +104,6 @@ impl Ending {
         ensures { result ≡ self.now.is_unwritten }
     {
         self.is_unwritten
-    }
-}
-
-/// How a request came out; where there was no memory to open a file, this is said first.
-pub fn settled(rt: &HostRuntime, outcome: Result<Ending, AllocError>) -> Ending
-    ensures done { IfOk outcome (λ ending. result ≡ ending) }
-    ensures lacking { IfErr outcome (λ _. result.status ≡ (failure_of ErrorKind.OutOfMemory).1) }
-{
-    match outcome {
-        Ok(ending) => ending,
-        Err(_) => Ending::with(lacking(rt, ErrorKind::OutOfMemory)),
     }
 }
 
@@ -211,7 +228,10 @@ impl<'a> Served<'a, Input<'a>, Target<'a>> {
         } = self;
         match written {
             Ok(_filled) => Ok(ending),
-            Err(unkept) => Ok(Ending::refused(tell_unkept(rt, request, unkept)?)),
+            Err(unkept) => {
+                let told = tell_unkept(rt, request, unkept)?;
+                Ok(Ending::refused(told.said()))
+            }
         }
     }
 }
@@ -252,8 +272,8 @@ impl<'a, O: Output> Printed<'a, O> {
     {
         let target = Snapshot::of(&*out);
         let ending = match kept {
-            Ok(_files) => put_text(rt, request, text, out),
-            Err(unkept) => Ending::refused(tell_unkept(rt, request, unkept)?),
+            Ok(_files) => Ending::printed(put_text(rt, request, text, out)),
+            Err(unkept) => Ending::refused(tell_unkept(rt, request, unkept)?.said()),
         };
         Ok(Printed {
             request,
@@ -274,40 +294,24 @@ impl<'a> Printed<'a, Target<'a>> {
     }
 }
 
-/// Prints this text, or says that the output failed.
-fn put_text<O: Output>(rt: &HostRuntime, request: &Request, text: &str, out: &mut O) -> Ending
-    ensures status { IsStatus result.status }
-    ensures printed { result.status ≡ 0 → Appends (O.contents out.old) (O.contents out.new) text.now }
-    ensures unwritten { result.is_unwritten ≡ true → (result.status ≢ 0) × O.fails out.old }
-    ensures written { result.is_unwritten ≡ false → result.status ≡ 0 }
+/// Prints this text.
+///
+/// # Errors
+///
+/// The output failed, and that was told.
+fn put_text<O: Output>(
+    rt: &HostRuntime,
+    request: &Request,
+    text: &str,
+    out: &mut O,
+) -> Result<(), NotPrinted>
+    ensures printed { OnOk result (Appends (O.contents out.old) (O.contents out.new) text.now) }
+    ensures failed { OnErr result (O.fails out.old) }
+    ensures line { IfErr result (λ told. told.line ≡ Failure.Write) }
+    ensures said { IfErr result (λ told. IsSaidOf request.now told.said) }
 {
-    if out.put(text.as_bytes()).is_ok() {
-        return Ending::with(0);
-    }
-    let said = turn_down(rt, request, Failure::Write).said();
-    Ending {
-        status: said.status(),
-        is_unwritten: true,
-    }
-}
-
-/// Says why nothing more is done. The result is the exit status.
-pub fn lacking(rt: &HostRuntime, kind: ErrorKind) -> u8
-    ensures { result ≡ (failure_of kind).1 }
-{
-    let (line, status) = failure(kind);
-    let _ = rt.eprintln(line);
-    status
-}
-
-/// The line and the exit status where the words could not be had, help not be written, or memory to open a file not be
-/// had.
-fn failure(kind: ErrorKind) -> (&'static str, u8)
-    ensures { ((result.0).now, result.1) ≡ failure_of kind }
-{
-    match kind {
-        ErrorKind::OutOfMemory => ("out of memory", 3),
-        ErrorKind::InvalidData => ("error: the words are not UTF-8", 2),
-        _ => ("fault write", 1),
+    match out.put(text.as_bytes()) {
+        Ok(()) => Ok(()),
+        Err(_) => Err(turn_down(rt, request, Failure::Write)),
     }
 }

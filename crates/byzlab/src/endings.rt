@@ -1,5 +1,6 @@
 //! How requests come out that are done one behind another.
-ghost use Rattle.std.specs.Prelude.{◌≡◌, ◌+◌, ◌<◌, ◌^◌, None, Some, false, max};
+ghost use Rattle.std.specs.Prelude.{◌≡◌, ◌+◌, ◌<◌, ◌^◌, None, Some, is_some, max};
+ghost use Rattle.byzlab.specs.Turns.{first_unwritten};
 
 use crate::ending::Ending;
 use crate::unasked::Unasked;
@@ -12,8 +13,8 @@ pub struct Endings {
     count: usize,
     /// The worst exit status, 0 of none.
     worst: u8,
-    /// Whether the last one's output failed, so that no further answer can be written.
-    is_unwritten: bool,
+    /// The place of the first, from 0, whose output failed, so that no further answer can be written; where one's did.
+    unwritten: Option<usize>,
     /// The words behind them that ask for nothing, where such ended them.
     unasked: Option<Unasked>,
 }
@@ -23,13 +24,13 @@ impl Endings {
     pub fn none() -> Endings
         ensures count { result.count ≡ 0 }
         ensures worst { result.worst ≡ 0 }
-        ensures written { result.is_unwritten ≡ false }
+        ensures written { result.unwritten ≡ None }
         ensures unasked { result.unasked ≡ None }
     {
         Endings {
             count: 0,
             worst: 0,
-            is_unwritten: false,
+            unwritten: None,
             unasked: None,
         }
     }
@@ -39,25 +40,26 @@ impl Endings {
         requires { self.old.count + 1 < 2 ^ 64 }
         ensures count { self.new.count ≡ self.old.count + 1 }
         ensures worst { self.new.worst ≡ max self.old.worst ending.status }
-        ensures unwritten { self.new.is_unwritten ≡ ending.is_unwritten }
+        ensures unwritten { self.new.unwritten
+            ≡ first_unwritten self.old.unwritten self.old.count ending.is_unwritten }
         ensures unasked { self.new.unasked ≡ self.old.unasked }
     {
+        self.unwritten = first_unwritten(self.unwritten, self.count, ending.is_unwritten());
         self.count += 1;
         self.worst = worse(self.worst, ending.status());
-        self.is_unwritten = ending.is_unwritten();
     }
 
     /// These, and words behind them that ask for nothing.
     pub fn with_unasked(self, unasked: Unasked) -> Endings
         ensures count { result.count ≡ self.count }
         ensures worst { result.worst ≡ max self.worst unasked.status }
-        ensures unwritten { result.is_unwritten ≡ self.is_unwritten }
+        ensures unwritten { result.unwritten ≡ self.unwritten }
         ensures unasked { result.unasked ≡ Some unasked }
     {
         Endings {
             count: self.count,
             worst: worse(self.worst, unasked.status()),
-            is_unwritten: self.is_unwritten,
+            unwritten: self.unwritten,
             unasked: Some(unasked),
         }
     }
@@ -76,11 +78,11 @@ impl Endings {
         self.worst
     }
 
-    /// Whether the last one's output failed.
+    /// Whether the output of one failed.
     pub fn is_unwritten(&self) -> bool
-        ensures { result ≡ self.now.is_unwritten }
+        ensures { result ≡ is_some self.now.unwritten }
     {
-        self.is_unwritten
+        self.unwritten.is_some()
     }
 }
 
@@ -89,4 +91,15 @@ fn worse(first: u8, second: u8) -> u8
     ensures { result ≡ max first second }
 {
     if first < second { second } else { first }
+}
+
+/// The place of the first whose output failed, once the one at this place came out so.
+fn first_unwritten(before: Option<usize>, place: usize, is_unwritten: bool) -> Option<usize>
+    ensures { result ≡ first_unwritten before place is_unwritten }
+{
+    match before {
+        Some(first) => Some(first),
+        None if is_unwritten => Some(place),
+        None => None,
+    }
 }

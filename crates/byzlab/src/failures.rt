@@ -7,7 +7,7 @@ ghost use Rattle.faults.specs.declared.failure.Failure.TheVariants.{Read as unre
 ghost use Rattle.byzlab.specs.Failures.{IsWhy};
 
 use command_line::Task;
-use lab::{Failure, is_explained, reason};
+use lab::{Failure, FileName, is_explained, reason};
 use std::alloc::AllocError;
 use std::fmt::{self, Display};
 use std::io::{self, ErrorKind};
@@ -49,18 +49,19 @@ impl<D: Display + Drop> Explained<D> {
 
 /// That a file of this name was not written.
 #[derive(Drop)]
-pub struct Unwritten<D: Display + Drop> {
-    pub name: D,
+pub struct Unwritten {
+    pub name: String,
 }
 
-impl<D: Display + Drop> Display for Unwritten<D> {
-    ghost use Rattle.std.specs.Prelude.{Some, codes};
+impl Display for Unwritten {
+    ghost use Rattle.std.specs.Prelude.{Some, codes, string_bytes};
     ghost use Rattle.std.specs.Fmt.{◌++?◌};
+    ghost use Rattle.streams.specs.Names.{shown};
 
-    ghost output = { λ unwritten. Some (codes "fault write ") ++? D.output unwritten.name };
+    ghost output = { λ unwritten. Some (codes "fault write ") ++? shown (string_bytes unwritten.name) };
 
     fn fmt<W: fmt::Write>(&self, f: &mut fmt::Formatter<W>) -> fmt::Result {
-        write!(f, "fault write {}", self.name)
+        write!(f, "fault write {}", FileName(self.name.as_str()))
     }
 }
 

@@ -8,14 +8,16 @@ mod failures;
 mod folder;
 mod input;
 mod keeping;
+mod noted;
 mod progress;
+mod stopped;
 mod target;
 mod telling;
 mod told;
 mod unasked;
 mod watched;
 
-ghost use Rattle.std.specs.Prelude.{◌≡◌, ◌≢◌, ◌≤◌, ◌⊎◌, ◌↔◌, Any, Ok, IfOk, IfErr, IfNone, IfSome, IsErr, IsUtf8, List, None, Some, false, length, option_map, true};
+ghost use Rattle.std.specs.Prelude.{◌≡◌, ◌≢◌, ◌≤◌, ◌⊎◌, ◌↔◌, Any, Ok, IfOk, IfErr, IfNone, IfSome, IsErr, IsOk, IsSome, IsUtf8, List, None, Some, false, length, option_map, string_bytes, true};
 ghost use Rattle.std.specs.Result.{result_ok};
 ghost use Rattle.command_line.specs.Asked.{words_of};
 ghost use Rattle.command_line.specs.Tasks.{file_of, folder_of, schedule_target_of, second_of, seed_of, target_of};
@@ -26,38 +28,39 @@ ghost use Rattle.faults.specs.declared.failure.Failure.TheVariants.{Read as unre
 ghost use Rattle.own_lines.specs.Refused.{IsTold};
 ghost use Rattle.byzlab.specs.Files.{IsInputIf, IsOpened, IsSecondIf, IsSeededIf, IsSeen, IsServedFor, IsTargetOf, IsTextOf};
 ghost use Rattle.byzlab.specs.Kept.{IsUnexplored, KeepsIn};
-ghost use Rattle.byzlab.specs.Failures.{AsksNothing, IsStatus, IsUnreadable};
+ghost use Rattle.byzlab.specs.Failures.{AsksNothing, IsStatus, IsUnreadable, failure_of};
+ghost use Rattle.byzlab.specs.Rejected.{IsRejected};
 ghost use Rattle.byzlab.specs.Turns.{AreDone, AreEndingsOf};
 
 use chance::seeded;
 use command_line::{Request, Task, each};
-use ending::{Ending, Printed, Served, lacking, settled};
+use ending::{Ending, Printed, Served};
 use endings::Endings;
 use failures::why_unwritten;
 use folder::FolderOf;
 use input::{Input, Opened};
 use keeping::{keep, write_whole};
 use lab::{Refusal, with_schedules};
-use neighbours::{Folder, Untaken, reads_scenario, with_files, with_story};
+use neighbours::{Folder, reads_scenario, with_files, with_story};
 use own_lines::refused;
 use progress::Progress;
 use std::alloc::AllocError;
 use std::env;
 use std::fs::File;
-use std::io::{self, Cursor, Read, Stdin};
+use std::io::{self, Cursor, ErrorKind, Read, Stdin};
 use std::process::ExitCode;
 use std::sync::Wait;
 use std::thread::Threads;
+use stopped::lacking;
 use target::{Target, target_of};
-use telling::{Unread, tell_unread, tell_untaken, turn_down};
-use told::Said;
+use telling::{Rejected, TurnedDown, Unread, tell_neighbour, tell_unread, turn_down};
 use unasked::Unasked;
 use watched::Watched;
 
 fn main(rt: HostRuntime) -> ExitCode {
     let status = match called(&rt, &rt) {
         Ok(endings) => endings.worst(),
-        Err(error) => lacking(&rt, error.kind()),
+        Err(error) => lacking(&rt, error.kind()).status(),
     };
     ExitCode::from(status)
 }
@@ -98,7 +101,7 @@ fn in_turn<T: Threads + Wait + Sync>(
     ensures status { IfOk result (λ endings. endings.worst ≤ 3) }
     ensures done { IfOk result (AreEndingsOf requests.now) }
     ensures all { IfOk result (λ endings. (endings.count ≡ length requests.now)
-        ⊎ ((endings.is_unwritten ≡ true) ⊎ Any (λ words. AsksNothing words.items) requests.now)) }
+        ⊎ (IsSome endings.unwritten ⊎ Any (λ words. AsksNothing words.items) requests.now)) }
     ensures unasked { IfOk result
         (λ endings. endings.worst ≡ 2 → Any (λ words. AsksNothing words.items) requests.now) }
 {
@@ -112,7 +115,7 @@ fn in_turn<T: Threads + Wait + Sync>(
         let _ = progress.clear();
         endings.enter(ended(rt, threads, &request));
         if endings.is_unwritten() {
-            break;
+            return Ok(endings);
         }
         let _ = progress.tell(endings.count());
     }
@@ -130,6 +133,17 @@ fn ended<'a, T: Threads + Wait + Sync>(
     settled(rt, answered(rt, threads, request))
 }
 
+/// How a request came out; where there was no memory to open a file, this is said first.
+fn settled(rt: &HostRuntime, outcome: Result<Ending, AllocError>) -> Ending
+    ensures done { IfOk outcome (λ ending. result ≡ ending) }
+    ensures lacking { IfErr outcome (λ _. result.status ≡ (failure_of ErrorKind.OutOfMemory).1) }
+{
+    match outcome {
+        Ok(ending) => ending,
+        Err(_) => Ending::stopped(lacking(rt, ErrorKind::OutOfMemory)),
+    }
+}
+
 /// Does what is asked for.
 fn answered<'a, T: Threads + Wait + Sync>(
     rt: &'a HostRuntime,
@@ -144,7 +158,7 @@ fn answered<'a, T: Threads + Wait + Sync>(
     };
     let first = match completed(rt, request, first)? {
         Ok(first) => first,
-        Err(said) => return Ok(Ending::refused(said)),
+        Err(told) => return Ok(Ending::refused(told.said())),
     };
     let Task::Explore {
         scenario,
@@ -298,16 +312,18 @@ fn random<'a>(rt: &HostRuntime, task: &Task) -> Result<Option<Input<'a>>, AllocE
     Ok(Some(Opened::Text(Cursor::new(schedule.into_bytes()))))
 }
 
-/// The first file, in which a scenario has the files that it names; or that a line was told, where one of them is not
-/// taken.
+/// The first file, in which a scenario has the files that it names; or that a line was told, where it or one of them is
+/// not taken.
 fn completed<'a>(
     rt: &HostRuntime,
-    request: &Request,
+    request: &'a Request,
     first: Input<'a>,
-) -> Result<Result<Input<'a>, Said>, AllocError>
+) -> Result<Result<Input<'a>, Rejected<'a>>, AllocError>
     ensures other { reads_scenario request.now.task ≡ false → result ≡ Ok (Ok first.entry) }
     ensures seen { reads_scenario request.now.task ≡ true → IfSome (file_of request.now.task) (λ _. IfOk result
         (λ input. IfOk input (IsSeen None (λ _. None) request.now.task))) }
+    ensures rejected { IfSome (file_of request.now.task) (λ name. IfOk result (λ input. IfErr input
+        (IsRejected None (λ _. None) request.now.task name))) }
 {
     match request.task.file() {
         Some(name) if reads_scenario(&request.task) => {
@@ -319,28 +335,33 @@ fn completed<'a>(
 }
 
 /// A scenario that is read from this file, with the files of the folder that it names; or that a line was told, where
-/// one of them is not taken.
+/// it or one of them is not taken.
 fn seen<'a, R: Read + Drop, D: Folder>(
     rt: &HostRuntime,
     request: &Request,
-    name: &str,
+    name: &'a str,
     file: R,
     folder: &D,
-) -> Result<Result<Input<'a>, Said>, AllocError>
-    ensures { IfOk result
+) -> Result<Result<Input<'a>, Rejected<'a>>, AllocError>
+    ensures seen { IfOk result
         (λ input. IfOk input (IsSeen (R.remaining file) (D.bytes folder.now) request.now.task)) }
+    ensures rejected { IfOk result (λ input. IfErr input
+        (IsRejected (R.remaining file) (D.bytes folder.now) request.now.task name.entry.now)) }
 {
     let bytes = match read(rt, request, name, file)? {
         Ok(bytes) => bytes,
-        Err(told) => return Ok(Err(told.said())),
+        Err(told) => return Ok(Err(Rejected::Unread(told))),
     };
     let own = bytes.clone()?;
     match with_files(rt.alloc(), bytes, folder) {
-        Ok(bytes) => made(rt, request, own.as_slice(), bytes),
-        Err(Untaken::Told { lines, kind }) => {
-            Ok(Err(tell_untaken(rt, request, lines.as_str(), kind)))
+        Ok(bytes) => match made(rt, request, own.as_slice(), bytes)? {
+            Ok(input) => Ok(Ok(input)),
+            Err(told) => Ok(Err(Rejected::Refused(told))),
+        },
+        Err(untaken) => {
+            let told = tell_neighbour(rt, request, untaken)?;
+            Ok(Err(Rejected::Untaken(told)))
         }
-        Err(Untaken::Memory) => Err(AllocError),
     }
 }
 
@@ -351,14 +372,20 @@ fn made<'a>(
     request: &Request,
     own: &[u8],
     bytes: Vec<u8>,
-) -> Result<Result<Input<'a>, Said>, AllocError>
+) -> Result<Result<Input<'a>, TurnedDown<String>>, AllocError>
     ensures text { IfOk result (λ input. IfOk input (IsTextOf (with_story request.now.task own.now bytes.items))) }
     ensures taken { IfOk result (λ input. IfOk input (λ _.
         own.now ≢ bytes.items → IsUtf8 own.now → IsUtf8 bytes.items →
         IsTold request.now.task own.now bytes.items None)) }
+    ensures told { IfOk result (λ input. IfErr input (λ told.
+        own.now ≢ bytes.items → IsUtf8 own.now → IsUtf8 bytes.items →
+        IsTold request.now.task own.now bytes.items (Some (string_bytes told.line)))) }
+    ensures named { IfOk result (λ input. IfErr input (λ _. own.now ≢ bytes.items)) }
+    ensures own_text { ¬ IsUtf8 own.now → IfOk result IsOk }
+    ensures made_text { ¬ IsUtf8 bytes.items → IfOk result IsOk }
 {
     if let Some(lines) = refused(rt.alloc(), &request.task, own, bytes.as_slice())? {
-        return Ok(Err(turn_down(rt, request, lines.as_str()).said()));
+        return Ok(Err(turn_down(rt, request, lines)));
     }
     let text = with_story(rt.alloc(), &request.task, own, bytes)?;
     Ok(Ok(Opened::Text(Cursor::new(text))))

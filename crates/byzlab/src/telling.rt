@@ -1,14 +1,18 @@
 //! The line that says why a task is not done.
-ghost use Rattle.std.specs.Prelude.{◌≡◌, ◌↔◌, IfOk, IsErr};
+ghost use Rattle.std.specs.Prelude.{◌≡◌, ◌↔◌, IfOk, IsErr, None, Some, if◌then◌else◌};
+ghost use Rattle.std.specs.IoError.{error_kind};
+ghost use Rattle.faults.specs.Whys.{is_explained};
 ghost use Rattle.faults.specs.declared.failure.Failure.TheVariants.{Read as unreadable};
 ghost use Rattle.byzlab.specs.Failures.{IsSaidOf};
+ghost use Rattle.byzlab.specs.Rejected.{TellsUnkept, TellsUntaken, said_of};
 
 use crate::failures::{Explained, Unwritten, unread};
 use crate::keeping::Unkept;
 use crate::told::{Said, Told, told_on};
 use crate::watched::Watched;
 use command_line::Request;
-use lab::{Failure, FileName};
+use lab::Failure;
+use neighbours::Untaken;
 use std::alloc::AllocError;
 use std::fmt::Display;
 use std::io::{self, ErrorKind, Stderr, Stdout};
@@ -18,6 +22,33 @@ pub type TurnedDown<D> = Told<D, Stdout, Stderr>;
 
 /// That it was told of a file that it is not read.
 pub type Unread<'a> = TurnedDown<Explained<Failure<'a>>>;
+
+/// That it was told of a file that it was not written.
+pub type NotKept = TurnedDown<Explained<Unwritten>>;
+
+/// That it was told of a scenario that it is not taken.
+#[derive(Drop)]
+pub enum Rejected<'a> {
+    /// It is not read.
+    Unread(Unread<'a>),
+    /// A file that it names is not taken.
+    Untaken(TurnedDown<Explained<String>>),
+    /// It is refused, at its own lines and those of the files that it names.
+    Refused(TurnedDown<String>),
+}
+
+impl Rejected<'_> {
+    /// How the line was told.
+    pub fn said(self) -> Said
+        ensures { result ≡ said_of self.entry }
+    {
+        match self {
+            Rejected::Unread(told) => told.said(),
+            Rejected::Untaken(told) => told.said(),
+            Rejected::Refused(told) => told.said(),
+        }
+    }
+}
 
 /// Says that the task is not done, by this line.
 pub fn turn_down<D: Display + Drop>(rt: &HostRuntime, request: &Request, line: D) -> TurnedDown<D>
@@ -40,7 +71,10 @@ pub fn tell_unread<'a>(
     error: io::Error,
 ) -> Result<Unread<'a>, AllocError>
     ensures line { IfOk result (λ told. told.line.lines ≡ unreadable name.entry) }
+    ensures why { IfOk result (λ told.
+        told.line.kind ≡ (if is_explained request.now.task then Some (error_kind error) else None)) }
     ensures said { IfOk result (λ told. IsSaidOf request.now told.said) }
+    ensures memory { IsErr result ↔ (error_kind error ≡ ErrorKind.OutOfMemory) }
 {
     let line = unread(&request.task, name, error)?;
     Ok(turn_down(rt, request, line))
@@ -52,10 +86,32 @@ pub fn tell_untaken<D: Display + Drop>(
     request: &Request,
     lines: D,
     kind: Option<ErrorKind>,
-) -> Said
-    ensures { IsSaidOf request.now result }
+) -> TurnedDown<Explained<D>>
+    ensures line { result.line.lines ≡ lines }
+    ensures why { result.line.kind ≡ (if is_explained request.now.task then kind else None) }
+    ensures said { IsSaidOf request.now result.said }
 {
-    turn_down(rt, request, Explained::by(&request.task, lines, kind)).said()
+    turn_down(rt, request, Explained::by(&request.task, lines, kind))
+}
+
+/// Says that a file that a scenario names is not taken.
+///
+/// # Errors
+///
+/// `AllocError` where that is want of memory.
+pub fn tell_neighbour(
+    rt: &HostRuntime,
+    request: &Request,
+    untaken: Untaken,
+) -> Result<TurnedDown<Explained<String>>, AllocError>
+    ensures line { IfOk result (λ told. TellsUntaken request.now.task untaken told.line) }
+    ensures said { IfOk result (λ told. IsSaidOf request.now told.said) }
+    ensures memory { IsErr result ↔ (untaken ≡ Untaken.Memory) }
+{
+    match untaken {
+        Untaken::Told { lines, kind } => Ok(tell_untaken(rt, request, lines, kind)),
+        Untaken::Memory => Err(AllocError),
+    }
 }
 
 /// Says that a file was not written.
@@ -63,13 +119,17 @@ pub fn tell_untaken<D: Display + Drop>(
 /// # Errors
 ///
 /// `AllocError` where that is want of memory.
-pub fn tell_unkept(rt: &HostRuntime, request: &Request, unkept: Unkept) -> Result<Said, AllocError>
-    ensures said { IfOk result (IsSaidOf request.now) }
+pub fn tell_unkept(
+    rt: &HostRuntime,
+    request: &Request,
+    unkept: Unkept,
+) -> Result<NotKept, AllocError>
+    ensures line { IfOk result (λ told. TellsUnkept request.now.task unkept told.line) }
+    ensures said { IfOk result (λ told. IsSaidOf request.now told.said) }
     ensures memory { IsErr result ↔ (unkept ≡ Unkept.Memory) }
 {
     match unkept {
         Unkept::Unwritten(name, kind) => {
-            let name = FileName(name.as_str());
             Ok(tell_untaken(rt, request, Unwritten { name }, Some(kind)))
         }
         Unkept::Memory => Err(AllocError),

@@ -7,7 +7,8 @@ returns-in-Err-clause-done g c =
     let status = c.in_ok-told-in-Err.ensures.status in
     let nothing = rw c.as_slice.ensures.value at c.in-Err.ensures.refused in
     end_before c.args.requests.now c.words-item.result c.loop-words.words-index _ c.with_unasked.result _ c.in-Err.error (omega arith) (sym c.words-item.is)
-    (c.with_unasked.ensures.count ∙ c.loop-words.invariant.count) c.with_unasked.ensures.worst c.with_unasked.ensures.unasked c.in_ok-told-in-Err.ensures.error status
+    (c.with_unasked.ensures.count ∙ c.loop-words.invariant.count) c.with_unasked.ensures.worst
+    (c.with_unasked.ensures.unwritten ∙ c.loop-words.invariant.written) c.with_unasked.ensures.unasked c.in_ok-told-in-Err.ensures.error status
     (record {
       nothing = asked_nothing c.in-Err.error _ _ status nothing;
       kind = rw c.as_slice.ensures.value at c.in-Err.ensures.kind;

@@ -6,5 +6,6 @@ abbrev pub invariant-loop-words : goal.invariant-loop-words
 invariant-loop-words g l = record {
   status : IsStatus l.endings.worst;
   count : l.endings.count ≡ l.words-index;
+  written : l.endings.unwritten ≡ None;
   asked : l.endings.unasked ≡ None;
 }
