@@ -24,6 +24,13 @@ pub refused_told : (known : Option (List ℕ)) (beside : List ℕ → Option (Li
     → IfSome known (λ all. read ≡ all) → Sees beside read made → own ≡ read → own ≢ made
     → (own ≢ made → IsUtf8 own → IsUtf8 made → IsTold task own made (Some (string_bytes lines)))
     → (own : List ℕ) × IfSome known (λ all. own ≡ all) × TellsRefused beside task own lines
-refused_told known beside task read own made lines k s e named told =
-    (read, k, (made, s, subst (λ (o : List ℕ). o ≢ made) e named,
-    subst (λ (o : List ℕ). IsUtf8 o → IsUtf8 made → IsTold task o made (Some (string_bytes lines))) e (told named)))
+refused_told known beside task read own made lines k s e named told = (
+  read,
+  k,
+  (
+    made,
+    s,
+    subst (λ (o : List ℕ). o ≢ made) e named,
+    subst (λ (o : List ℕ). IsUtf8 o → IsUtf8 made → IsTold task o made (Some (string_bytes lines))) e (told named),
+  ),
+)
