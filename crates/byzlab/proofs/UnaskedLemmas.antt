@@ -1,16 +1,13 @@
 -- Words that are refused, and not for want of memory, ask for nothing, and requests end before them.
 use Rattle.std.proofs.Common.{ℕ, suc, ◌≡◌, ◌≤◌, ◌<◌, List, arith, inr, length, refl, subst, sym}
-use Rattle.std.specs.Prelude.{Option, None, Some, IfSome, IsSome, IsSomeAnd, Vec, max, slice_index_or}
+use Rattle.std.specs.Prelude.{Option, None, Some, IfSome, IsSome, Vec, max, slice_index_or}
 use Rattle.std.specs.Borrow.{Bor}
 use Rattle.std.specs.Global.{Global}
-use Rattle.clap.specs.Words.{IsAmong, fault_of, kind_of}
-use Rattle.command_line.specs.Asked.{spelt, words_of}
-use Rattle.command_line.specs.Lab.{lab_app}
-use Rattle.command_line.specs.Tasks.{IfMisuse, IfRefused, IfWords, IsMisused}
+use Rattle.command_line.specs.Tasks.{IfRefused}
 use Rattle.command_line.specs.Usage.{Text}
 use Rattle.command_line.specs.declared.errors.TaskError.{TaskError}
 use Rattle.command_line.specs.declared.errors.TaskError.TheVariants as task
-use Rattle.byzlab.specs.Failures.{AsksNothing, IsUnasked, error_of}
+use Rattle.byzlab.specs.Failures.{IsUnasked, error_of}
 use Rattle.byzlab.specs.Turns.{AreEndingsOf, IsErrorOf, IsToldAt}
 use Rattle.byzlab.specs.declared.endings.Endings.{Endings}
 use Rattle.byzlab.specs.declared.unasked.Unasked.{Unasked}

@@ -68,7 +68,7 @@ impl Ending {
         }
     }
 
-    /// Of a request for which memory was wanting, where that was said.
+    /// Of a request behind which nothing more is done, where it was said why.
     pub fn stopped(stopped: Stopped) -> Ending
         ensures status { result.status ≡ stopped.status }
         ensures written { result.is_unwritten ≡ false }

@@ -3,7 +3,6 @@ ghost use Rattle.std.specs.Prelude.{◌≡◌, IfSome};
 ghost use Rattle.lab.specs.Serving.{Tells};
 
 use std::fmt::Display;
-use std::io::Stderr;
 use std::marker::PhantomData;
 use streams::Output;
 
@@ -25,11 +24,4 @@ pub fn noted_on<D: Display + Drop, F: Output>(line: D, fault: &mut F) -> Noted<D
         line,
         fault: PhantomData,
     }
-}
-
-/// Tells this line on standard error.
-pub fn note<D: Display + Drop>(rt: &HostRuntime, line: D) -> Noted<D, Stderr>
-    ensures { result.line ≡ line }
-{
-    noted_on(line, &mut rt.stderr())
 }

@@ -8,6 +8,7 @@ ghost use Rattle.byzlab.specs.Rejected.{TellsUnkept, TellsUntaken, said_of};
 
 use crate::failures::{Explained, Unwritten, unread};
 use crate::keeping::Unkept;
+use crate::noted::{Noted, noted_on};
 use crate::told::{Said, Told, told_on};
 use crate::watched::Watched;
 use command_line::Request;
@@ -48,6 +49,13 @@ impl Rejected<'_> {
             Rejected::Refused(told) => told.said(),
         }
     }
+}
+
+/// Tells this line on standard error.
+pub fn note<D: Display + Drop>(rt: &HostRuntime, line: D) -> Noted<D, Stderr>
+    ensures { result.line ≡ line }
+{
+    noted_on(line, &mut rt.stderr())
 }
 
 /// Says that the task is not done, by this line.

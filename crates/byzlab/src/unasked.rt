@@ -1,7 +1,8 @@
 ghost use Rattle.std.specs.Prelude.{◌≡◌, IfOk};
 ghost use Rattle.byzlab.specs.Failures.{IsUnasked, IsUnaskedBy, error_of};
 
-use crate::noted::{Noted, note};
+use crate::noted::Noted;
+use crate::telling::note;
 use clap::Error;
 use command_line::TaskError;
 use std::io::{self, ErrorKind, Stderr};
