@@ -3,7 +3,7 @@ use Rattle.std.specs.Prelude.{ℕ, suc, ◌≡◌, ◌≤◌, ◌<◌, ◌⊎◌
 use Rattle.std.specs.Borrow.{Bor}
 use Rattle.std.specs.Global.{Global}
 use Rattle.clap.specs.Words.{IsAmong, fault_of, kind_of}
-use Rattle.command_line.specs.Asked.{asked, spelt, words_of}
+use Rattle.command_line.specs.Asked.{spelt, words_of}
 use Rattle.command_line.specs.Lab.{lab_app}
 use Rattle.command_line.specs.Several.{requests_of}
 use Rattle.command_line.specs.Tasks.{IfMisuse, IfWords, IsMisused}

@@ -88,8 +88,8 @@ pub fn tell_unread<'a>(
     Ok(turn_down(rt, request, line))
 }
 
-/// Tells that a file is not taken and, of one that is not read, why, where the task explains what it refuses.
-pub fn tell_untaken<D: Display + Drop>(
+/// Tells these lines of a file and, where there is a kind of error and the task explains what it refuses, this kind.
+pub fn tell_explained<D: Display + Drop>(
     rt: &HostRuntime,
     request: &Request,
     lines: D,
@@ -117,7 +117,7 @@ pub fn tell_neighbour(
     ensures memory { IsErr result ↔ (untaken ≡ Untaken.Memory) }
 {
     match untaken {
-        Untaken::Told { lines, kind } => Ok(tell_untaken(rt, request, lines, kind)),
+        Untaken::Told { lines, kind } => Ok(tell_explained(rt, request, lines, kind)),
         Untaken::Memory => Err(AllocError),
     }
 }
@@ -138,7 +138,7 @@ pub fn tell_unkept(
 {
     match unkept {
         Unkept::Unwritten(name, kind) => {
-            Ok(tell_untaken(rt, request, Unwritten { name }, Some(kind)))
+            Ok(tell_explained(rt, request, Unwritten { name }, Some(kind)))
         }
         Unkept::Memory => Err(AllocError),
     }
