@@ -1,4 +1,4 @@
-ghost use Rattle.std.specs.Prelude.{◌≡◌, ◌≢◌, if◌then◌else◌, IfOk, IfErr, IsSome, None, Some, [], ◌∷◌, codes, is_some, option_map, string_bytes, true};
+ghost use Rattle.std.specs.Prelude.{◌≡◌, ◌≢◌, if◌then◌else◌, IfOk, IfErr, IsSome, None, Some, [], ◌∷◌, codes, is_some, option_map, string_bytes, true, false};
 ghost use Rattle.clap.specs.Words.{subcommand_rows_of};
 ghost use Rattle.command_line.specs.Lab.{is_given, task_met};
 ghost use Rattle.command_line.specs.Tasks.{IsDrawing, levels_in, named};
@@ -181,6 +181,7 @@ impl<'m, 'a> Met<'m, 'a> {
         requires partial { has (codes "partial") (told_by self) ≡ true }
         ensures task { IfOk result (Says (told_by self.entry)) }
         ensures refused { IfErr result (IsErrorOf (told_by self.entry)) }
+        ensures memory { has (codes "units") (told_by self.entry) ≡ true → IfErr result (λ error. error ≢ TaskError.Memory) }
     {
         if self.has("units") {
             return Err(TaskError::Misuse(Misuse::UnitsOfParts));
@@ -366,6 +367,7 @@ impl<'m, 'a> Met<'m, 'a> {
         requires { is_of (codes "tree" ∷ []) (told_by self) ≡ true }
         ensures named { IfOk result (λ g. NamesGeneral (codes "of") (told_by self.entry) (Some g)) }
         ensures refused { IfErr result (IsErrorOf (told_by self.entry)) }
+        ensures memory { has (codes "of") (told_by self.entry) ≡ false → IfErr result (λ error. error ≢ TaskError.Memory) }
     {
         let Some(word) = self.value("of") else {
             return Err(TaskError::Misuse(Misuse::NobodyNamed));
@@ -543,6 +545,7 @@ impl<'m, 'a> Met<'m, 'a> {
         requires { is_of campaigns (told_by self) ≡ true }
         ensures explained { IfOk result (AreExplained (told_by self.entry)) }
         ensures refused { IfErr result (IsErrorOf (told_by self.entry)) }
+        ensures memory { has (codes "explain") (told_by self.entry) ≡ false → IfErr result (λ error. error ≢ TaskError.Memory) }
     {
         let explained = self.has("explain");
         let Some(word) = self.value("of") else {
@@ -565,6 +568,7 @@ impl<'m, 'a> Met<'m, 'a> {
         requires { is_of (codes "table" ∷ []) (told_by self) ≡ true }
         ensures filling { IfOk result (IsFilling (told_by self.entry)) }
         ensures refused { IfErr result (IsErrorOf (told_by self.entry)) }
+        ensures memory { has (codes "loyal") (told_by self.entry) ≡ false → IfErr result (λ error. error ≢ TaskError.Memory) }
     {
         let Some(word) = self.value("loyal") else {
             if self.has("lie") {
