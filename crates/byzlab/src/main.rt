@@ -53,7 +53,7 @@ use std::sync::Wait;
 use std::thread::Threads;
 use stopped::lacking;
 use target::{Target, target_of};
-use telling::{Rejected, TurnedDown, Unread, tell_neighbour, tell_unread, turn_down};
+use telling::{Rejected, TurnedDown, Unread, given_or_told, tell_neighbour, turn_down};
 use unasked::Unasked;
 use watched::Watched;
 
@@ -403,9 +403,10 @@ fn read<'a, R: Read + Drop>(
 {
     let mut file = file;
     let mut bytes = Vec::new(rt.alloc());
-    match file.read_to_end(&mut bytes) {
+    let outcome = file.read_to_end(&mut bytes);
+    match given_or_told(rt, request, name, outcome)? {
         Ok(_) => Ok(Ok(bytes)),
-        Err(error) => Ok(Err(tell_unread(rt, request, name, error)?)),
+        Err(told) => Ok(Err(told)),
     }
 }
 
@@ -425,8 +426,5 @@ fn opened<'a>(
     let Some(name) = name else {
         return Ok(Ok(Opened::Nothing));
     };
-    match input::open(rt, name) {
-        Ok(input) => Ok(Ok(input)),
-        Err(closed) => Ok(Err(tell_unread(rt, request, name, closed)?)),
-    }
+    given_or_told(rt, request, name, input::open(rt, name))
 }

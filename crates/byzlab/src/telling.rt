@@ -88,6 +88,31 @@ pub fn tell_unread<'a>(
     Ok(turn_down(rt, request, line))
 }
 
+/// What opening or reading the file of this name gave; or, where it failed, that this was told.
+///
+/// # Errors
+///
+/// `AllocError` where it failed for want of memory.
+pub fn given_or_told<'a, T>(
+    rt: &HostRuntime,
+    request: &Request,
+    name: &'a str,
+    outcome: io::Result<T>,
+) -> Result<Result<T, Unread<'a>>, AllocError>
+    ensures given { IfOk outcome (λ given. result ≡ Ok (Ok given)) }
+    ensures failed { IfErr outcome (λ _. IfOk result IsErr) }
+    ensures line { IfOk result (λ r. IfErr r (λ told. told.line.lines ≡ unreadable name.entry)) }
+    ensures why { IfErr outcome (λ error. IfOk result (λ r. IfErr r (λ told.
+        told.line.kind ≡ (if is_explained request.now.task then Some (error_kind error) else None)))) }
+    ensures said { IfOk result (λ r. IfErr r (λ told. IsSaidOf request.now told.said)) }
+    ensures memory { IfErr outcome (λ error. IsErr result ↔ (error_kind error ≡ ErrorKind.OutOfMemory)) }
+{
+    match outcome {
+        Ok(given) => Ok(Ok(given)),
+        Err(error) => Ok(Err(tell_unread(rt, request, name, error)?)),
+    }
+}
+
 /// Tells these lines of a file and, where there is a kind of error and the task explains what it refuses, this kind.
 pub fn tell_explained<D: Display + Drop>(
     rt: &HostRuntime,
