@@ -1,5 +1,5 @@
 //! The line that says why a task is not done.
-ghost use Rattle.std.specs.Prelude.{◌≡◌, ◌↔◌, IfOk, IsErr, None, Some, if◌then◌else◌};
+ghost use Rattle.std.specs.Prelude.{◌≡◌, ◌↔◌, IfErr, IfOk, IsErr, None, Ok, Some, if◌then◌else◌};
 ghost use Rattle.std.specs.IoError.{error_kind};
 ghost use Rattle.faults.specs.Whys.{is_explained};
 ghost use Rattle.faults.specs.declared.failure.Failure.TheVariants.{Read as unreadable};
