@@ -7,10 +7,14 @@ ghost use Rattle.world.specs.World.{each};
 ghost use Rattle.threads.specs.Duties.{duty_of};
 ghost use Rattle.threads.specs.Inboxes.{AreByGeneral, AreOwn};
 
+mod all;
+
 use crate::inbox::Inbox;
 use crate::resident::Resident;
 use crate::tally::Tally;
 use crate::task::Task;
+use all::AllGiven;
+pub(crate) use all::AllShut;
 use delivery::Told;
 use post::{Collector, Post, Poster};
 use roster::Scenario;
@@ -26,6 +30,8 @@ pub(crate) struct HandedOut {
     scenario: Snapshot<Scenario>,
     /// What the rounds before have told.
     told: Snapshot<Told>,
+    /// That each task was put into an inbox.
+    given: AllGiven,
 }
 
 /// That the generals are sent home, as `Camp::close` alone tells.
@@ -115,23 +121,30 @@ impl<'a, G, J: Room> Camp<'a, G, J> {
             → tasks.items ≡ each scenario.now.generals (λ g. duty_of scenario.now before g ∷ []) }
         ensures scenario { result.scenario.value ≡ scenario.now }
         ensures told { result.told.value ≡ told.now }
+        ensures given { (result.given.from ≡ 0) × (result.given.tasks ≡ length tasks.items) }
     {
+        let mut given = AllGiven::none_of(tasks.len());
         while let Some(task) = tasks.pop() {
-            self.inboxes[tasks.len()].put(rt, task);
+            given = given.and(self.inboxes[tasks.len()].put(rt, task));
         }
         HandedOut {
             scenario: Snapshot::of(scenario),
             told: Snapshot::of(told),
+            given,
         }
     }
 
     /// Closes all inboxes: the generals go home.
-    pub(crate) fn close<R: Wait>(&self, rt: &R) -> Home {
+    pub(crate) fn close<R: Wait>(&self, rt: &R) -> AllShut
+        requires own { AreOwn self.now.inboxes.items }
+        ensures shut { result.inboxes ≡ length self.now.inboxes.items }
+    {
         let home = Home(());
+        let mut shut = AllShut::none();
         for inbox in &self.inboxes {
-            inbox.close(rt, home);
+            shut = shut.and(inbox.close(rt, home));
         }
-        home
+        shut
     }
 }
 

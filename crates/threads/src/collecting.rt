@@ -7,7 +7,7 @@ ghost use Rattle.threads.specs.Inboxes.{AreOwn};
 ghost use Rattle.threads.specs.declared.halt.Halt.TheVariants.{Unstarted};
 
 use crate::answers::{Refused, kept};
-use crate::camp::{Camp, Home};
+use crate::camp::{AllShut, Camp};
 use crate::conducting::conduct;
 use crate::ending::Ending;
 use crate::gate::Gate;
@@ -153,6 +153,7 @@ fn finish<R: Threads + Wait, G, J: Room>(
     requires inboxes { scenario.now.generals ≤ length camp.now.inboxes.items }
     requires own { AreOwn camp.now.inboxes.items }
     requires tally { scenario.now.generals ≤ camp.now.tally.generals }
+    requires threads { length handles.items ≤ length camp.now.inboxes.items }
     requires fresh { answers.items ≡ [] }
     requires room { length handles.items ≤ vec_capacity answers }
     ensures refused { result.refused ≡ refused }
@@ -163,8 +164,8 @@ fn finish<R: Threads + Wait, G, J: Room>(
     ensures told { IfOk result.outcome (λ r. WasTold scenario.now r.0.items r.1) }
 {
     let outcome = conducted(rt, alloc, scenario, camp, collector, refused);
-    let home = camp.close(rt);
-    let answers = by_general(joined(rt, home, handles, answers));
+    let shut = camp.close(rt);
+    let answers = by_general(joined(rt, shut, handles, answers));
     Ending::new(refused, answers, outcome)
 }
 
@@ -191,13 +192,15 @@ fn conducted<R: Wait, G, J: Room>(
     }
 }
 
-/// Waits for the threads of the generals, who are sent home: an answer of each, in a list that has room for them.
+/// Waits for the threads of the generals, whose inboxes were closed: an answer of each, in a list that has room for
+/// them.
 fn joined<R: Threads>(
     rt: &R,
-    _home: Home,
+    shut: AllShut,
     mut handles: Vec<JoinHandle<Answer>>,
     mut answers: Vec<Answer>,
 ) -> Vec<Answer>
+    requires shut { length handles.items ≤ shut.inboxes }
     requires fresh { answers.items ≡ [] }
     requires room { length handles.items ≤ vec_capacity answers }
     ensures { length result.items ≡ length handles.items }

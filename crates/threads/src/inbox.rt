@@ -1,12 +1,15 @@
 //! Where a general waits for his next task.
 ghost use Rattle.std.specs.Prelude.{◌≡◌, ◌≢◌, IfErr, MatchResult};
 ghost use Rattle.threads.specs.Inboxes.{left_in};
-ghost use Rattle.threads.specs.declared.inbox.Phase.TheVariants.{Waiting as NoneYet, Given, Closed as NoMore};
+ghost use Rattle.threads.specs.declared.inbox.Phase.TheVariants.{Waiting as NoneYet, Given as Tasked, Closed as NoMore};
+
+mod steps;
 
 use crate::camp::Home;
 use crate::task::Task;
 use std::mem;
 use std::sync::{Condvar, Mutex, Wait};
+pub(crate) use steps::{Given, Shut};
 
 /// What stands in an inbox.
 #[derive(Drop)]
@@ -20,20 +23,6 @@ enum Phase {
 }
 
 impl Phase {
-    /// A task is to be done.
-    fn give(&mut self, task: Task)
-        ensures { self.new ≡ Given task }
-    {
-        *self = Phase::Given(task);
-    }
-
-    /// No task will come any more.
-    fn close(&mut self, home: Home)
-        ensures { self.new ≡ NoMore home }
-    {
-        *self = Phase::Closed(home);
-    }
-
     /// Takes the task that is given, where one has not to be waited for.
     ///
     /// # Errors
@@ -41,13 +30,13 @@ impl Phase {
     /// `Home` where no task will come any more.
     fn take(&mut self) -> Result<Task, Home>
         requires waited { self.old ≢ NoneYet }
-        ensures task { MatchResult result (λ task. self.old ≡ Given task) (λ home. self.old ≡ NoMore home) }
+        ensures task { MatchResult result (λ task. self.old ≡ Tasked task) (λ home. self.old ≡ NoMore home) }
         ensures left { self.new ≡ left_in self.old }
     {
         match mem::replace(self, Phase::Waiting) {
             Phase::Given(task) => Ok(task),
             Phase::Closed(home) => {
-                self.close(home);
+                *self = Phase::Closed(home);
                 Err(home)
             }
             Phase::Waiting => unreachable!(),
@@ -86,17 +75,22 @@ impl Inbox {
     }
 
     /// Puts a task of its general into the inbox.
-    pub(crate) fn put<R: Wait>(&self, rt: &R, task: Task)
+    pub(crate) fn put<R: Wait>(&self, rt: &R, task: Task) -> Given
         requires { task.general ≡ self.now.general }
+        ensures { result.general ≡ self.now.general }
     {
-        self.phase.lock(rt).give(task);
+        let given = self.phase.lock(rt).give(task);
         self.changed.notify_one();
+        given
     }
 
     /// Closes the inbox for good: who waits at it goes home.
-    pub(crate) fn close<R: Wait>(&self, rt: &R, home: Home) {
-        self.phase.lock(rt).close(home);
+    pub(crate) fn close<R: Wait>(&self, rt: &R, home: Home) -> Shut
+        ensures { result.general ≡ self.now.general }
+    {
+        let shut = self.phase.lock(rt).close(self.general, home);
         self.changed.notify_one();
+        shut
     }
 
     /// Waits for the next task, and takes it.

@@ -40,6 +40,7 @@ pub(crate) fn receive<R: Wait>(
     requires all { scenario.now.generals ≤ all.letters }
     requires scenario { all.out.scenario.value ≡ scenario.now }
     requires told { all.out.told.value ≡ told.now }
+    requires given { (all.out.given.from ≡ 0) × (all.out.given.tasks ≡ scenario.now.generals) }
     ensures post { IfOk result (λ r. r.0.table ≡ post.now.table) }
     ensures letters { IfOk result (λ r. AreLettersOf scenario.now (suc told.now.rounds) r.1.items) }
     ensures ascending { IfOk result (λ r. IsSortedByKey (λ (letter : LetterSeen). letter.general) nat_cmp r.1.items) }
