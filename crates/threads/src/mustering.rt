@@ -153,7 +153,7 @@ fn mustered<R: Threads + Wait + Sync, G: Gate + Sync, J: Room + Send + Sync>(
 }
 
 /// The same, by this board, which opens with the scenario's words, and its witnesses, one of whom stays. The accesses of
-/// the chronicle are the board's history: it begins with what he has met.
+/// the chronicle begin with what he has met.
 fn by_board<R: Threads + Wait + Sync, G: Gate + Sync, J: Room + Send + Sync>(
     rt: &R,
     alloc: Global,
