@@ -192,8 +192,8 @@ fn conducted<R: Wait, G, J: Room>(
     }
 }
 
-/// Waits for the threads of the generals, whose inboxes were closed: an answer of each, in a list that has room for
-/// them.
+/// Waits for threads, of which there are no more than inboxes that were closed: an answer of each, in a list that has
+/// room for them.
 fn joined<R: Threads>(
     rt: &R,
     shut: AllShut,

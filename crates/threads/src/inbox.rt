@@ -84,7 +84,7 @@ impl Inbox {
         given
     }
 
-    /// Closes the inbox for good: who waits at it goes home.
+    /// Closes the inbox: who waits at it goes home.
     pub(crate) fn close<R: Wait>(&self, rt: &R, home: Home) -> Shut
         ensures { result.general ≡ self.now.general }
     {

@@ -1,4 +1,4 @@
-//! What is done to an inbox: each step leaves a receipt, which nothing else can make.
+//! How an inbox is given a task, and closed: either leaves a receipt, which nothing else can make.
 ghost use Rattle.std.specs.Prelude.{◌≡◌};
 ghost use Rattle.threads.specs.declared.inbox.Phase.TheVariants.{Given as Tasked, Closed as NoMore};
 
