@@ -1,5 +1,6 @@
 //! What a gate is asked before each access, and that the generals of a muster act at once.
 
+use crate::scenarios::told;
 use crate::texts::{
     COLLUDING_AND_LOOKING, LOOKING, SETTING, SEVEN, SEVEN_ADDERS, SEVEN_AND_SIXTEEN_STEPS,
 };
@@ -12,7 +13,7 @@ use std::sync::Wait;
 use std::sync::atomic::{AtomicU32, Ordering};
 use std::thread;
 use std::thread::Threads;
-use threads::Gate;
+use threads::{Gate, muster, muster_with};
 use world::{Chronicle, Verdict};
 
 /// How many turns a general is held at most.
@@ -292,23 +293,32 @@ impl Gate for Counting {
     }
 }
 
-/// Whether of two who get three words in each of three rounds the gate is asked once for each of 18 accesses.
-fn is_asked_once<R: Threads + Wait + Sync>(rt: &R, alloc: Global) -> bool {
+/// Whether of two who get three words in each of three rounds the gate is asked once for each of 18 accesses, where
+/// threads get this stack, or the usual one.
+fn is_asked_once<R: Threads + Wait + Sync>(rt: &R, alloc: Global, stack: Option<usize>) -> bool {
+    let Some(scenario) = told(alloc, SEVEN, LOOKING) else {
+        return false;
+    };
     let gate = Counting {
         asked: Counts::none(),
         beyond: AtomicU32::new(0),
     };
-    match mustered(rt, alloc, SEVEN, LOOKING, &gate) {
-        Some(chronicle) => {
+    let outcome = match stack {
+        Some(stack) => muster_with(rt, alloc, scenario, &gate, stack),
+        None => muster(rt, alloc, scenario, &gate),
+    };
+    match outcome {
+        Ok(chronicle) => {
             chronicle.accesses().len() == 18
                 && gate.asked.are((6, 6, 6))
                 && gate.beyond.load(Ordering::SeqCst) == 0
         }
-        None => false,
+        Err(_) => false,
     }
 }
 
 #[test]
 fn each_access_is_asked_for_once(rt: HostRuntime) {
-    assert!(rt; is_asked_once(&rt, rt.alloc()));
+    assert!(rt; is_asked_once(&rt, rt.alloc(), None));
+    assert!(rt; is_asked_once(&rt, rt.alloc(), Some(1 << 20)));
 }
