@@ -1,5 +1,5 @@
 //! What the verifier knows of numbers, values and the stack.
-ghost use Rattle.std.specs.Prelude.{◌≡◌, ◌+◌, ◌≤◌, IfSome};
+ghost use Rattle.std.specs.Prelude.{◌≡◌, ◌+◌, ◌≤◌, IfSome, IsSome, Some};
 
 use absmem::AbsStack;
 use absval::{AbsVal, NumberSet, Offset, Offsets};
@@ -68,7 +68,8 @@ pub fn known_numbers(
 
 /// The numbers that a value may be, where it is known to be one.
 pub fn numbers(value: AbsVal) -> Option<NumberSet>
-    ensures { IfSome result (λ numbers. value ≡ AbsVal.Number numbers) }
+    ensures number { IfSome result (λ numbers. value ≡ AbsVal.Number numbers) }
+    ensures found { (n : NumberSet) → value ≡ AbsVal.Number n → result ≡ Some n }
 {
     match value {
         AbsVal::Number(numbers) => Some(numbers),
@@ -78,7 +79,8 @@ pub fn numbers(value: AbsVal) -> Option<NumberSet>
 
 /// The region of a value that is known to be a pointer, with the least and the greatest of its offsets.
 pub fn pointer(value: AbsVal) -> Option<(Region, i32, i32)>
-    ensures { IfSome result (λ pointer. value ≡ AbsVal.Pointer pointer.0 (pointer.1, pointer.2)) }
+    ensures pointer { IfSome result (λ pointer. value ≡ AbsVal.Pointer pointer.0 (pointer.1, pointer.2)) }
+    ensures found { (region : Region) (offsets : Offsets) → value ≡ AbsVal.Pointer region offsets → IsSome result }
 {
     match value {
         AbsVal::Pointer(region, offsets) => {
