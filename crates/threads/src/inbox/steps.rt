@@ -49,7 +49,7 @@ impl Phase {
         Given { general }
     }
 
-    /// No task of this general will come any more.
+    /// No task will come any more; whose inbox it is, its caller says.
     pub(super) fn close(&mut self, general: u32, home: Home) -> Shut
         ensures home { self.new ≡ NoMore home }
         ensures shut { result.general ≡ general }
