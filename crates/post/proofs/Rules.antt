@@ -13,7 +13,9 @@ use Rattle.letter.specs.Letters.{Letter}
 use Rattle.post.specs.declared.known.Posted.{Posted}
 use Rattle.post.specs.declared.known.Known.{Known}
 use Rattle.post.specs.Delivery.{letters_of, AreDelivered, posted}
-use Rattle.post.specs.Rule.{poster, collector, spent, AreBack, Fits, Delivers}
+use Rattle.post.specs.Rule.{poster, collector, spent, AreBack, Fits, Delivers, DeliversSuch}
+use Rattle.std.specs.Prelude.{All as Each}
+use Rattle.std.proofs.lemmas.List.Elements.{All-append, All-nil, All-cons, All-head, All-tail}
 use Rattle.post.specs.Seen.{PosterSeen, poster_seen}
 
 eq_same : (g : ℕ) → (g == g) ≡ true
@@ -57,7 +59,7 @@ at_snoc' [] a b (suc j) e = absurd (some-ne-none b (sym e))
 at_snoc' (x ∷ xs) a b zero e = inl e
 at_snoc' (x ∷ xs) a b (suc j) e = ⊎_elim (λ h. inl h) (λ h. inr (ap suc h.0, h.1)) (at_snoc' xs a b j e)
 
-pub begins : Delivers [] (collector [] 0 [] ∷ [])
+begins : Delivers [] (collector [] 0 [] ∷ [])
 begins =
     let seat : ℕ → Option ℕ = λ g. None in (
       0,
@@ -77,7 +79,7 @@ back_still made seat came x pass [] f h = tt
 back_still made seat came x pass (p ∷ back) f h =
     (((h.0).0, (h.0).1, (h.0).2 ∙ sym (still seat came x p.general pass (h.0).1 f)), back_still made seat came x pass back f h.1)
 
-pub posts : (n pass : ℕ) (v : Known) (x : Letter) → v.posts ≡ true → x.general ≡ v.general → Pushes Delivers n pass v x (λ w. w ≡ poster v.general (v.letters ++ x ∷ []))
+posts : (n pass : ℕ) (v : Known) (x : Letter) → v.posts ≡ true → x.general ≡ v.general → Pushes Delivers n pass v x (λ w. w ≡ poster v.general (v.letters ++ x ∷ []))
 posts n pass v x may by items views room h at =
     let w : Known = poster v.general (v.letters ++ x ∷ []) in
     let seat = h.1 in let came : List Letter = h.2 ++ items in
@@ -96,7 +98,7 @@ posts n pass v x may by items views room h at =
     )) in
     (w, (h.0, seat, h.2, (let P : List Letter → Type 0 = λ c. All (Fits h.0 seat h.2 c) (set views pass w) in subst P (append_assoc h.2 items (x ∷ [])) all)), refl)
 
-pub takes : (pass : ℕ) (v : Known) → v.takes ≡ true → Pops Delivers pass v (λ x w. w ≡ collector (v.letters ++ x ∷ []) v.made v.back)
+takes : (pass : ℕ) (v : Known) → v.takes ≡ true → Pops Delivers pass v (λ x w. w ≡ collector (v.letters ++ x ∷ []) v.made v.back)
 takes pass v may x items views h at =
     let w : Known = collector (v.letters ++ x ∷ []) v.made v.back in
     let seat = h.1 in let taken : List Letter = h.2 ++ x ∷ [] in let came : List Letter = h.2 ++ x ∷ items in
@@ -113,7 +115,7 @@ back_more made n seat came (p ∷ back) h =
     ((omega arith, put_other made p.general (Some n) seat (λ e. absurd (omega arith)) ∙ (h.0).1, (h.0).2), back_more made n seat came back h.1)
 
 -- the collector makes the next general's poster
-pub hires : (pass : ℕ) (v : Known) → v.takes ≡ true → Forks Delivers pass v (collector v.letters (v.made + 1) v.back) (poster v.made [])
+hires : (pass : ℕ) (v : Known) → v.takes ≡ true → Forks Delivers pass v (collector v.letters (v.made + 1) v.back) (poster v.made [])
 hires pass v may items views h at =
     let l : Known = collector v.letters (v.made + 1) v.back in let r : Known = poster v.made [] in
     let seat = h.1 in let came : List Letter = h.2 ++ items in let vs : List Known = set views pass l in
@@ -144,7 +146,7 @@ back_snoc made seat came [] p h e = (e, tt)
 back_snoc made seat came (q ∷ back) p h e = (h.0, back_snoc made seat came back p h.1 e)
 
 -- a poster comes back to the collector
-pub returns : (pass : ℕ) (v : Known) (other : ℕ) (u : Known) → v.takes ≡ true → u.posts ≡ true → Merges Delivers pass v other u (collector v.letters v.made (posted u.general u.letters ∷ v.back)) spent
+returns : (pass : ℕ) (v : Known) (other : ℕ) (u : Known) → v.takes ≡ true → u.posts ≡ true → Merges Delivers pass v other u (collector v.letters v.made (posted u.general u.letters ∷ v.back)) spent
 returns pass v other u may posts' items views h at two at' =
     let p = posted u.general u.letters in
     let both : Known = collector v.letters v.made (p ∷ v.back) in
@@ -179,7 +181,7 @@ came_of made seat came [] h = tt
 came_of made seat came (p ∷ back) h = ((h.0).2, came_of made seat came back h.1)
 
 -- what the collector knows of those that are back
-pub learns : (pass : ℕ) (v : Known) → v.takes ≡ true → Learns Delivers pass v (λ items. AreDelivered (v.letters ++ items) v.back)
+learns : (pass : ℕ) (v : Known) → v.takes ≡ true → Learns Delivers pass v (λ items. AreDelivered (v.letters ++ items) v.back)
 learns pass v may items views h at =
     let mine = (h.3 pass v at).1 may in
     let P : List Letter → Type 0 = λ t. AreDelivered (t ++ items) v.back in
@@ -196,3 +198,32 @@ each_more id ps new is each g d lt =
     ⊎_elim (λ (x : (g == length ps ≡ true) × (g ≡ length ps)). ap (λ n. get_or (ps ++ new ∷ []) n d) x.1 ∙ get_or-append_seam ps new [] d ∙ is ∙ ap (λ n. poster_seen id n []) (sym x.1))
     (λ (x : (g == length ps ≡ false) × (g ≢ length ps)). let ne = x.1 in let short : g < length ps = omega (arith, length-append ps (new ∷ [])) in get_or-append ps (new ∷ []) d g short ∙ each g d short)
     (eqb_tells g (length ps))
+
+each_snoc : (Is : Letter → Type 0) (letters : List Letter) (x : Letter) → Each Is letters → Is x → Each Is (letters ++ x ∷ [])
+each_snoc Is letters x all is = All-append Is letters (x ∷ []) all (All-cons Is x [] is (All-nil Is))
+
+-- the same moves, where something is claimed of each letter that is queued
+pub begins_such : (Is : Letter → Type 0) → DeliversSuch Is [] (collector [] 0 [] ∷ [])
+begins_such Is = (begins, All-nil Is)
+
+pub posts_such : (Is : Letter → Type 0) (n pass : ℕ) (v : Known) (x : Letter) → v.posts ≡ true → x.general ≡ v.general → Is x
+    → Pushes (DeliversSuch Is) n pass v x (λ w. w ≡ poster v.general (v.letters ++ x ∷ []))
+posts_such Is n pass v x may by is items views room h at =
+    let r = posts n pass v x may by items views room h.0 at in
+    (r.0, (r.1, each_snoc Is items x h.1 is), r.2)
+
+pub takes_such : (Is : Letter → Type 0) (pass : ℕ) (v : Known) → v.takes ≡ true
+    → Pops (DeliversSuch Is) pass v (λ x w. (w ≡ collector (v.letters ++ x ∷ []) v.made v.back) × Is x)
+takes_such Is pass v may x items views h at =
+    let r = takes pass v may x items views h.0 at in
+    (r.0, (r.1, All-tail Is x items h.1), (r.2, All-head Is x items h.1))
+
+pub hires_such : (Is : Letter → Type 0) (pass : ℕ) (v : Known) → v.takes ≡ true → Forks (DeliversSuch Is) pass v (collector v.letters (v.made + 1) v.back) (poster v.made [])
+hires_such Is pass v may items views h at = (hires pass v may items views h.0 at, h.1)
+
+pub returns_such : (Is : Letter → Type 0) (pass : ℕ) (v : Known) (other : ℕ) (u : Known) → v.takes ≡ true → u.posts ≡ true
+    → Merges (DeliversSuch Is) pass v other u (collector v.letters v.made (posted u.general u.letters ∷ v.back)) spent
+returns_such Is pass v other u may posts' items views h at two at' = (returns pass v other u may posts' items views h.0 at two at', h.1)
+
+pub learns_such : (Is : Letter → Type 0) (pass : ℕ) (v : Known) → v.takes ≡ true → Learns (DeliversSuch Is) pass v (λ items. AreDelivered (v.letters ++ items) v.back)
+learns_such Is pass v may items views h at = learns pass v may items views h.0 at

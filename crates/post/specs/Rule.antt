@@ -1,6 +1,6 @@
 -- The rule of the post: what was taken, and then what is queued, is of each general what he has posted. So where 1 has
 -- posted a and b, and 2 has posted c: with a taken, c and b may be queued, or b and c; b is never taken before a.
-use Rattle.std.specs.Prelude.{◌≡◌, ℕ, ◌<◌, ◌≤◌, Bool, true, false, List, [], ◌∷◌, ◌++◌, Option, Some, None}
+use Rattle.std.specs.Prelude.{◌≡◌, ℕ, ◌<◌, ◌≤◌, Bool, true, false, List, [], ◌∷◌, ◌++◌, All, Option, Some, None}
 use mathlib.Core.Option.{some}
 use lib.ListN.{get_elem?}
 use Rattle.letter.specs.Letters.{Letter}
@@ -56,3 +56,7 @@ abbrev pub Delivers : List Letter → List Known → Type 0
 Delivers queued views =
     (reader : ℕ) × (seat : ℕ → Option ℕ) × (taken : List Letter)
     × ((pass : ℕ) (v : Known) → get_elem? views pass ≡ some v → Fits reader seat taken (taken ++ queued) pass v)
+
+-- the same, and of each letter that is queued holds what is claimed
+abbrev pub DeliversSuch : (Letter → Type 0) → List Letter → List Known → Type 0
+DeliversSuch Is queued views = Delivers queued views × All Is queued

@@ -1,10 +1,11 @@
 //! The post. Of each general, letters are taken in the order in which he has posted them, each once.
-ghost use Rattle.std.specs.Prelude.{◌≡◌, ℕ, ◌<◌, ◌++◌, ◌∷◌, [], List, All, map, true, length, IfOk, IfErr, slice_index_or, MatchOption, MatchResult};
+ghost use Rattle.std.specs.Prelude.{◌≡◌, ℕ, ◌<◌, ◌++◌, ◌∷◌, [], List, All, map, true, length, IfOk, IfErr, slice_index_or, IfSome, MatchOption, MatchResult};
 ghost use Rattle.crossbeam_queue.specs.Passes.{view, IsPassOf};
 ghost use Rattle.letter.specs.Letters.{Letter as LetterSeen};
 ghost use Rattle.post.specs.Delivery.{AreDelivered, posted};
 ghost use Rattle.post.specs.Seen.{PosterSeen, poster_seen, collector_seen};
 
+use crate::claim::{AnyLetter, Claim};
 use crate::collector::Collector;
 use crate::known::Known;
 use crate::poster::Poster;
@@ -16,14 +17,17 @@ use std::marker::Model;
 use std::sync::Wait;
 
 /// A queue of letters that threads share. For each general, what was taken and then what is queued is what he has
-/// posted, in order, each letter once, whatever the threads do.
+/// posted, in order, each letter once, whatever the threads do. Of each letter in it the claim holds that its type names.
 #[derive(Drop)]
-pub struct Post {
-    queue: Queue,
+pub struct PostOf<C: Claim> {
+    queue: Queue<C>,
     alloc: Global,
 }
 
-impl Model for Post {
+/// A post that takes any letter.
+pub type Post = PostOf<AnyLetter>;
+
+impl<C: Claim> Model for PostOf<C> {
     ghost use Rattle.crossbeam_queue.specs.Passes.{ruled_capacity};
     ghost use Rattle.post.specs.Seen.{PostSeen};
 
@@ -32,7 +36,7 @@ impl Model for Post {
     ghost view = { λ p. record { table = p.queue.table.shared.table_id; capacity = ruled_capacity p.queue } };
 }
 
-impl Post {
+impl<C: Claim> PostOf<C> {
     /// An empty post with room for so many letters, the posters of so many generals, ascending, and the collector.
     ///
     /// # Errors
@@ -42,7 +46,7 @@ impl Post {
         alloc: Global,
         generals: u8,
         capacity: usize,
-    ) -> Result<(Post, Vec<Poster>, Collector), AllocError>
+    ) -> Result<(PostOf<C>, Vec<Poster>, Collector), AllocError>
         requires { 0 < capacity }
         ensures post { IfOk result (λ r. r.0.capacity ≡ capacity) }
         ensures count { IfOk result (λ r. length r.1.items ≡ generals) }
@@ -50,13 +54,13 @@ impl Post {
             slice_index_or r.1.items g d ≡ poster_seen r.0.table g []) }
         ensures collector { IfOk result (λ r. r.2 ≡ collector_seen r.0.table [] generals) }
     {
-        let (queue, mut pass) = Queue::ruled(alloc, capacity)?;
+        let (queue, mut pass) = Queue::<C>::ruled(alloc, capacity)?;
         let mut posters = Vec::with_capacity(alloc, usize::from(generals))?;
         for _ in 0..generals {
             let theirs = queue.another::<Hire>(&mut pass);
             posters.push(Poster { pass: theirs })?;
         }
-        Ok((Post { queue, alloc }, posters, Collector { pass }))
+        Ok((PostOf { queue, alloc }, posters, Collector { pass }))
     }
 
     /// Posts a letter of the poster's general. It comes back where the post was full.
@@ -68,6 +72,7 @@ impl Post {
     ) -> (Poster, Result<(), Letter>)
         requires post { poster.table ≡ self.now.table }
         requires general { letter.general ≡ poster.general }
+        requires claim { C.holds letter }
         ensures post { result.0.table ≡ poster.table }
         ensures general { result.0.general ≡ poster.general }
         ensures posted { MatchResult result.1
@@ -87,9 +92,10 @@ impl Post {
         ensures taken { MatchOption result.1
             (result.0.taken ≡ collector.taken)
             (λ letter. result.0.taken ≡ collector.taken ++ letter ∷ []) }
+        ensures claim { IfSome result.1 C.holds }
     {
         let Collector { mut pass } = collector;
-        let taken = self.queue.pop_as::<Took, R>(rt, &mut pass);
+        let taken = self.queue.pop_as::<Took<C>, R>(rt, &mut pass);
         (Collector { pass }, taken)
     }
 
@@ -112,11 +118,12 @@ impl Post {
             (map (λ p. posted p.general p.posted) posters.items)) }
         ensures lost { IfErr result (λ _. (queued : List LetterSeen)
             × AreDelivered (collector.taken ++ queued) (map (λ p. posted p.general p.posted) posters.items)) }
+        ensures claim { IfOk result (λ left. All C.holds left.items) }
     {
-        let Post { queue, alloc } = self;
+        let PostOf { queue, alloc } = self;
         let Collector { pass } = collector;
         let mut pass = all_back(&queue, pass, posters);
-        queue.learn_as::<Took>(&mut pass);
+        queue.learn_as::<Took<C>>(&mut pass);
         let left = Vec::with_capacity(alloc, queue.capacity())?;
         let (_, left) = drain(rt, &queue, pass, left)?;
         Ok(left)
@@ -124,8 +131,8 @@ impl Post {
 }
 
 /// Takes all posters back.
-fn all_back(
-    queue: &Queue,
+fn all_back<C: Claim>(
+    queue: &Queue<C>,
     mut pass: Pass<Letter, Known>,
     mut posters: Vec<Poster>,
 ) -> Pass<Letter, Known>
@@ -146,9 +153,9 @@ fn all_back(
 }
 
 /// Takes what is left, in the order in which it comes.
-fn drain<R: Wait>(
+fn drain<R: Wait, C: Claim>(
     rt: &R,
-    queue: &Queue,
+    queue: &Queue<C>,
     mut pass: Pass<Letter, Known>,
     mut left: Vec<Letter>,
 ) -> Result<(Pass<Letter, Known>, Vec<Letter>), AllocError>
@@ -157,9 +164,10 @@ fn drain<R: Wait>(
     requires none { left.items ≡ [] }
     ensures order { IfOk result (λ r. (view r.0).letters ≡ (view pass).letters ++ r.1.items) }
     ensures delivered { IfOk result (λ r. AreDelivered ((view pass).letters ++ r.1.items) (view pass).back) }
+    ensures claim { IfOk result (λ r. All C.holds r.1.items) }
 {
     for _ in rt.forever() {
-        match queue.pop_as::<Took, R>(rt, &mut pass) {
+        match queue.pop_as::<Took<C>, R>(rt, &mut pass) {
             Some(letter) => left.push(letter)?,
             None => break,
         }

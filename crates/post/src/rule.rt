@@ -1,21 +1,26 @@
 //! The rule of the post, and the moves that it admits.
+use crate::claim::Claim;
 use crate::known::Known;
 use crossbeam_queue::RuledArrayQueue;
 use crossbeam_queue::protocol::{Join, Lesson, Outcome, Protocol, Split};
 use letter::Letter;
+use std::marker::PhantomData;
 
 /// A queue under the rule.
-pub(crate) type Queue = RuledArrayQueue<Letter, Known, Delivery>;
+pub(crate) type Queue<C> = RuledArrayQueue<Letter, Known, Delivery<C>>;
 
-/// The rule: what was taken, and then what is queued, is of each general what he has posted.
+/// The rule: what was taken, and then what is queued, is of each general what he has posted, and of each letter that is
+/// queued the claim holds.
 #[derive(Drop)]
-pub(crate) struct Delivery;
+pub(crate) struct Delivery<C> {
+    of: PhantomData<C>,
+}
 
-impl Protocol<Letter, Known> for Delivery {
+impl<C: Claim> Protocol<Letter, Known> for Delivery<C> {
     ghost use Rattle.std.specs.Prelude.{[]};
-    ghost use Rattle.post.specs.Rule.{collector, Delivers};
+    ghost use Rattle.post.specs.Rule.{collector, DeliversSuch};
 
-    ghost holds = { Delivers };
+    ghost holds = { DeliversSuch C.holds };
 
     ghost first = { collector [] 0 [] };
 }
@@ -59,17 +64,19 @@ impl Lesson<Letter, Known> for Put {
     ghost fact = { λ v items. Unit {0} };
 }
 
-/// The collector takes a letter, or finds none.
-pub(crate) struct Took;
+/// The collector takes a letter, of which the claim holds, or finds none.
+pub(crate) struct Took<C> {
+    of: PhantomData<C>,
+}
 
-impl Outcome<Letter, Known> for Took {
+impl<C: Claim> Outcome<Letter, Known> for Took<C> {
     ghost use Rattle.std.specs.Prelude.{[], ◌∷◌, ◌++◌, ◌≡◌};
     ghost use Rattle.post.specs.Rule.{collector};
 
-    ghost then = { λ v x w. w ≡ collector (v.letters ++ x ∷ []) v.made v.back };
+    ghost then = { λ v x w. (w ≡ collector (v.letters ++ x ∷ []) v.made v.back) × C.holds x };
 }
 
-impl Lesson<Letter, Known> for Took {
+impl<C: Claim> Lesson<Letter, Known> for Took<C> {
     ghost use Rattle.std.specs.Prelude.{◌++◌};
     ghost use Rattle.post.specs.Delivery.{AreDelivered};
 

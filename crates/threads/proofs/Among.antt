@@ -1,5 +1,5 @@
 -- Accesses that stand among others.
-use Rattle.std.proofs.Common.{◌≡◌, ℕ, List, [], ◌∷◌, ◌++◌, length, length-append, refl, sym, ap, subst, inl, inr, ⊎_elim, arith}
+use Rattle.std.proofs.Common.{◌≡◌, ℕ, List, [], ◌∷◌, ◌++◌, length, length-append, append_assoc, refl, sym, ap, ◌∙◌, subst, inl, inr, ⊎_elim, arith}
 use Rattle.std.specs.Prelude.{Result, Ok, Err, IfOk, OnErr}
 use mathlib.Core.List.{IsPrefix}
 use Rattle.semantics.specs.declared.reply.Reply.{Reply}
@@ -44,3 +44,16 @@ served_entered opening general round request old new made made' (Ok x) serves en
 served_entered opening general round request old new made made' (Err e) serves entered same still was =
     subst (λ (w : Witnessed). AreAmong made' w.seen × (w.made ≡ length made')) (sym same)
     (subst (λ (m : List Access). AreAmong m old.seen × (old.made ≡ length m)) (sym still) was)
+
+-- the same, with what was made before
+pub entered_behind : {E : Type 0} (before made made' : List Access) (general round : ℕ) (request : Request) (r : Result Reply E)
+    → IfOk r (λ x. made' ≡ made ++ record { general = general; round = round; request = request; reply = words_in x } ∷ [])
+    → IfOk r (λ x. before ++ made' ≡ (before ++ made) ++ record { general = general; round = round; request = request; reply = words_in x } ∷ [])
+entered_behind before made made' general round request (Ok x) entered =
+    let a : Access = record { general = general; round = round; request = request; reply = words_in x } in
+    ap (λ (l : List Access). before ++ l) entered ∙ sym (append_assoc before made (a ∷ []))
+entered_behind before made made' general round request (Err e) entered = tt
+
+pub still_behind : {E : Type 0} (before made made' : List Access) (r : Result Reply E) → OnErr r (made' ≡ made) → OnErr r (before ++ made' ≡ before ++ made)
+still_behind before made made' (Ok x) still = tt
+still_behind before made made' (Err e) still = ap (λ (l : List Access). before ++ l) still

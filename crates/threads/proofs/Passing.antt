@@ -24,3 +24,9 @@ passed_entered passed general round request made made' (Ok x) entered behind sti
     let a : Access = record { general = general; round = round; request = request; reply = words_in x } in
     subst (λ (l : List Access). HavePassed passed [] l) (sym entered) (passed_more passed [] made a was behind)
 passed_entered passed general round request made made' (Err e) entered behind still was = subst (λ (l : List Access). HavePassed passed [] l) (sym still) was
+
+-- what a gate says of it, as it is named
+pub passed_as : {E : Type 0} (said named : ℕ → ℕ → ℕ → Type 0) (general round nth : ℕ) (r : Result Reply E)
+    → ((g o n : ℕ) → said g o n → named g o n) → IfOk r (λ _. said general round nth) → IfOk r (λ _. named general round nth)
+passed_as said named general round nth (Ok x) known it = known general round nth it
+passed_as said named general round nth (Err e) known it = tt

@@ -1,6 +1,7 @@
 -- Of what stood by its numbers the last leaves, and the rest stay; and handles that are kept.
 use Rattle.std.proofs.Common.{◌≡◌, ℕ, ◌<◌, ◌+◌, List, [], ◌∷◌, ◌++◌, length, get_or, false, ap, sym, subst, ◌∙◌, length-append, arith}
 use Rattle.std.specs.Prelude.{All, Option, None, Some, is_some, IsSomeAnd, MatchOption, MatchResult, Result, Ok, Err}
+use Rattle.std.proofs.lemmas.List.Elements.{All-append, All-cons, All-nil}
 use Rattle.std.proofs.Math.ListN.{get_or-append}
 use Rattle.std.proofs.Math.Seq.{get_or-append_seam}
 use Rattle.threads.specs.declared.answers.Refused.{Refused}
@@ -36,3 +37,7 @@ kept_more (Ok h) None old new is none = (let long = ap length is in omega (arith
 kept_more (Ok h) (Some r) old new is none = absurd cc
 kept_more (Err e) None old new is none = absurd is
 kept_more (Err e) (Some r) old new is none = absurd cc
+
+-- one more of which it holds
+pub more_all : {X : Type 0} (P : X → Type 0) (old new : List X) (x : X) → All P old → P x → new ≡ old ++ x ∷ [] → All P new
+more_all {X} P old new x all it is = subst (λ (l : List X). All P l) (sym is) (All-append P old (x ∷ []) all (All-cons P x [] it (All-nil P)))

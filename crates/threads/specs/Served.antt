@@ -1,7 +1,8 @@
 -- What one general was served of the accesses of all (own).
-use Rattle.std.specs.Prelude.{ℕ, ◌≡◌, ◌==◌, ◌⊎◌, List, [], ◌∷◌, ◌++◌, count_by, flat_map}
+use Rattle.std.specs.Prelude.{ℕ, ◌≡◌, ◌==◌, ◌⊎◌, List, [], ◌∷◌, ◌++◌, All, length, count_by, flat_map}
 use Rattle.board.specs.Board.{Access}
 use Rattle.letter.specs.Letters.{Letter}
+use Rattle.shared_board.specs.Witnessed.{Witnessed}
 
 -- these stand among those, in the same order
 abbrev pub AreAmong : List Access → List Access → Type 0
@@ -15,6 +16,14 @@ HavePassed passed before [] = Unit {0}
 HavePassed passed before (a ∷ made) = passed a.general a.round (count_by (λ b. b.round == a.round) before)
     × HavePassed passed (before ++ a ∷ []) made
 
+-- each access that a letter tells has passed a gate, which counts them from 0
+abbrev pub IsGated : (ℕ → ℕ → ℕ → Type 0) → Letter → Type 0
+IsGated passed l = HavePassed passed [] l.transcript
+
+-- the same of all letters, by round
+abbrev pub AreGated : (ℕ → ℕ → ℕ → Type 0) → List (List Letter) → Type 0
+AreGated passed rounds = All (λ letters. All (IsGated passed) letters) rounds
+
 -- the accesses that letters tell
 abbrev pub told_in : List Letter → List Access
 told_in letters = flat_map (λ l. l.transcript) letters
@@ -23,3 +32,7 @@ told_in letters = flat_map (λ l. l.transcript) letters
 pub record Served : Type 0 where
   pub made : List Access
   pub seen : List Access
+
+-- as many were served through this witness, and they stand in the history that it has met
+abbrev pub WereServed : List Access → Witnessed → Type 0
+WereServed made w = AreAmong made w.seen × (w.made ≡ length made)

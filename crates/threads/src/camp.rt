@@ -16,7 +16,7 @@ use crate::task::Task;
 use all::AllGiven;
 pub(crate) use all::AllShut;
 use delivery::Told;
-use post::{Collector, Post, Poster};
+use post::{Claim, Collector, PostOf, Poster};
 use roster::Scenario;
 use shared_board::{Room, SharedBoard};
 use std::alloc::{AllocError, Global};
@@ -41,15 +41,15 @@ pub(crate) struct Home(());
 /// What the generals share with one another and with the one who conducts the rounds: the gate and the board, the
 /// inboxes in which they are given their tasks, the post for their letters, and the tally of those who have posted.
 #[derive(Drop)]
-pub(crate) struct Camp<'a, G, J: Room> {
+pub(crate) struct Camp<'a, G, J: Room, C: Claim> {
     pub(crate) gate: &'a G,
     pub(crate) board: &'a SharedBoard<J>,
     pub(crate) inboxes: Vec<Inbox>,
-    pub(crate) post: Post,
+    pub(crate) post: PostOf<C>,
     pub(crate) tally: Tally,
 }
 
-impl<'a, G, J: Room> Camp<'a, G, J> {
+impl<'a, G, J: Room, C: Claim> Camp<'a, G, J, C> {
     /// The camp of so many generals, with their posters, ascending, and the collector of their letters. The post has
     /// room for a letter of each.
     ///
@@ -61,7 +61,7 @@ impl<'a, G, J: Room> Camp<'a, G, J> {
         generals: u8,
         gate: &'a G,
         board: &'a SharedBoard<J>,
-    ) -> Result<(Camp<'a, G, J>, Vec<Poster>, Collector), AllocError>
+    ) -> Result<(Camp<'a, G, J, C>, Vec<Poster>, Collector), AllocError>
         requires { 0 < generals }
         ensures inboxes { IfOk result (λ r. length r.0.inboxes.items ≡ generals) }
         ensures own { IfOk result (λ r. AreOwn r.0.inboxes.items) }
@@ -74,7 +74,7 @@ impl<'a, G, J: Room> Camp<'a, G, J> {
         ensures board { IfOk result (λ r. r.0.board ≡ board.entry) }
         ensures tally { IfOk result (λ r. r.0.tally.generals ≡ generals) }
     {
-        let (post, posters, collector) = Post::new(alloc, generals, usize::from(generals))?;
+        let (post, posters, collector) = PostOf::new(alloc, generals, usize::from(generals))?;
         let inboxes = empty_inboxes(alloc, generals)?;
         let tally = Tally::new(usize::from(generals));
         let camp = Camp {

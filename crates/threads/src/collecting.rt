@@ -1,9 +1,11 @@
 //! The letters of a campaign whose generals stay in their threads for all rounds.
 ghost use Rattle.std.specs.Prelude.{◌≡◌, ℕ, ◌<◌, ◌≤◌, [], suc, length, slice_index_or, vec_capacity, None, All, IsPermutation, IfOk, IfSome, Err};
+ghost use Rattle.letter.specs.Letters.{Letter as LetterSeen};
 ghost use Rattle.delivery.specs.Told.{WasTold};
 ghost use Rattle.post.specs.Seen.{PosterSeen, poster_seen};
 ghost use Rattle.threads.specs.Answers.{AreAscending};
 ghost use Rattle.threads.specs.Inboxes.{AreOwn};
+ghost use Rattle.threads.specs.Served.{IsGated};
 ghost use Rattle.threads.specs.declared.halt.Halt.TheVariants.{Unstarted};
 
 use crate::answers::{Refused, kept};
@@ -16,7 +18,7 @@ use crate::resident::Answer;
 use crate::uncollected::Uncollected;
 use delivery::Told;
 use letter::Round;
-use post::{Collector, Poster};
+use post::{Claim, Collector, Poster};
 use roster::Scenario;
 use shared_board::{Room, SharedBoard, Witness};
 use std::alloc::{AllocError, Global};
@@ -31,7 +33,12 @@ use std::thread::{JoinHandle, Threads};
 ///
 /// `Unstarted` where a thread could not be started; else `Failed` by what the lowest general has failed who has; else
 /// `Halted` where the rounds were not all conducted; `Memory` where memory is refused before a thread is started.
-pub(crate) fn collect<R: Threads + Wait + Sync, G: Gate + Sync, J: Room + Send + Sync>(
+pub(crate) fn collect<
+    R: Threads + Wait + Sync,
+    G: Gate + Sync,
+    J: Room + Send + Sync,
+    C: Claim + Send + Sync,
+>(
     rt: &R,
     alloc: Global,
     scenario: &Scenario,
@@ -42,10 +49,12 @@ pub(crate) fn collect<R: Threads + Wait + Sync, G: Gate + Sync, J: Room + Send +
 ) -> Result<(Vec<Round>, Told), Uncollected>
     requires many { scenario.now.generals ≤ length witnesses.items }
     requires unserved { All (λ w. w.made ≡ 0) witnesses.items }
+    requires claim { (l : LetterSeen) → IsGated (G.passed gate.now) l → C.holds l }
     ensures rounds { IfOk result (λ r. length r.0.items ≡ suc scenario.now.bound) }
     ensures told { IfOk result (λ r. WasTold scenario.now r.0.items r.1) }
+    ensures claims { IfOk result (λ r. All (λ letters. All C.holds letters) r.0.items) }
 {
-    let (camp, posters, collector) = Camp::new(alloc, scenario.generals(), gate, board)?;
+    let (camp, posters, collector) = Camp::<G, J, C>::new(alloc, scenario.generals(), gate, board)?;
     let ending = through_residents(
         rt, alloc, scenario, &camp, posters, witnesses, collector, stack,
     )?;
@@ -57,11 +66,16 @@ pub(crate) fn collect<R: Threads + Wait + Sync, G: Gate + Sync, J: Room + Send +
 /// # Errors
 ///
 /// `AllocError` where memory is refused before a thread is started.
-fn through_residents<R: Threads + Wait + Sync, G: Gate + Sync, J: Room + Send + Sync>(
+fn through_residents<
+    R: Threads + Wait + Sync,
+    G: Gate + Sync,
+    J: Room + Send + Sync,
+    C: Claim + Send + Sync,
+>(
     rt: &R,
     alloc: Global,
     scenario: &Scenario,
-    camp: &Camp<G, J>,
+    camp: &Camp<G, J, C>,
     mut posters: Vec<Poster>,
     mut witnesses: Vec<Witness<J>>,
     collector: Collector,
@@ -77,12 +91,15 @@ fn through_residents<R: Threads + Wait + Sync, G: Gate + Sync, J: Room + Send + 
     requires own { AreOwn camp.now.inboxes.items }
     requires tally { scenario.now.generals ≤ camp.now.tally.generals }
     requires collector { collector.table ≡ camp.now.post.table }
+    requires claim { (l : LetterSeen) → IsGated (G.passed camp.now.gate.now) l → C.holds l }
     ensures all { IfOk result (λ ending. ending.refused ≡ None → length ending.answers.items ≡ length posters.items) }
     ensures few { IfOk result (λ ending. length ending.answers.items ≤ 13) }
     ensures ascending { IfOk result (λ ending. AreAscending ending.answers.items) }
     ensures rounds { IfOk result
         (λ ending. IfOk ending.outcome (λ r. length r.0.items ≡ suc scenario.now.bound)) }
     ensures told { IfOk result (λ ending. IfOk ending.outcome (λ r. WasTold scenario.now r.0.items r.1)) }
+    ensures claims { IfOk result
+        (λ ending. IfOk ending.outcome (λ r. All (λ letters. All C.holds letters) r.0.items)) }
 {
     let mut handles = Vec::with_capacity(alloc, posters.len())?;
     let answers = Vec::with_capacity(alloc, posters.len())?;
@@ -102,11 +119,13 @@ fn through_residents<R: Threads + Wait + Sync, G: Gate + Sync, J: Room + Send + 
             requires own { AreOwn camp.now.inboxes.items }
             requires tally { scenario.now.generals ≤ camp.now.tally.generals }
             requires collector { collector.table ≡ camp.now.post.table }
+            requires claim { (l : LetterSeen) → IsGated (G.passed camp.now.gate.now) l → C.holds l }
             ensures all { result.refused ≡ None → length result.answers.items ≡ length posters.entry.items }
             ensures few { length result.answers.items ≤ 13 }
             ensures ascending { AreAscending result.answers.items }
             ensures rounds { IfOk result.outcome (λ r. length r.0.items ≡ suc scenario.entry.now.bound) }
             ensures told { IfOk result.outcome (λ r. WasTold scenario.entry.now r.0.items r.1) }
+            ensures claims { IfOk result.outcome (λ r. All (λ letters. All C.holds letters) r.0.items) }
         {
             let mut refused = None;
             while let Some(poster) = posters.pop() {
@@ -122,6 +141,7 @@ fn through_residents<R: Threads + Wait + Sync, G: Gate + Sync, J: Room + Send + 
                         requires tally { resident.tally.now ≡ camp.now.tally }
                         requires unposted { poster.posted ≡ [] }
                         requires unserved { me.made ≡ 0 }
+                        requires claim { (l : LetterSeen) → IsGated (G.passed resident.gate.now) l → C.holds l }
                     { resident.stay(rt, alloc, &camp.post, poster, me) },
                 );
                 refused = kept(&mut handles, started);
@@ -139,11 +159,11 @@ fn through_residents<R: Threads + Wait + Sync, G: Gate + Sync, J: Room + Send + 
 
 /// Conducts the rounds, unless a thread was refused, then sends the generals home and waits for their threads: what
 /// that has come to.
-fn finish<R: Threads + Wait, G, J: Room>(
+fn finish<R: Threads + Wait, G, J: Room, C: Claim>(
     rt: &R,
     alloc: Global,
     scenario: &Scenario,
-    camp: &Camp<G, J>,
+    camp: &Camp<G, J, C>,
     collector: Collector,
     handles: Vec<JoinHandle<Answer>>,
     answers: Vec<Answer>,
@@ -162,6 +182,7 @@ fn finish<R: Threads + Wait, G, J: Room>(
     ensures ascending { AreAscending result.answers.items }
     ensures rounds { IfOk result.outcome (λ r. length r.0.items ≡ suc scenario.now.bound) }
     ensures told { IfOk result.outcome (λ r. WasTold scenario.now r.0.items r.1) }
+    ensures claims { IfOk result.outcome (λ r. All (λ letters. All C.holds letters) r.0.items) }
 {
     let outcome = conducted(rt, alloc, scenario, camp, collector, refused);
     let shut = camp.close(rt);
@@ -170,11 +191,11 @@ fn finish<R: Threads + Wait, G, J: Room>(
 }
 
 /// Conducts the rounds, unless a thread was refused.
-fn conducted<R: Wait, G, J: Room>(
+fn conducted<R: Wait, G, J: Room, C: Claim>(
     rt: &R,
     alloc: Global,
     scenario: &Scenario,
-    camp: &Camp<G, J>,
+    camp: &Camp<G, J, C>,
     collector: Collector,
     refused: Option<Refused>,
 ) -> Result<(Vec<Round>, Told), Halt>
@@ -185,6 +206,7 @@ fn conducted<R: Wait, G, J: Room>(
     ensures unstarted { IfSome refused (λ r. result ≡ Err (Unstarted r)) }
     ensures rounds { IfOk result (λ r. length r.0.items ≡ suc scenario.now.bound) }
     ensures told { IfOk result (λ r. WasTold scenario.now r.0.items r.1) }
+    ensures claims { IfOk result (λ r. All (λ letters. All C.holds letters) r.0.items) }
 {
     match refused {
         Some(refused) => Err(Halt::Unstarted(refused)),

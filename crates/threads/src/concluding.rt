@@ -178,6 +178,7 @@ pub(crate) fn conclude(
     requires decisions { orders.items ≡ decisions scenario (messages rows.items) }
     ensures scenario { result.scenario ≡ scenario }
     ensures accesses { result.accesses ≡ accesses.items }
+    ensures letters { result.letters ≡ rows.items }
     ensures replay { result ≡ chronicle_of (replay_of scenario result.accesses) }
     ensures complete { IsComplete scenario (replayed scenario (names_in 1 result.accesses (suc scenario.bound))) }
     ensures legal { IsLegal scenario.board result.accesses }

@@ -1,5 +1,5 @@
 //! A campaign's rounds, conducted through the generals' camp.
-ghost use Rattle.std.specs.Prelude.{◌≡◌, ◌≢◌, ◌≤◌, ◌∷◌, [], suc, List, length, IfOk, IfErr};
+ghost use Rattle.std.specs.Prelude.{◌≡◌, ◌≢◌, ◌≤◌, ◌∷◌, [], suc, All, List, length, IfOk, IfErr};
 ghost use Rattle.letter.specs.Letters.{Letter as LetterSeen};
 ghost use Rattle.delivery.specs.Told.{WasTold};
 ghost use Rattle.world.specs.World.{each};
@@ -14,7 +14,7 @@ use crate::receiving::receive;
 use crate::task::Task;
 use delivery::Told;
 use letter::Round;
-use post::Collector;
+use post::{Claim, Collector};
 use roster::Scenario;
 use shared_board::Room;
 use std::alloc::{AllocError, Global};
@@ -27,11 +27,11 @@ use std::sync::Wait;
 ///
 /// `Memory` where memory is refused, `Failed` where a general has failed, `Strayed` where letters are not of their
 /// round.
-pub(crate) fn conduct<R: Wait, G, J: Room>(
+pub(crate) fn conduct<R: Wait, G, J: Room, C: Claim>(
     rt: &R,
     alloc: Global,
     scenario: &Scenario,
-    camp: &Camp<G, J>,
+    camp: &Camp<G, J, C>,
     mut collector: Collector,
 ) -> Result<(Vec<Round>, Told), Halt>
     requires collector { collector.table ≡ camp.now.post.table }
@@ -40,6 +40,7 @@ pub(crate) fn conduct<R: Wait, G, J: Room>(
     requires tally { scenario.now.generals ≤ camp.now.tally.generals }
     ensures rounds { IfOk result (λ r. length r.0.items ≡ suc scenario.now.bound) }
     ensures told { IfOk result (λ r. WasTold scenario.now r.0.items r.1) }
+    ensures claims { IfOk result (λ r. All (λ letters. All C.holds letters) r.0.items) }
     ensures started { IfErr result (λ halt. halt_as halt ≢ Spawn) }
     ensures posted { IfErr result (λ halt. halt_as halt ≢ PostFull) }
 {

@@ -1,19 +1,21 @@
 //! What holds a general before each access.
-ghost use Rattle.std.specs.Prelude.{◌≡◌, ℕ, ◌++◌, ◌∷◌, ◌<◌, ◌==◌, [], true, count_by, vec_len, vec_capacity, IfOk, OnErr};
+ghost use Rattle.std.specs.Prelude.{◌≡◌, ℕ, ◌++◌, ◌∷◌, ◌<◌, ◌==◌, [], true, List, count_by, vec_len, vec_capacity, IfOk, OnErr};
 ghost use Rattle.semantics.specs.Call.{fits};
 ghost use Rattle.semantics.specs.Replies.{words_in};
+ghost use Rattle.board.specs.Board.{Access as Entry};
 ghost use Rattle.board.specs.Requests.{IsReplyTo};
 ghost use Rattle.shared_board.specs.Witnessed.{Serves};
-ghost use Rattle.threads.specs.Served.{AreAmong, told_in, HavePassed};
+ghost use Rattle.threads.specs.Served.{told_in, HavePassed, WereServed};
 
 use crate::made::{Made, Passed};
+use crate::turn::Turn;
 use board::Access;
 use post::Poster;
 use round::Server;
 use semantics::{Reply, Request};
 use shared_board::{Room, SharedBoard, Witness};
 use std::alloc::{AllocError, Global};
-use std::marker::Model;
+use std::marker::{Model, PhantomData};
 use std::sync::Wait;
 
 /// Holds generals before their accesses, for as long as it likes.
@@ -35,56 +37,84 @@ impl Gate for Open {
     fn before_access(&self, _general: u32, _round: u32, _nth: u64) {}
 }
 
-/// The board as one general meets it: first the gate, then the lock, for one access. It is seen as what was served to
-/// him, each access behind the gate, and the beginning of the board's history that he has met.
+/// The board as one general meets it for one task: first the gate, then the lock, for one access. It is seen as what was
+/// served to him so far, and the beginning of the board's history that he has met.
 #[derive(Drop)]
-pub(crate) struct Gated<'a, R, G: Gate, J: Room> {
-    pub(crate) rt: &'a R,
-    pub(crate) gate: &'a G,
-    pub(crate) board: &'a SharedBoard<J>,
+pub(crate) struct Gated<'a, R, G: Gate, J: Room, T: Turn> {
+    rt: &'a R,
+    gate: &'a G,
+    board: &'a SharedBoard<J>,
     /// His leave to have accesses served.
-    pub(crate) me: Witness<J>,
-    /// All that were served to him.
-    pub(crate) made: Made,
+    me: Witness<J>,
+    /// All that were served to him for this task.
+    made: Made,
+    turn: PhantomData<T>,
 }
 
-impl<'a, R, G: Gate, J: Room> Model for Gated<'a, R, G, J> {
-    ghost use Rattle.std.specs.Prelude.{◌≡◌, [], length};
-    ghost use Rattle.threads.specs.Served.{AreAmong, HavePassed, Served};
+impl<'a, R, G: Gate, J: Room, T: Turn> Model for Gated<'a, R, G, J, T> {
+    ghost use Rattle.std.specs.Prelude.{◌++◌, ℕ, []};
+    ghost use Rattle.threads.specs.Served.{HavePassed, Served, WereServed};
 
     ghost Value = { Served };
 
-    ghost view = { λ g. record { made = g.made.accesses.items; seen = g.me.seen } };
+    ghost view = { λ g. record { made = T.before ++ g.made.accesses.items; seen = g.me.seen } };
 
-    ghost invariant = { λ g. AreAmong g.made.accesses.items g.me.seen × (g.me.made ≡ length g.made.accesses.items)
-        × HavePassed (G.passed g.gate.now) [] g.made.accesses.items };
+    ghost invariant = { λ g. WereServed (T.before ++ g.made.accesses.items) g.me
+        × ((general round nth : ℕ) → G.passed g.gate.now general round nth → T.passed general round nth)
+        × HavePassed T.passed [] g.made.accesses.items };
 }
 
-impl<'a, R, G: Gate, J: Room> Gated<'a, R, G, J> {
-    /// Does nothing. What was served to him stands in the history that he has met.
-    pub(crate) fn recall(&self)
-        ensures { AreAmong self.now.made self.now.seen }
+impl<'a, R, G: Gate, J: Room, T: Turn> Gated<'a, R, G, J, T> {
+    /// The board as this witness's general meets it, to whom just these accesses were served before.
+    pub(crate) fn new(
+        rt: &'a R,
+        alloc: Global,
+        gate: &'a G,
+        board: &'a SharedBoard<J>,
+        me: Witness<J>,
+    ) -> Gated<'a, R, G, J, T>
+        requires before { WereServed T.before me }
+        requires passed { (general round nth : ℕ) → G.passed gate.now general round nth → T.passed general round nth }
+        ensures { result.made ≡ T.before }
     {
-        let _made = &self.made;
+        Gated {
+            rt,
+            gate,
+            board,
+            me,
+            made: Made::new(alloc),
+            turn: PhantomData,
+        }
     }
 
-    /// Ends with a poster, with which just the accesses that were served to him are told.
-    pub(crate) fn settle(self, poster: Poster) -> Settled
-        requires { self.made ≡ told_in poster.posted }
-        ensures poster { result.poster ≡ poster }
-        ensures passed { (gate : G) × HavePassed (G.passed gate) [] (told_in poster.posted) }
+    /// The witness, when the task is done: through it were served all accesses before, and those of the task, each of
+    /// which has passed the gate.
+    pub(crate) fn into_witness(self) -> Witness<J>
+        ensures served { WereServed self.entry.made result }
+        ensures passed { (now : List Entry) × (self.entry.made ≡ T.before ++ now) × HavePassed T.passed [] now }
     {
-        Settled { poster }
+        self.me
     }
 }
 
-/// A poster, with which all accesses that were served to its general are told: `settle` alone makes one.
+/// A poster, with which all accesses that were served to its general are told: `Settled::new` alone makes one.
 #[derive(Drop)]
 pub(crate) struct Settled {
     poster: Poster,
 }
 
-impl<'a, R: Wait, G: Gate, J: Room> Server for Gated<'a, R, G, J> {
+impl Settled {
+    /// A poster, with which just the accesses are told that were served through this witness.
+    pub(crate) fn new<J: Room>(poster: Poster, me: Witness<J>) -> Settled
+        requires { WereServed (told_in poster.posted) me }
+        ensures { result.poster ≡ poster }
+    {
+        drop(me);
+        Settled { poster }
+    }
+}
+
+impl<'a, R: Wait, G: Gate, J: Room, T: Turn> Server for Gated<'a, R, G, J, T> {
     ghost served = { λ gated. gated.made };
 
     fn serve(&mut self, general: u32, round: u32, request: Request) -> Result<Reply, AllocError> {

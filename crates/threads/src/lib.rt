@@ -22,6 +22,7 @@ mod resident;
 mod taking;
 mod tally;
 mod task;
+mod turn;
 mod uncollected;
 
 pub use answers::ended;

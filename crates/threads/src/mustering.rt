@@ -1,14 +1,15 @@
 //! Campaigns whose generals act in threads.
-ghost use Rattle.std.specs.Prelude.{◌≡◌, ◌≤◌, suc, length, All, IfOk, IfErr};
+ghost use Rattle.std.specs.Prelude.{◌≡◌, ◌≤◌, ◌↔◌, suc, length, All, IfOk, IfErr};
 ghost use mathlib.Core.List.{IsPrefix};
 ghost use Rattle.board.specs.Board.{IsLegal};
-ghost use Rattle.letter.specs.Letters.{messages};
+ghost use Rattle.letter.specs.Letters.{Letter as LetterSeen, messages};
 ghost use Rattle.world.specs.Chronicle.{decisions, chronicle_of};
 ghost use Rattle.world.specs.Lists.{IsComplete, replayed, names_in};
 ghost use Rattle.world.specs.Promises.{AgreeUnderBound, IsVerdictOn, IsWellUnderBound};
 ghost use Rattle.world.specs.Replay.{replay_of};
 ghost use Rattle.world.specs.Safety.{IsShort};
 ghost use Rattle.threads.specs.Answers.{IfUnlike};
+ghost use Rattle.threads.specs.Served.{AreGated, IsGated};
 
 use crate::collecting::collect;
 use crate::concluding::{conclude, judge};
@@ -16,6 +17,7 @@ use crate::error::MusterError;
 use crate::gate::Gate;
 use crate::mishap::Mishap;
 use board::Board;
+use post::Claim;
 use roster::Scenario;
 use shared_board::{Room, SharedBoard, Unshared, Witness};
 use std::alloc::Global;
@@ -36,6 +38,9 @@ const STACK: usize = 1 << 20;
 /// steps than its program has instructions (`short`); each lieutenant decides
 /// what OM(m) gives from the messages recorded; and where the bound holds, all loyal lieutenants decide alike, on the
 /// commander's order if he is loyal (TOPLAS 1982, Theorem 1).
+///
+/// Each access that a letter of it tells has passed this gate, in the gate's own words, counted from 0 in the letter
+/// (`passed`).
 ///
 /// It waits for its threads, and answers when all of them have ended.
 ///
@@ -62,6 +67,7 @@ pub fn muster<R: Threads + Wait + Sync, G: Gate + Sync>(
     ensures agree { IfOk result (λ chronicle. AgreeUnderBound scenario chronicle.decisions) }
     ensures verdict { IfOk result (λ chronicle. IsVerdictOn scenario chronicle.decisions chronicle.verdict) }
     ensures well { IfOk result (λ chronicle. IsWellUnderBound chronicle.verdict) }
+    ensures passed { IfOk result (λ chronicle. AreGated (G.passed gate.now) chronicle.letters) }
 {
     Ok(muster_on(rt, alloc, scenario, gate, STACK)?)
 }
@@ -89,6 +95,7 @@ pub fn muster_with<R: Threads + Wait + Sync, G: Gate + Sync>(
     ensures agree { IfOk result (λ chronicle. AgreeUnderBound scenario chronicle.decisions) }
     ensures verdict { IfOk result (λ chronicle. IsVerdictOn scenario chronicle.decisions chronicle.verdict) }
     ensures well { IfOk result (λ chronicle. IsWellUnderBound chronicle.verdict) }
+    ensures passed { IfOk result (λ chronicle. AreGated (G.passed gate.now) chronicle.letters) }
 {
     Ok(muster_on(rt, alloc, scenario, gate, stack)?)
 }
@@ -112,6 +119,7 @@ fn muster_on<R: Threads + Wait + Sync, G: Gate + Sync>(
     ensures agree { IfOk result (λ chronicle. AgreeUnderBound scenario chronicle.decisions) }
     ensures verdict { IfOk result (λ chronicle. IsVerdictOn scenario chronicle.decisions chronicle.verdict) }
     ensures well { IfOk result (λ chronicle. IsWellUnderBound chronicle.verdict) }
+    ensures passed { IfOk result (λ chronicle. AreGated (G.passed gate.now) chronicle.letters) }
 {
     let threads = scenario.generals();
     let unshared = Unshared::new(Board::new(alloc, *scenario.board()), threads + 1);
@@ -143,18 +151,24 @@ fn mustered<R: Threads + Wait + Sync, G: Gate + Sync, J: Room + Send + Sync>(
     ensures agree { IfOk result (λ chronicle. AgreeUnderBound scenario chronicle.decisions) }
     ensures verdict { IfOk result (λ chronicle. IsVerdictOn scenario chronicle.decisions chronicle.verdict) }
     ensures well { IfOk result (λ chronicle. IsWellUnderBound chronicle.verdict) }
+    ensures passed { IfOk result (λ chronicle. AreGated (G.passed gate.now) chronicle.letters) }
 {
     let threads = scenario.generals() + 1;
     let (board, mut witnesses) = SharedBoard::<J>::new(alloc, unshared, threads)?;
     let Some(witness) = witnesses.pop() else {
         unreachable!()
     };
-    by_board(rt, alloc, scenario, gate, stack, board, witness, witnesses)
+    by_board::<R, G, J, Brand>(rt, alloc, scenario, gate, stack, board, witness, witnesses)
 }
 
 /// The same, by this board, which opens with the scenario's words, and its witnesses, one of whom stays. The accesses of
 /// the chronicle begin with what he has met.
-fn by_board<R: Threads + Wait + Sync, G: Gate + Sync, J: Room + Send + Sync>(
+fn by_board<
+    R: Threads + Wait + Sync,
+    G: Gate + Sync,
+    J: Room + Send + Sync,
+    C: Claim + Send + Sync,
+>(
     rt: &R,
     alloc: Global,
     scenario: Scenario,
@@ -167,6 +181,7 @@ fn by_board<R: Threads + Wait + Sync, G: Gate + Sync, J: Room + Send + Sync>(
     requires words { J.opening ≡ scenario.board }
     requires witnesses { scenario.generals ≤ length witnesses.items }
     requires unserved { All (λ w. w.made ≡ 0) witnesses.items }
+    requires claim { (l : LetterSeen) → C.holds l ↔ IsGated (G.passed gate.now) l }
     ensures unlike { IfErr result (λ e.
         IfUnlike e (λ b. (b.opening ≡ scenario.board) × IsPrefix witness.seen b.ledger)) }
     ensures history { IfOk result (λ chronicle. IsPrefix witness.seen chronicle.accesses) }
@@ -181,8 +196,11 @@ fn by_board<R: Threads + Wait + Sync, G: Gate + Sync, J: Room + Send + Sync>(
     ensures agree { IfOk result (λ chronicle. AgreeUnderBound scenario chronicle.decisions) }
     ensures verdict { IfOk result (λ chronicle. IsVerdictOn scenario chronicle.decisions chronicle.verdict) }
     ensures well { IfOk result (λ chronicle. IsWellUnderBound chronicle.verdict) }
+    ensures passed { IfOk result (λ chronicle. AreGated (G.passed gate.now) chronicle.letters) }
 {
-    let (rounds, told) = collect(rt, alloc, &scenario, gate, &board, witnesses, stack)?;
+    let (rounds, told) = collect::<R, G, J, C>(
+        rt, alloc, &scenario, gate, &board, witnesses, stack,
+    )?;
     let board = board.into_board(rt, witness);
     let decisions = judge(rt, alloc, &scenario, &board, rounds.as_slice(), &told)?;
     Ok(conclude(scenario, board.into_ledger(), rounds, decisions))

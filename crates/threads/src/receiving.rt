@@ -1,5 +1,5 @@
 //! The letters of a round, taken out of the post.
-ghost use Rattle.std.specs.Prelude.{◌≡◌, ◌≢◌, ◌≤◌, ◌++◌, suc, List, IsPermutation, IsSortedByKey, IfOk, OnOk, IfErr};
+ghost use Rattle.std.specs.Prelude.{◌≡◌, ◌≢◌, ◌≤◌, ◌++◌, suc, All, List, IsPermutation, IsSortedByKey, IfOk, OnOk, IfErr};
 ghost use Rattle.std.specs.Ordering.{nat_cmp};
 ghost use Rattle.letter.specs.Letters.{Letter as LetterSeen};
 ghost use Rattle.letter.specs.Origin.{AreLettersOf};
@@ -10,7 +10,7 @@ use crate::halt::Halt;
 use crate::tally::AllPosted;
 use delivery::Told;
 use letter::{Letter, are_letters_of};
-use post::{Collector, Post};
+use post::{Claim, Collector, PostOf};
 use roster::Scenario;
 use std::alloc::{AllocError, Global};
 use std::sync::Wait;
@@ -27,12 +27,12 @@ pub(crate) struct Strayed {
 /// # Errors
 ///
 /// `Memory` where memory is refused, `Strayed` where letters are not of that round.
-pub(crate) fn receive<R: Wait>(
+pub(crate) fn receive<R: Wait, C: Claim>(
     rt: &R,
     alloc: Global,
     scenario: &Scenario,
     told: &Told,
-    post: &Post,
+    post: &PostOf<C>,
     collector: Collector,
     all: AllPosted,
 ) -> Result<(Collector, Vec<Letter>), Halt>
@@ -46,6 +46,7 @@ pub(crate) fn receive<R: Wait>(
     ensures ascending { IfOk result (λ r. IsSortedByKey (λ (letter : LetterSeen). letter.general) nat_cmp r.1.items) }
     ensures taken { IfOk result (λ r. (came : List LetterSeen) × (r.0.taken ≡ collector.taken ++ came)
         × IsPermutation came r.1.items) }
+    ensures claims { IfOk result (λ r. All C.holds r.1.items) }
     ensures strayed { IfErr result (HasStrayedIn (suc told.now.rounds)) }
     ensures started { IfErr result (λ halt. halt_as halt ≢ Spawn) }
     ensures posted { IfErr result (λ halt. halt_as halt ≢ PostFull) }
@@ -70,10 +71,10 @@ fn of_round(scenario: &Scenario, round: u32, letters: &[Letter]) -> Result<(), S
 
 /// The letters that it takes out of the post until it finds none, all of them, ascending by general. No more is
 /// promised of them here: they are tested where they are told, and judged at the end.
-fn take_letters<R: Wait>(
+fn take_letters<R: Wait, C: Claim>(
     rt: &R,
     alloc: Global,
-    post: &Post,
+    post: &PostOf<C>,
     mut collector: Collector,
     all: AllPosted,
 ) -> Result<(Collector, Vec<Letter>), AllocError>
@@ -81,6 +82,7 @@ fn take_letters<R: Wait>(
     ensures post { IfOk result (λ r. r.0.table ≡ post.now.table) }
     ensures taken { IfOk result (λ r. (came : List LetterSeen) × (r.0.taken ≡ collector.taken ++ came)
         × IsPermutation came r.1.items) }
+    ensures claims { IfOk result (λ r. All C.holds r.1.items) }
     ensures ascending { IfOk result (λ r. IsSortedByKey (λ (letter : LetterSeen). letter.general) nat_cmp r.1.items) }
 {
     let mut letters = Vec::with_capacity(alloc, all.letters())?;

@@ -1,23 +1,24 @@
 //! A general's thread through all rounds.
-ghost use Rattle.std.specs.Prelude.{◌≡◌, ◌≢◌, ◌++◌, ◌∷◌, [], IfOk, OnOk, IfErr, IsErrAnd};
+ghost use Rattle.std.specs.Prelude.{◌≡◌, ◌≢◌, ℕ, ◌++◌, ◌∷◌, [], All, IfOk, IfErr, IsErrAnd};
 ghost use Rattle.letter.specs.Letters.{Letter as LetterSeen};
 ghost use Rattle.threads.specs.Answers.{failure_of, failure_as, IsFailureOf};
 ghost use Rattle.threads.specs.Duties.{IsDone};
-ghost use Rattle.threads.specs.Served.{AreAmong, told_in, HavePassed};
+ghost use Rattle.threads.specs.Served.{told_in, IsGated, WereServed};
 ghost use Rattle.threads.specs.declared.error.MusterError.TheVariants.{Unaccounted, Post as PostFull};
 
 use crate::error::MusterError;
 use crate::failure::{Failure, is_his};
 use crate::gate::{Gate, Gated, Settled};
 use crate::inbox::{Closed, Inbox};
-use crate::made::Made;
 use crate::tally::{Reported, Tally, Uncounted, send};
 use crate::task::Task;
+use crate::turn::Turn;
 use crate::uncollected::Uncollected;
 use letter::Letter;
-use post::{Post, Poster};
+use post::{Claim, PostOf, Poster};
 use shared_board::{Room, SharedBoard, Witness};
 use std::alloc::Global;
+use std::marker::Brand;
 use std::sync::Wait;
 
 /// By what a general has failed for good, as `stay` alone tells.
@@ -77,11 +78,11 @@ pub(crate) struct Resident<'a, G, J: Room> {
 impl<'a, G: Gate, J: Room> Resident<'a, G, J> {
     /// Does his tasks until his inbox is closed, or he fails; where he fails, he says so to the one who waits for the
     /// letters.
-    pub(crate) fn stay<R: Wait>(
+    pub(crate) fn stay<R: Wait, C: Claim>(
         self,
         rt: &R,
         alloc: Global,
-        post: &Post,
+        post: &PostOf<C>,
         poster: Poster,
         me: Witness<J>,
     ) -> Answer
@@ -89,12 +90,12 @@ impl<'a, G: Gate, J: Room> Resident<'a, G, J> {
         requires general { poster.general ≡ self.general }
         requires unposted { poster.posted ≡ [] }
         requires unserved { me.made ≡ 0 }
+        requires claim { (l : LetterSeen) → IsGated (G.passed self.gate.now) l → C.holds l }
         ensures general { result.general ≡ self.entry.general }
         ensures closed { IfOk result.ended (λ r. r.0.general ≡ self.entry.inbox.now.general) }
         ensures poster { IfOk result.ended (λ r. r.1.poster.table ≡ post.now.table) }
         ensures his { IfOk result.ended (λ r. r.1.poster.general ≡ self.entry.general) }
-        ensures passed { IfOk result.ended
-            (λ r. (gate : G) × HavePassed (G.passed gate) [] (told_in r.1.poster.posted)) }
+        ensures passed { IfOk result.ended (λ r. All (IsGated (G.passed self.entry.gate.now)) r.1.poster.posted) }
         ensures failed { IfErr result.ended (λ reported. IsFailureOf self.entry.general reported.failed.failure) }
     {
         let ended = match self.do_tasks(rt, alloc, post, poster, me) {
@@ -113,38 +114,33 @@ impl<'a, G: Gate, J: Room> Resident<'a, G, J> {
     /// # Errors
     ///
     /// As `do_task`.
-    fn do_tasks<R: Wait>(
+    fn do_tasks<R: Wait, C: Claim>(
         &self,
         rt: &R,
         alloc: Global,
-        post: &Post,
+        post: &PostOf<C>,
         mut poster: Poster,
-        me: Witness<J>,
+        mut me: Witness<J>,
     ) -> Result<(Closed, Settled), Failure>
         requires post { poster.table ≡ post.now.table }
         requires general { poster.general ≡ self.now.general }
         requires unposted { poster.posted ≡ [] }
         requires unserved { me.made ≡ 0 }
+        requires claim { (l : LetterSeen) → IsGated (G.passed self.now.gate.now) l → C.holds l }
         ensures closed { IfOk result (λ r. r.0.general ≡ self.now.inbox.now.general) }
         ensures poster { IfOk result (λ r. r.1.poster.table ≡ post.now.table) }
         ensures his { IfOk result (λ r. r.1.poster.general ≡ self.now.general) }
-        ensures passed { IfOk result (λ r. (gate : G) × HavePassed (G.passed gate) [] (told_in r.1.poster.posted)) }
+        ensures passed { IfOk result (λ r. All (IsGated (G.passed self.now.gate.now)) r.1.poster.posted) }
         ensures failed { IfErr result (IsFailureOf self.now.general) }
     {
-        let mut server = Gated {
-            rt,
-            gate: self.gate,
-            board: self.board,
-            me,
-            made: Made::new(alloc),
-        };
         for _ in rt.forever() {
             let task = match self.inbox.next(rt) {
                 Ok(task) => task,
-                Err(closed) => return Ok((closed, server.settle(poster))),
+                Err(closed) => return Ok((closed, Settled::new(poster, me))),
             };
-            let uncounted = self.do_task(rt, alloc, post, poster, &mut server, task)?;
+            let (uncounted, again) = self.do_task(rt, alloc, post, poster, me, task)?;
             poster = self.tally.posted(rt, uncounted);
+            me = again;
         }
         unreachable!()
     }
@@ -154,56 +150,64 @@ impl<'a, G: Gate, J: Room> Resident<'a, G, J> {
     /// # Errors
     ///
     /// `Memory` where memory is refused, `Returned` where the post is full, `Foreign` where the task is not his.
-    fn do_task<R: Wait>(
+    fn do_task<R: Wait, C: Claim>(
         &self,
         rt: &R,
         alloc: Global,
-        post: &Post,
+        post: &PostOf<C>,
         poster: Poster,
-        server: &mut Gated<'_, R, G, J>,
+        me: Witness<J>,
         task: Task,
-    ) -> Result<Uncounted, Failure>
+    ) -> Result<(Uncounted, Witness<J>), Failure>
         requires post { poster.table ≡ post.now.table }
         requires general { poster.general ≡ self.now.general }
-        requires told { server.old.made ≡ told_in poster.posted }
-        ensures post { IfOk result (λ uncounted. uncounted.poster.table ≡ post.now.table) }
-        ensures general { IfOk result (λ uncounted. uncounted.poster.general ≡ self.now.general) }
-        ensures done { IfOk result (λ uncounted. (letter : LetterSeen) × IsDone task letter
-            × (uncounted.poster.posted ≡ poster.posted ++ letter ∷ [])) }
-        ensures told { IfOk result (λ uncounted. server.new.made ≡ told_in uncounted.poster.posted) }
+        requires told { WereServed (told_in poster.posted) me }
+        requires claim { (l : LetterSeen) → IsGated (G.passed self.now.gate.now) l → C.holds l }
+        ensures post { IfOk result (λ r. r.0.poster.table ≡ post.now.table) }
+        ensures general { IfOk result (λ r. r.0.poster.general ≡ self.now.general) }
+        ensures done { IfOk result (λ r. (letter : LetterSeen) × IsDone task letter
+            × IsGated (G.passed self.now.gate.now) letter × (r.0.poster.posted ≡ poster.posted ++ letter ∷ [])) }
+        ensures told { IfOk result (λ r. WereServed (told_in r.0.poster.posted) r.1) }
         ensures theirs { task.general ≢ self.now.general → IsErrAnd result (λ f. failure_as f ≡ Unaccounted) }
         ensures own { IfErr result (λ f. failure_as f ≡ Unaccounted → task.general ≢ self.now.general) }
         ensures failed { IfErr result (IsFailureOf self.now.general) }
     {
-        let letter = self.letter(alloc, server, task)?;
+        let (letter, me) = self.letter::<R, Brand>(rt, alloc, &poster, me, task)?;
         let uncounted = send(rt, post, poster, letter)?;
-        Ok(uncounted)
+        Ok((uncounted, me))
     }
 
     /// His letter for a task. It tells just the accesses that were served to him meanwhile, as they were asked and
-    /// answered; all that were stand in the board's history.
+    /// answered, each of which has passed the gate; with those that were told before, they are all that were served
+    /// through his witness, and stand in the board's history.
     ///
     /// # Errors
     ///
     /// `Memory` where memory is refused, `Foreign` where the task is not his.
-    fn letter<R: Wait>(
+    fn letter<R: Wait, T: Turn>(
         &self,
+        rt: &R,
         alloc: Global,
-        server: &mut Gated<'_, R, G, J>,
+        poster: &Poster,
+        me: Witness<J>,
         task: Task,
-    ) -> Result<Letter, Failure>
-        ensures general { IfOk result (λ letter. letter.general ≡ self.now.general) }
-        ensures done { IfOk result (IsDone task) }
-        ensures served { IfOk result (λ letter. server.new.made ≡ server.old.made ++ letter.transcript) }
-        ensures met { OnOk result (AreAmong server.new.made server.new.seen) }
+    ) -> Result<(Letter, Witness<J>), Failure>
+        requires told { WereServed (told_in poster.now.posted) me }
+        requires before { T.before ≡ told_in poster.now.posted }
+        requires passed { (general round nth : ℕ) → G.passed self.now.gate.now general round nth
+            → T.passed general round nth }
+        ensures general { IfOk result (λ r. r.0.general ≡ self.now.general) }
+        ensures done { IfOk result (λ r. IsDone task r.0) }
+        ensures served { IfOk result (λ r. WereServed (told_in poster.now.posted ++ r.0.transcript) r.1) }
+        ensures gated { IfOk result (λ r. IsGated T.passed r.0) }
         ensures theirs { task.general ≢ self.now.general → IsErrAnd result (λ f. failure_as f ≡ Unaccounted) }
         ensures own { IfErr result (λ f. failure_as f ≡ Unaccounted → task.general ≢ self.now.general) }
         ensures failed { IfErr result (IsFailureOf self.now.general) }
         ensures posted { IfErr result (λ f. failure_as f ≢ PostFull) }
     {
         is_his(&task, self.general)?;
-        let letter = task.letter(alloc, server)?;
-        server.recall();
-        Ok(letter)
+        let mut server: Gated<'_, R, G, J, T> = Gated::new(rt, alloc, self.gate, self.board, me);
+        let letter = task.letter(alloc, &mut server)?;
+        Ok((letter, server.into_witness()))
     }
 }

@@ -5,7 +5,7 @@ use Rattle.post.specs.Delivery.{posted}
 use Rattle.post.proofs.post.all_back.Given as goal
 
 abbrev pub invariant-loop-poster : goal.invariant-loop-poster
-invariant-loop-poster l = record {
+invariant-loop-poster g l = record {
   pass : IsPassOf l.queue l.pass;
   takes : (view l.pass).takes ≡ true;
   letters : (view l.pass).letters ≡ (view l.fn.pass).letters;
@@ -14,4 +14,4 @@ invariant-loop-poster l = record {
 }
 
 abbrev pub decreases-loop-poster : goal.decreases-loop-poster
-decreases-loop-poster l = vec_len l.posters
+decreases-loop-poster g l = vec_len l.posters

@@ -1,4 +1,5 @@
 use Rattle.std.proofs.Common.{◌≡◌, length}
+use Rattle.std.specs.Prelude.{All}
 use Rattle.delivery.specs.Told.{WasTold}
 use Rattle.threads.proofs.conducting.conduct.Given as goal
 
@@ -7,4 +8,5 @@ invariant-loop-round g l = record {
   told : WasTold l.scenario l.rows.items l.told;
   long : length l.rows.items ≡ l._round;
   post : l.collector.table ≡ l.camp.post.table;
+  claims : All (λ letters. All g.C.Claim.holds letters) l.rows.items;
 }

@@ -3,7 +3,7 @@ ghost use Rattle.std.specs.Prelude.{◌≡◌, ◌++◌, ◌∷◌, [], IfOk, If
 
 use crate::tally::returned::{Returned, posted};
 use letter::Letter;
-use post::{Post, Poster};
+use post::{Claim, PostOf, Poster};
 use std::sync::Wait;
 
 /// A poster with which a letter was posted that is not yet counted: `send` alone makes one, and `Count::add` alone
@@ -18,14 +18,15 @@ pub(crate) struct Uncounted {
 /// # Errors
 ///
 /// `Returned` where the post is full.
-pub(crate) fn send<R: Wait>(
+pub(crate) fn send<R: Wait, C: Claim>(
     rt: &R,
-    post: &Post,
+    post: &PostOf<C>,
     poster: Poster,
     letter: Letter,
 ) -> Result<Uncounted, Returned>
     requires post { poster.table ≡ post.now.table }
     requires general { letter.general ≡ poster.general }
+    requires claim { C.holds letter }
     ensures post { IfOk result (λ uncounted. uncounted.poster.table ≡ poster.table) }
     ensures general { IfOk result (λ uncounted. uncounted.poster.general ≡ poster.general) }
     ensures posted { IfOk result (λ uncounted. uncounted.poster.posted ≡ poster.posted ++ letter ∷ []) }

@@ -16,7 +16,10 @@ spawn_scoped-started-requires-after_bounds g c κs within =
           c.resident-resident.ensures.tally,
           (
             ap (λ (p : PosterSeen). p.posted) his,
-            last_all (λ (w : Witnessed). w.made ≡ 0) c.loop-poster.witnesses.items c.pop-in-Some.new.self.items c.in-Some-pop.me c.loop-poster.invariant.unserved c.in-Some-pop.ensures.items,
+            (
+              last_all (λ (w : Witnessed). w.made ≡ 0) c.loop-poster.witnesses.items c.pop-in-Some.new.self.items c.in-Some-pop.me c.loop-poster.invariant.unserved c.in-Some-pop.ensures.items,
+              search rules,
+            ),
           ),
         ),
       ),

@@ -2,10 +2,10 @@ use Rattle.std.proofs.Common.{◌≡◌, ℕ, ◌<◌, [], length, slice_index_o
 use Rattle.crossbeam_queue.specs.Passes.{view, IsPassOf}
 use Rattle.post.specs.Rule.{collector}
 use Rattle.post.specs.Seen.{PosterSeen, poster_seen}
-use Rattle.post.proofs.post.Post.new.Given as goal
+use Rattle.post.proofs.post.PostOf.new.Given as goal
 
 abbrev pub invariant-loop : goal.invariant-loop
-invariant-loop l = record {
+invariant-loop g l = record {
   pass : IsPassOf l.queue l.pass;
   knows : view l.pass ≡ collector [] (length l.posters.items) [];
   count : length l.posters.items ≡ l.counter;

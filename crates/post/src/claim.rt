@@ -1,0 +1,22 @@
+//! What holds of the letters in a post.
+use std::marker::Brand;
+
+/// Says something of each letter that a post takes in, and so of each that is taken out. A call of a program that makes a
+/// post picks what.
+pub trait Claim {
+    ghost use Rattle.letter.specs.Letters.{Letter};
+
+    /// What holds of a letter.
+    ghost holds: { Letter → Type 0 };
+}
+
+impl Claim for Brand {
+    ghost holds = { λ _. Unit {0} };
+}
+
+/// Any letter: nothing is said of it.
+pub struct AnyLetter;
+
+impl Claim for AnyLetter {
+    ghost holds = { λ _. Unit {0} };
+}

@@ -1,0 +1,7 @@
+use Rattle.letter.specs.Letters.{Letter}
+use Rattle.threads.specs.Served.{IsGated}
+use Rattle.threads.proofs.mustering.mustered.Given as goal
+
+-- the gate that was given
+abbrev pub ghosts-by_board : goal.ghosts-by_board
+ghosts-by_board g a = record { holds = λ (l : Letter). IsGated (g.G.Gate.passed a.gate.now) l }
