@@ -13,7 +13,7 @@ use Rattle.letter.specs.Letters.{Letter}
 use Rattle.post.specs.declared.known.Posted.{Posted}
 use Rattle.post.specs.declared.known.Known.{Known}
 use Rattle.post.specs.Delivery.{letters_of, AreDelivered, posted}
-use Rattle.post.specs.Rule.{poster, collector, spent, AreBack, Fits, Delivers, DeliversSuch}
+use Rattle.post.specs.Rule.{poster, collector, spent, AreBack, Fits, Delivers, DeliversOnly}
 use Rattle.std.specs.Prelude.{All as Each}
 use Rattle.std.proofs.lemmas.List.Elements.{All-append, All-nil, All-cons, All-head, All-tail}
 use Rattle.post.specs.Seen.{PosterSeen, poster_seen}
@@ -203,27 +203,27 @@ each_snoc : (Is : Letter → Type 0) (letters : List Letter) (x : Letter) → Ea
 each_snoc Is letters x all is = All-append Is letters (x ∷ []) all (All-cons Is x [] is (All-nil Is))
 
 -- the same moves, where something is claimed of each letter that is queued
-pub begins_such : (Is : Letter → Type 0) → DeliversSuch Is [] (collector [] 0 [] ∷ [])
-begins_such Is = (begins, All-nil Is)
+pub begins_only : (Is : Letter → Type 0) → DeliversOnly Is [] (collector [] 0 [] ∷ [])
+begins_only Is = (begins, All-nil Is)
 
-pub posts_such : (Is : Letter → Type 0) (n pass : ℕ) (v : Known) (x : Letter) → v.posts ≡ true → x.general ≡ v.general → Is x
-    → Pushes (DeliversSuch Is) n pass v x (λ w. w ≡ poster v.general (v.letters ++ x ∷ []))
-posts_such Is n pass v x may by is items views room h at =
+pub posts_only : (Is : Letter → Type 0) (n pass : ℕ) (v : Known) (x : Letter) → v.posts ≡ true → x.general ≡ v.general → Is x
+    → Pushes (DeliversOnly Is) n pass v x (λ w. w ≡ poster v.general (v.letters ++ x ∷ []))
+posts_only Is n pass v x may by is items views room h at =
     let r = posts n pass v x may by items views room h.0 at in
     (r.0, (r.1, each_snoc Is items x h.1 is), r.2)
 
-pub takes_such : (Is : Letter → Type 0) (pass : ℕ) (v : Known) → v.takes ≡ true
-    → Pops (DeliversSuch Is) pass v (λ x w. (w ≡ collector (v.letters ++ x ∷ []) v.made v.back) × Is x)
-takes_such Is pass v may x items views h at =
+pub takes_only : (Is : Letter → Type 0) (pass : ℕ) (v : Known) → v.takes ≡ true
+    → Pops (DeliversOnly Is) pass v (λ x w. (w ≡ collector (v.letters ++ x ∷ []) v.made v.back) × Is x)
+takes_only Is pass v may x items views h at =
     let r = takes pass v may x items views h.0 at in
     (r.0, (r.1, All-tail Is x items h.1), (r.2, All-head Is x items h.1))
 
-pub hires_such : (Is : Letter → Type 0) (pass : ℕ) (v : Known) → v.takes ≡ true → Forks (DeliversSuch Is) pass v (collector v.letters (v.made + 1) v.back) (poster v.made [])
-hires_such Is pass v may items views h at = (hires pass v may items views h.0 at, h.1)
+pub hires_only : (Is : Letter → Type 0) (pass : ℕ) (v : Known) → v.takes ≡ true → Forks (DeliversOnly Is) pass v (collector v.letters (v.made + 1) v.back) (poster v.made [])
+hires_only Is pass v may items views h at = (hires pass v may items views h.0 at, h.1)
 
-pub returns_such : (Is : Letter → Type 0) (pass : ℕ) (v : Known) (other : ℕ) (u : Known) → v.takes ≡ true → u.posts ≡ true
-    → Merges (DeliversSuch Is) pass v other u (collector v.letters v.made (posted u.general u.letters ∷ v.back)) spent
-returns_such Is pass v other u may posts' items views h at two at' = (returns pass v other u may posts' items views h.0 at two at', h.1)
+pub returns_only : (Is : Letter → Type 0) (pass : ℕ) (v : Known) (other : ℕ) (u : Known) → v.takes ≡ true → u.posts ≡ true
+    → Merges (DeliversOnly Is) pass v other u (collector v.letters v.made (posted u.general u.letters ∷ v.back)) spent
+returns_only Is pass v other u may posts' items views h at two at' = (returns pass v other u may posts' items views h.0 at two at', h.1)
 
-pub learns_such : (Is : Letter → Type 0) (pass : ℕ) (v : Known) → v.takes ≡ true → Learns (DeliversSuch Is) pass v (λ items. AreDelivered (v.letters ++ items) v.back)
-learns_such Is pass v may items views h at = learns pass v may items views h.0 at
+pub learns_only : (Is : Letter → Type 0) (pass : ℕ) (v : Known) → v.takes ≡ true → Learns (DeliversOnly Is) pass v (λ items. AreDelivered (v.letters ++ items) v.back)
+learns_only Is pass v may items views h at = learns pass v may items views h.0 at

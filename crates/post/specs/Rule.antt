@@ -57,6 +57,6 @@ Delivers queued views =
     (reader : ℕ) × (seat : ℕ → Option ℕ) × (taken : List Letter)
     × ((pass : ℕ) (v : Known) → get_elem? views pass ≡ some v → Fits reader seat taken (taken ++ queued) pass v)
 
--- the same, and of each letter that is queued holds what is claimed
-abbrev pub DeliversSuch : (Letter → Type 0) → List Letter → List Known → Type 0
-DeliversSuch Is queued views = Delivers queued views × All Is queued
+-- the same, and only letters are queued of which the claim holds
+abbrev pub DeliversOnly : (Letter → Type 0) → List Letter → List Known → Type 0
+DeliversOnly Is queued views = Delivers queued views × All Is queued

@@ -17,7 +17,7 @@ use std::marker::Model;
 use std::sync::Wait;
 
 /// A queue of letters that threads share. For each general, what was taken and then what is queued is what he has
-/// posted, in order, each letter once, whatever the threads do. Of each letter in it the claim holds that its type names.
+/// posted, in order, each letter once, whatever the threads do. Of each letter in it holds the claim that its type names.
 #[derive(Drop)]
 pub struct PostOf<C: Claim> {
     queue: Queue<C>,
@@ -63,7 +63,7 @@ impl<C: Claim> PostOf<C> {
         Ok((PostOf { queue, alloc }, posters, Collector { pass }))
     }
 
-    /// Posts a letter of the poster's general. It comes back where the post was full.
+    /// Posts a letter of the poster's general, of which the claim holds. It comes back where the post was full.
     pub fn post<R: Wait>(
         &self,
         rt: &R,

@@ -18,9 +18,9 @@ pub(crate) struct Delivery<C> {
 
 impl<C: Claim> Protocol<Letter, Known> for Delivery<C> {
     ghost use Rattle.std.specs.Prelude.{[]};
-    ghost use Rattle.post.specs.Rule.{collector, DeliversSuch};
+    ghost use Rattle.post.specs.Rule.{collector, DeliversOnly};
 
-    ghost holds = { DeliversSuch C.holds };
+    ghost holds = { DeliversOnly C.holds };
 
     ghost first = { collector [] 0 [] };
 }

@@ -1,4 +1,4 @@
--- What one general was served of the accesses of all (own).
+-- What one general was served of the accesses of all, and which of them have passed a gate (own).
 use Rattle.std.specs.Prelude.{ℕ, ◌≡◌, ◌==◌, ◌⊎◌, List, [], ◌∷◌, ◌++◌, All, length, count_by, flat_map}
 use Rattle.board.specs.Board.{Access}
 use Rattle.letter.specs.Letters.{Letter}
@@ -16,7 +16,7 @@ HavePassed passed before [] = Unit {0}
 HavePassed passed before (a ∷ made) = passed a.general a.round (count_by (λ b. b.round == a.round) before)
     × HavePassed passed (before ++ a ∷ []) made
 
--- each access that a letter tells has passed a gate, which counts them from 0
+-- each access that a letter tells has passed a gate, which counts those of a round from 0
 abbrev pub IsGated : (ℕ → ℕ → ℕ → Type 0) → Letter → Type 0
 IsGated passed l = HavePassed passed [] l.transcript
 
@@ -33,6 +33,6 @@ pub record Served : Type 0 where
   pub made : List Access
   pub seen : List Access
 
--- as many were served through this witness, and they stand in the history that it has met
-abbrev pub WereServed : List Access → Witnessed → Type 0
-WereServed made w = AreAmong made w.seen × (w.made ≡ length made)
+-- as many were served through this witness, and they stand, in this order, in the history that it has met
+abbrev pub AreWitnessed : List Access → Witnessed → Type 0
+AreWitnessed made w = AreAmong made w.seen × (w.made ≡ length made)

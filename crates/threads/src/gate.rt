@@ -5,11 +5,10 @@ ghost use Rattle.semantics.specs.Replies.{words_in};
 ghost use Rattle.board.specs.Board.{Access as Entry};
 ghost use Rattle.board.specs.Requests.{IsReplyTo};
 ghost use Rattle.shared_board.specs.Witnessed.{Serves};
-ghost use Rattle.threads.specs.Served.{told_in, HavePassed, WereServed};
+ghost use Rattle.threads.specs.Served.{told_in, HavePassed, AreWitnessed};
 
 use crate::made::{Made, Passed};
-use crate::turn::Turn;
-use board::Access;
+use crate::session::Session;
 use post::Poster;
 use round::Server;
 use semantics::{Reply, Request};
@@ -24,7 +23,7 @@ pub trait Gate {
     ghost passed: { Self → ℕ → ℕ → ℕ → Type 0 } = { λ _ _ _ _. Unit {0} };
 
     /// Called before each taking of the board's lock, and never while the lock is held; `nth` is counted from 0 for
-    /// that general and round.
+    /// that general and round. That it is, an implementer is not told.
     fn before_access(&self, general: u32, round: u32, nth: u64)
         ensures { passed self.now general round nth };
 }
@@ -40,7 +39,7 @@ impl Gate for Open {
 /// The board as one general meets it for one task: first the gate, then the lock, for one access. It is seen as what was
 /// served to him so far, and the beginning of the board's history that he has met.
 #[derive(Drop)]
-pub(crate) struct Gated<'a, R, G: Gate, J: Room, T: Turn> {
+pub(crate) struct Gated<'a, R, G: Gate, J: Room, T: Session> {
     rt: &'a R,
     gate: &'a G,
     board: &'a SharedBoard<J>,
@@ -48,24 +47,25 @@ pub(crate) struct Gated<'a, R, G: Gate, J: Room, T: Turn> {
     me: Witness<J>,
     /// All that were served to him for this task.
     made: Made,
-    turn: PhantomData<T>,
+    session: PhantomData<T>,
 }
 
-impl<'a, R, G: Gate, J: Room, T: Turn> Model for Gated<'a, R, G, J, T> {
+impl<'a, R, G: Gate, J: Room, T: Session> Model for Gated<'a, R, G, J, T> {
     ghost use Rattle.std.specs.Prelude.{◌++◌, ℕ, []};
-    ghost use Rattle.threads.specs.Served.{HavePassed, Served, WereServed};
+    ghost use Rattle.threads.specs.Served.{HavePassed, Served, AreWitnessed};
 
     ghost Value = { Served };
 
     ghost view = { λ g. record { made = T.before ++ g.made.accesses.items; seen = g.me.seen } };
 
-    ghost invariant = { λ g. WereServed (T.before ++ g.made.accesses.items) g.me
+    ghost invariant = { λ g. AreWitnessed (T.before ++ g.made.accesses.items) g.me
         × ((general round nth : ℕ) → G.passed g.gate.now general round nth → T.passed general round nth)
         × HavePassed T.passed [] g.made.accesses.items };
 }
 
-impl<'a, R, G: Gate, J: Room, T: Turn> Gated<'a, R, G, J, T> {
-    /// The board as this witness's general meets it, to whom just these accesses were served before.
+impl<'a, R, G: Gate, J: Room, T: Session> Gated<'a, R, G, J, T> {
+    /// The board as this witness's general meets it, through whom as many accesses were served before as its type names,
+    /// all of which he has met.
     pub(crate) fn new(
         rt: &'a R,
         alloc: Global,
@@ -73,7 +73,7 @@ impl<'a, R, G: Gate, J: Room, T: Turn> Gated<'a, R, G, J, T> {
         board: &'a SharedBoard<J>,
         me: Witness<J>,
     ) -> Gated<'a, R, G, J, T>
-        requires before { WereServed T.before me }
+        requires before { AreWitnessed T.before me }
         requires passed { (general round nth : ℕ) → G.passed gate.now general round nth → T.passed general round nth }
         ensures { result.made ≡ T.before }
     {
@@ -83,30 +83,31 @@ impl<'a, R, G: Gate, J: Room, T: Turn> Gated<'a, R, G, J, T> {
             board,
             me,
             made: Made::new(alloc),
-            turn: PhantomData,
+            session: PhantomData,
         }
     }
 
-    /// The witness, when the task is done: through it were served all accesses before, and those of the task, each of
-    /// which has passed the gate.
+    /// The witness, when the task is done: through it as many accesses were served as before and for the task, and of
+    /// each for the task holds what its type names.
     pub(crate) fn into_witness(self) -> Witness<J>
-        ensures served { WereServed self.entry.made result }
+        ensures served { AreWitnessed self.entry.made result }
         ensures passed { (now : List Entry) × (self.entry.made ≡ T.before ++ now) × HavePassed T.passed [] now }
     {
         self.me
     }
 }
 
-/// A poster, with which all accesses that were served to its general are told: `Settled::new` alone makes one.
+/// A poster, with which as many accesses are told as were served through a witness, all of which it has met:
+/// `Settled::new` alone makes one.
 #[derive(Drop)]
 pub(crate) struct Settled {
     poster: Poster,
 }
 
 impl Settled {
-    /// A poster, with which just the accesses are told that were served through this witness.
+    /// A poster, with which as many accesses are told as were served through this witness, all of which it has met.
     pub(crate) fn new<J: Room>(poster: Poster, me: Witness<J>) -> Settled
-        requires { WereServed (told_in poster.posted) me }
+        requires { AreWitnessed (told_in poster.posted) me }
         ensures { result.poster ≡ poster }
     {
         drop(me);
@@ -114,7 +115,7 @@ impl Settled {
     }
 }
 
-impl<'a, R: Wait, G: Gate, J: Room, T: Turn> Server for Gated<'a, R, G, J, T> {
+impl<'a, R: Wait, G: Gate, J: Room, T: Session> Server for Gated<'a, R, G, J, T> {
     ghost served = { λ gated. gated.made };
 
     fn serve(&mut self, general: u32, round: u32, request: Request) -> Result<Reply, AllocError> {
@@ -159,15 +160,7 @@ fn serve_entered<R: Wait, G: Gate, J: Room>(
     ensures unentered { OnErr result (made.new.accesses.items ≡ made.old.accesses.items) }
 {
     let passed = Passed::gate(gate, general, round, made.count(round));
-    let asked = request;
-    let reply = board.apply(rt, me, general, round, asked)?;
-    let access = Access {
-        general,
-        round,
-        request,
-        reply,
-    };
-    made.enter(passed, &access);
-    let Access { reply, .. } = access;
+    let (reply, unentered) = passed.apply(rt, board, me, request)?;
+    made.enter(unentered);
     Ok(reply)
 }

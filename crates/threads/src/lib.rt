@@ -19,10 +19,10 @@ mod mishap;
 mod mustering;
 mod receiving;
 mod resident;
+mod session;
 mod taking;
 mod tally;
 mod task;
-mod turn;
 mod uncollected;
 
 pub use answers::ended;

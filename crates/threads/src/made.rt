@@ -1,11 +1,18 @@
-//! The accesses that were served to one general, each behind the gate.
-ghost use Rattle.std.specs.Prelude.{◌≡◌, ◌++◌, ◌∷◌, ◌==◌, ◌<◌, [], count_by, vec_len, vec_capacity, OnOk};
+//! The accesses that were served to one general for one task, each behind the gate.
+ghost use Rattle.std.specs.Prelude.{◌≡◌, ◌++◌, ◌∷◌, ◌==◌, ◌<◌, [], true, count_by, vec_len, vec_capacity, IfOk, OnOk, OnErr};
+ghost use Rattle.semantics.specs.Call.{fits};
+ghost use Rattle.semantics.specs.Replies.{words_in};
+ghost use Rattle.board.specs.Requests.{IsReplyTo};
+ghost use Rattle.shared_board.specs.Witnessed.{Serves};
 
 use crate::gate::Gate;
 use board::Access;
+use semantics::{Reply, Request};
+use shared_board::{Room, SharedBoard, Witness};
 use std::alloc::{AllocError, Global};
 use std::marker::Model;
 use std::snapshot::Snapshot;
+use std::sync::Wait;
 
 /// That a general has passed the gate before an access, as the gate alone tells.
 #[derive(Drop)]
@@ -30,6 +37,57 @@ impl Passed {
             nth,
         }
     }
+
+    /// Has that access served by the board, behind its lock.
+    ///
+    /// # Errors
+    ///
+    /// `AllocError` where memory is refused; then nothing was served.
+    pub(crate) fn apply<R: Wait, J: Room>(
+        self,
+        rt: &R,
+        board: &SharedBoard<J>,
+        me: &mut Witness<J>,
+        request: Request,
+    ) -> Result<(Reply, Unentered), AllocError>
+        ensures serves { IfOk result
+            (λ r. Serves J.opening me.old self.general self.round request (words_in r.0) me.new) }
+        ensures fits { IfOk result (λ r. fits request (words_in r.0) ≡ true) }
+        ensures form { IfOk result (λ r. IsReplyTo request r.0) }
+        ensures access { IfOk result (λ r. r.1.mark ≡ record {
+          general = self.general;
+          round = self.round;
+          request = request;
+          reply = words_in r.0;
+        }) }
+        ensures nth { IfOk result (λ r. r.1.nth ≡ self.nth) }
+        ensures unserved { OnErr result (me.new ≡ me.old) }
+    {
+        let Passed {
+            general,
+            round,
+            nth,
+        } = self;
+        let asked = request;
+        let reply = board.apply(rt, me, general, round, asked)?;
+        let access = Access {
+            general,
+            round,
+            request,
+            reply,
+        };
+        let mark = Mark::new(&access);
+        let Access { reply, .. } = access;
+        Ok((reply, Unentered { mark, nth }))
+    }
+}
+
+/// An access that was served and is not entered yet, with its number at the gate, as `Passed::apply` alone tells: so the
+/// gate was passed before.
+#[derive(Drop)]
+pub(crate) struct Unentered {
+    mark: Mark,
+    nth: u64,
 }
 
 /// An access that was made: its round, and the whole as proofs see it, which takes no bytes.
@@ -69,7 +127,7 @@ impl Mark {
     }
 }
 
-/// The accesses that were served to a general, in order: before each he has passed the gate.
+/// The accesses that were served to a general for a task, in order: before each he has passed the gate.
 #[derive(Drop)]
 pub(crate) struct Made {
     accesses: Vec<Mark>,
@@ -107,15 +165,13 @@ impl Made {
         self.accesses.reserve(1)
     }
 
-    /// Enters an access for which he has passed the gate, where there is room.
-    pub(crate) fn enter(&mut self, passed: Passed, access: &Access)
+    /// Enters an access, where there is room: the gate has heard how many there are of its round.
+    pub(crate) fn enter(&mut self, unentered: Unentered)
         requires room { vec_len self.old.accesses < vec_capacity self.old.accesses }
-        requires general { passed.general ≡ access.now.general }
-        requires round { passed.round ≡ access.now.round }
-        requires nth { passed.nth ≡ count_by (λ a. a.round == access.now.round) self.old.accesses.items }
-        ensures { self.new.accesses.items ≡ self.old.accesses.items ++ access.now ∷ [] }
+        requires nth { unentered.nth ≡ count_by (λ a. a.round == unentered.mark.round) self.old.accesses.items }
+        ensures { self.new.accesses.items ≡ self.old.accesses.items ++ unentered.mark ∷ [] }
     {
-        let Passed { .. } = passed;
-        self.accesses.push_reserved(Mark::new(access));
+        let Unentered { mark, .. } = unentered;
+        self.accesses.push_reserved(mark);
     }
 }

@@ -39,8 +39,8 @@ const STACK: usize = 1 << 20;
 /// what OM(m) gives from the messages recorded; and where the bound holds, all loyal lieutenants decide alike, on the
 /// commander's order if he is loyal (TOPLAS 1982, Theorem 1).
 ///
-/// Each access that a letter of it tells has passed this gate, in the gate's own words, counted from 0 in the letter
-/// (`passed`).
+/// Of each access that a letter of the chronicle tells holds what the gate says of one that has passed (`Gate::passed`),
+/// with its general, its round, and its number, counted from 0 in the letter.
 ///
 /// It waits for its threads, and answers when all of them have ended.
 ///
@@ -162,7 +162,7 @@ fn mustered<R: Threads + Wait + Sync, G: Gate + Sync, J: Room + Send + Sync>(
 }
 
 /// The same, by this board, which opens with the scenario's words, and its witnesses, one of whom stays. The accesses of
-/// the chronicle begin with what he has met.
+/// the chronicle begin with what he has met. The post claims of each letter that its accesses have passed this gate.
 fn by_board<
     R: Threads + Wait + Sync,
     G: Gate + Sync,

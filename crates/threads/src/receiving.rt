@@ -69,8 +69,8 @@ fn of_round(scenario: &Scenario, round: u32, letters: &[Letter]) -> Result<(), S
     }
 }
 
-/// The letters that it takes out of the post until it finds none, all of them, ascending by general. No more is
-/// promised of them here: they are tested where they are told, and judged at the end.
+/// The letters that it takes out of the post until it finds none, all of them, ascending by general; of each holds what
+/// the post claims. No more is promised of them here: they are tested where they are told, and judged at the end.
 fn take_letters<R: Wait, C: Claim>(
     rt: &R,
     alloc: Global,

@@ -3,16 +3,16 @@ ghost use Rattle.std.specs.Prelude.{◌≡◌, ◌≢◌, ℕ, ◌++◌, ◌∷�
 ghost use Rattle.letter.specs.Letters.{Letter as LetterSeen};
 ghost use Rattle.threads.specs.Answers.{failure_of, failure_as, IsFailureOf};
 ghost use Rattle.threads.specs.Duties.{IsDone};
-ghost use Rattle.threads.specs.Served.{told_in, IsGated, WereServed};
+ghost use Rattle.threads.specs.Served.{told_in, IsGated, AreWitnessed};
 ghost use Rattle.threads.specs.declared.error.MusterError.TheVariants.{Unaccounted, Post as PostFull};
 
 use crate::error::MusterError;
 use crate::failure::{Failure, is_his};
 use crate::gate::{Gate, Gated, Settled};
 use crate::inbox::{Closed, Inbox};
+use crate::session::Session;
 use crate::tally::{Reported, Tally, Uncounted, send};
 use crate::task::Task;
-use crate::turn::Turn;
 use crate::uncollected::Uncollected;
 use letter::Letter;
 use post::{Claim, PostOf, Poster};
@@ -161,13 +161,13 @@ impl<'a, G: Gate, J: Room> Resident<'a, G, J> {
     ) -> Result<(Uncounted, Witness<J>), Failure>
         requires post { poster.table ≡ post.now.table }
         requires general { poster.general ≡ self.now.general }
-        requires told { WereServed (told_in poster.posted) me }
+        requires told { AreWitnessed (told_in poster.posted) me }
         requires claim { (l : LetterSeen) → IsGated (G.passed self.now.gate.now) l → C.holds l }
         ensures post { IfOk result (λ r. r.0.poster.table ≡ post.now.table) }
         ensures general { IfOk result (λ r. r.0.poster.general ≡ self.now.general) }
         ensures done { IfOk result (λ r. (letter : LetterSeen) × IsDone task letter
             × IsGated (G.passed self.now.gate.now) letter × (r.0.poster.posted ≡ poster.posted ++ letter ∷ [])) }
-        ensures told { IfOk result (λ r. WereServed (told_in r.0.poster.posted) r.1) }
+        ensures told { IfOk result (λ r. AreWitnessed (told_in r.0.poster.posted) r.1) }
         ensures theirs { task.general ≢ self.now.general → IsErrAnd result (λ f. failure_as f ≡ Unaccounted) }
         ensures own { IfErr result (λ f. failure_as f ≡ Unaccounted → task.general ≢ self.now.general) }
         ensures failed { IfErr result (IsFailureOf self.now.general) }
@@ -178,13 +178,13 @@ impl<'a, G: Gate, J: Room> Resident<'a, G, J> {
     }
 
     /// His letter for a task. It tells just the accesses that were served to him meanwhile, as they were asked and
-    /// answered, each of which has passed the gate; with those that were told before, they are all that were served
-    /// through his witness, and stand in the board's history.
+    /// answered, and of each holds what the gate says of one that has passed; with those that were told before, they
+    /// are as many as were served through his witness, and stand in the board's history.
     ///
     /// # Errors
     ///
     /// `Memory` where memory is refused, `Foreign` where the task is not his.
-    fn letter<R: Wait, T: Turn>(
+    fn letter<R: Wait, T: Session>(
         &self,
         rt: &R,
         alloc: Global,
@@ -192,13 +192,13 @@ impl<'a, G: Gate, J: Room> Resident<'a, G, J> {
         me: Witness<J>,
         task: Task,
     ) -> Result<(Letter, Witness<J>), Failure>
-        requires told { WereServed (told_in poster.now.posted) me }
+        requires told { AreWitnessed (told_in poster.now.posted) me }
         requires before { T.before ≡ told_in poster.now.posted }
         requires passed { (general round nth : ℕ) → G.passed self.now.gate.now general round nth
             → T.passed general round nth }
         ensures general { IfOk result (λ r. r.0.general ≡ self.now.general) }
         ensures done { IfOk result (λ r. IsDone task r.0) }
-        ensures served { IfOk result (λ r. WereServed (told_in poster.now.posted ++ r.0.transcript) r.1) }
+        ensures served { IfOk result (λ r. AreWitnessed (told_in poster.now.posted ++ r.0.transcript) r.1) }
         ensures gated { IfOk result (λ r. IsGated T.passed r.0) }
         ensures theirs { task.general ≢ self.now.general → IsErrAnd result (λ f. failure_as f ≡ Unaccounted) }
         ensures own { IfErr result (λ f. failure_as f ≡ Unaccounted → task.general ≢ self.now.general) }

@@ -3,14 +3,14 @@ use Rattle.post.specs.Rule.{collector, poster}
 use Rattle.post.specs.Seen.{PosterSeen, poster_seen}
 use Rattle.post.specs.declared.known.Known.{Known}
 use Rattle.crossbeam_queue.specs.Passes.{view}
-use Rattle.post.proofs.Rules.{begins_such, hires_such, each_more}
+use Rattle.post.proofs.Rules.{begins_only, hires_only, each_more}
 use Rattle.post.proofs.post.PostOf.new.Goals as goal
 
 pub ruled-requires-clause-rule : goal.ruled-requires-clause-rule
-ruled-requires-clause-rule g c = begins_such g.C.Claim.holds
+ruled-requires-clause-rule g c = begins_only g.C.Claim.holds
 
 pub another-theirs-requires-clause-rule : goal.another-theirs-requires-clause-rule
-another-theirs-requires-clause-rule g c = hires_such g.C.Claim.holds _ _ (ap (λ (v : Known). v.takes) c.loop.invariant.knows)
+another-theirs-requires-clause-rule g c = hires_only g.C.Claim.holds _ _ (ap (λ (v : Known). v.takes) c.loop.invariant.knows)
 
 pub loop-preserved : goal.loop-preserved
 loop-preserved g c =

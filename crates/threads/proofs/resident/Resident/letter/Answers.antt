@@ -9,5 +9,5 @@ pub returns-clause-gated : goal.returns-clause-gated
 returns-clause-gated g c =
     let now = c.into_witness.ensures.passed in
     let told = c.in_ok-letter.letter.transcript in
-    let same : now.0 ≡ told = append_cancel_left g.T.Turn.before now.0 told (sym now.1 ∙ (c.in_ok-letter.ensures.served ∙ ap (λ (l : List Access). l ++ told) c.new-server.ensures)) in
-    subst (λ (l : List Access). HavePassed g.T.Turn.passed [] l) same now.2
+    let same : now.0 ≡ told = append_cancel_left g.T.Session.before now.0 told (sym now.1 ∙ (c.in_ok-letter.ensures.served ∙ ap (λ (l : List Access). l ++ told) c.new-server.ensures)) in
+    subst (λ (l : List Access). HavePassed g.T.Session.passed [] l) same now.2

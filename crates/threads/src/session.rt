@@ -3,7 +3,7 @@ use std::marker::Brand;
 
 /// Names what was served to a general before a task, and what a gate says of an access once it has passed. Each task
 /// picks the name, which its server bears in its type: so serving cannot change it.
-pub(crate) trait Turn {
+pub(crate) trait Session {
     ghost use Rattle.std.specs.Prelude.{ℕ, List};
     ghost use Rattle.board.specs.Board.{Access};
 
@@ -14,7 +14,7 @@ pub(crate) trait Turn {
     ghost passed: { ℕ → ℕ → ℕ → Type 0 };
 }
 
-impl Turn for Brand {
+impl Session for Brand {
     ghost use Rattle.std.specs.Prelude.{[]};
 
     ghost before = { [] };
