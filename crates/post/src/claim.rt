@@ -1,8 +1,8 @@
 //! What holds of the letters in a post.
 use std::marker::Brand;
 
-/// Says something of each letter that a post takes in, and so of each that is taken out. Where a function that makes a
-/// post is called, the caller's proof picks what (`Brand`).
+/// Says something of each letter that a post takes in, and so of each that is taken out. Where a function over
+/// a claim that no type of its signature names is called with `Brand`, the caller's proof picks what.
 pub trait Claim {
     ghost use Rattle.letter.specs.Letters.{Letter};
 

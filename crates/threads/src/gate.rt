@@ -36,8 +36,9 @@ impl Gate for Open {
     fn before_access(&self, _general: u32, _round: u32, _nth: u64) {}
 }
 
-/// The board as one general meets it for one task: first the gate, then the lock, for one access. It is seen as what was
-/// served to him so far, and the beginning of the board's history that he has met.
+/// The board as one general meets it for one task: first the gate, then the lock, for one access. It is seen as what its
+/// type names, and behind it what was served to him for this task; and as the beginning of the board's history that he
+/// has met.
 #[derive(Drop)]
 pub(crate) struct Gated<'a, R, G: Gate, J: Room, T: Session> {
     rt: &'a R,

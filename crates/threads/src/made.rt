@@ -1,4 +1,4 @@
-//! The accesses that were served to one general for one task, each behind the gate.
+//! The accesses that were served to one general for one task, each behind a gate.
 ghost use Rattle.std.specs.Prelude.{◌≡◌, ◌++◌, ◌∷◌, ◌==◌, ◌<◌, [], true, count_by, vec_len, vec_capacity, IfOk, OnOk, OnErr};
 ghost use Rattle.semantics.specs.Call.{fits};
 ghost use Rattle.semantics.specs.Replies.{words_in};
@@ -14,7 +14,7 @@ use std::marker::Model;
 use std::snapshot::Snapshot;
 use std::sync::Wait;
 
-/// That a general has passed the gate before an access, as the gate alone tells.
+/// That a general has passed a gate, which heard the number of an access, as `Passed::gate` alone tells.
 #[derive(Drop)]
 pub(crate) struct Passed {
     general: u32,
@@ -23,7 +23,7 @@ pub(crate) struct Passed {
 }
 
 impl Passed {
-    /// Waits at the gate before the access of this number, counted from 0.
+    /// Waits at this gate before the access of this number, counted from 0.
     pub(crate) fn gate<G: Gate>(gate: &G, general: u32, round: u32, nth: u64) -> Passed
         ensures general { result.general ≡ general }
         ensures round { result.round ≡ round }
@@ -82,8 +82,8 @@ impl Passed {
     }
 }
 
-/// An access that was served and is not entered yet, with its number at the gate, as `Passed::apply` alone tells: so the
-/// gate was passed before.
+/// An access that was served and is not entered yet, with its number, as `Passed::apply` alone tells: so a gate that
+/// heard this number was passed before.
 #[derive(Drop)]
 pub(crate) struct Unentered {
     mark: Mark,
@@ -127,7 +127,7 @@ impl Mark {
     }
 }
 
-/// The accesses that were served to a general for a task, in order: before each he has passed the gate.
+/// The accesses that were served to a general for a task, in order: before each he has passed a gate.
 #[derive(Drop)]
 pub(crate) struct Made {
     accesses: Vec<Mark>,
@@ -165,7 +165,7 @@ impl Made {
         self.accesses.reserve(1)
     }
 
-    /// Enters an access, where there is room: the gate has heard how many there are of its round.
+    /// Enters an access, where there is room: a gate has heard how many there are of its round.
     pub(crate) fn enter(&mut self, unentered: Unentered)
         requires room { vec_len self.old.accesses < vec_capacity self.old.accesses }
         requires nth { unentered.nth ≡ count_by (λ a. a.round == unentered.mark.round) self.old.accesses.items }

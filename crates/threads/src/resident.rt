@@ -41,8 +41,9 @@ impl Failed {
 pub(crate) struct Answer {
     /// Whose it is.
     general: u32,
-    /// That his inbox was closed, with his poster, which a task that fails takes from him, and with which all that was
-    /// served to him is told; or by what he has failed, of which the one who waits for the letters was told.
+    /// That his inbox was closed, with his poster, which a task that fails takes from him, and with which as many
+    /// accesses are told as were served through a witness; or by what he has failed, of which the one who waits for the
+    /// letters was told.
     ended: Result<(Closed, Settled), Reported>,
 }
 
@@ -109,7 +110,8 @@ impl<'a, G: Gate, J: Room> Resident<'a, G, J> {
     }
 
     /// Does the tasks that his inbox gives him, until the inbox is closed: nothing else ends them without an error, and
-    /// none of them has failed, since his poster is still there. All that was served to him is then told.
+    /// none of them has failed, since his poster and his witness are still there. As many accesses are then told as were
+    /// served through it.
     ///
     /// # Errors
     ///
@@ -145,7 +147,8 @@ impl<'a, G: Gate, J: Room> Resident<'a, G, J> {
         unreachable!()
     }
 
-    /// Does a task: his letter for it is posted, to be counted, and tells just what was served to him meanwhile.
+    /// Does a task: his letter for it is posted, to be counted. With it his letters tell as many accesses as were served
+    /// through his witness, all in the history that it has met.
     ///
     /// # Errors
     ///
@@ -177,9 +180,8 @@ impl<'a, G: Gate, J: Room> Resident<'a, G, J> {
         Ok((uncounted, me))
     }
 
-    /// His letter for a task. It tells just the accesses that were served to him meanwhile, as they were asked and
-    /// answered, and of each holds what the gate says of one that has passed; with those that were told before, they
-    /// are as many as were served through his witness, and stand in the board's history.
+    /// His letter for a task. Of each access that it tells holds what the gate says of one that has passed; with those
+    /// that were told before, they are as many as were served through his witness, and stand in the board's history.
     ///
     /// # Errors
     ///
