@@ -73,6 +73,12 @@ impl<T: Drop> From<AllocFailed<T>> for Fault {
 }
 
 impl From<io::Error> for Fault {
+    ghost use Rattle.std.specs.Prelude.{◌≡◌, ◌⊎◌};
+    ghost use Rattle.surveyor.specs.Faults.{IsUnprinted};
+    ghost use Rattle.surveyor.specs.declared.fault.Fault.TheVariants.{Words as NotTextual};
+
+    ghost from_gives = { λ _ fault. (fault ≡ NotTextual) ⊎ IsUnprinted fault };
+
     fn from(error: io::Error) -> Fault {
         match error.kind() {
             ErrorKind::OutOfMemory => Fault::Memory,

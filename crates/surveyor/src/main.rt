@@ -21,12 +21,14 @@ mod shrinking;
 mod summing;
 mod surveying;
 
-ghost use Rattle.std.specs.Prelude.{List, Result, IfErr, IfOk};
+ghost use Rattle.std.specs.Prelude.{◌≡◌, ◌⊎◌, List, Result, IfErr, IfOk};
 ghost use Rattle.clap.specs.Words.{Text};
 ghost use Rattle.surveyor.specs.Done.{IsAskedBy, IsUndone};
+ghost use Rattle.surveyor.specs.Faults.{IsUnprinted};
 ghost use Rattle.surveyor.specs.Flags.{words_of};
 ghost use Rattle.surveyor.specs.declared.asked.Asked.{Asked as Wish};
 ghost use Rattle.surveyor.specs.declared.asked.AskedError.{AskedError as NoWish};
+ghost use Rattle.surveyor.specs.declared.fault.Fault.TheVariants.{Words as NotTextual};
 
 use asked::request;
 use ending::Ending;
@@ -50,7 +52,9 @@ fn called<'a, T: Threads + Sync>(
     rt: &'a HostRuntime,
     threads: &T,
 ) -> Result<Ending<Stdout, Disk<'a>>, Fault>
-    ensures { IfOk result (λ ending. (words : List Text) × IsAskedBy words ending.asked) }
+    ensures asked { IfOk result (λ ending. (words : List Text) × IsAskedBy words ending.asked) }
+    ensures undone { IfErr result (λ fault. (fault ≡ NotTextual) ⊎ IsUnprinted fault
+        ⊎ ((words : List Text) × (asked : Result Wish NoWish) × IsAskedBy words asked × IsUndone asked fault)) }
 {
     let alloc = rt.alloc();
     let words: Vec<String> = env::args(rt)?.skip(1).collect(alloc)?;
