@@ -24,7 +24,7 @@ const SHAPE: Shape = Shape {
 const SWAPPING: &str =
     "mov r1, 1\nmov r2, 7\ncall sway\nmov r1, 9\nmov r2, 5\ncall board_swap\nadd r0, 1\nexit\n";
 
-/// Returns the program, or `None` if it is rejected.
+/// Assembles and verifies the program, or returns `None` if it is rejected or out of memory.
 fn accepted(alloc: Global) -> Option<Verified> {
     let Ok(program) = assemble(alloc, SWAPPING) else {
         return None;
