@@ -1,5 +1,5 @@
 -- The results of many numbers.
-use Rattle.std.proofs.Common.{ℕ, zero, suc, ◌+◌, ◌-◌, ◌<◌, ◌≤◌, ◌≡◌, ◌≢◌, List, [], ◌∷◌, length, get_or, map, subst, sym, arith, Ok, Err, ◌⊎◌, ⊎_elim}
+use Rattle.std.proofs.Common.{ℕ, zero, suc, ◌+◌, ◌-◌, ◌<◌, ◌≤◌, ◌≡◌, ◌≢◌, List, [], ◌∷◌, length, get_or, map, subst, sym, arith, Ok, Err}
 use Rattle.std.specs.Prelude.{IfErr, IfOk, MatchResult}
 use Rattle.std.specs.Global.{Global}
 use Rattle.std.specs.declared.result.Result.{Result}
@@ -9,8 +9,7 @@ use Rattle.scenario.specs.declared.fault.ScenarioError.{ScenarioError}
 use Rattle.scenario.specs.declared.fault.ScenarioError.TheVariants.{Memory}
 use Rattle.survey.specs.declared.finding.Finding.{Finding}
 use Rattle.survey.specs.Family.{Family}
-use Rattle.survey.specs.Judging.{IsFindingOf, IsFirstRefused, IsRefused, IsRefusedBy, IsRefusedIn}
-use Rattle.survey.specs.Wording.{campaign_text}
+use Rattle.survey.specs.Judging.{IsRefusedBy, IsRefusedIn}
 
 -- what holds of a number and of its result, if it is good
 abbrev pub Gives : (ℕ → Finding → Type 0) → ℕ → Result Finding ScenarioError → Type 0
@@ -37,19 +36,6 @@ goods R Q [] [] h = tt
 goods R Q [] (r ∷ rs) h = absurd h
 goods R Q (s ∷ seeds) [] h = absurd h
 goods R Q (s ∷ seeds) (r ∷ rs) h = (h.0.0, goods R Q seeds rs h.1)
-
--- of each number there is a result
-pub each_found : (R : ℕ → Finding → Type 0) (a n : ℕ) (found : List Finding) → AllZip R (range_with_len a n) found → (s : ℕ) → a ≤ s → s < a + n → (x : Finding) × R s x
-each_found R a zero found h s low high = absurd (omega arith)
-each_found R a (suc n) [] h s low high = absurd h
-each_found R a (suc n) (x ∷ found) h s low high = ⊎_elim (λ e. (x, subst (λ y. R y x) e h.0)) (λ lt. each_found R (a + 1) n found h.1 s (omega arith) (omega arith)) (first_or_later a s low)
-  where
-    first_or_later : (a s : ℕ) → a ≤ s → (a ≡ s) ⊎ (a < s)
-    first_or_later a s low = grind arith
-
-pub first_refused : (f : Family) (first seed end n : ℕ) (found : List Finding) (e : ScenarioError) → first ≤ seed → seed < end → n ≡ seed - first → AllZip (IsFindingOf f) (range_with_len first n) found → IsRefused (campaign_text f seed) e → IsFirstRefused f first end e
-first_refused f first seed end n found e low high is h refused =
-    record { seed = seed; behind = low; before = high; refused = refused; earlier = λ s from upto. each_found (IsFindingOf f) first n found h s from (omega (arith, is, low, from, upto)) }
 
 -- of an error among the results, a number that gives it
 error_at : (R : ℕ → Finding → Type 0) (Q : ℕ → ScenarioError → Type 0) (a n : ℕ) (rs : List (Result Finding ScenarioError)) (e : ScenarioError) (k : ℕ)

@@ -68,11 +68,3 @@ pub record IsRefusedIn (f : Family) (first end : ℕ) (e : ScenarioError) : Type
   pub behind : first ≤ seed
   pub before : seed < end
   pub refused : IsRefused (campaign_text f seed) e
-
--- the first of these texts that is refused, and how: each seed before gives a campaign that is found so
-pub record IsFirstRefused (f : Family) (first end : ℕ) (e : ScenarioError) : Type 0 where
-  pub seed : ℕ
-  pub behind : first ≤ seed
-  pub before : seed < end
-  pub refused : IsRefused (campaign_text f seed) e
-  pub earlier : (s : ℕ) → first ≤ s → s < seed → (found : Finding) × IsFindingOf f s found

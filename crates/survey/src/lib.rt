@@ -40,5 +40,5 @@ pub use reading::read_line;
 pub use span::Span;
 pub use summing::{has, is_sound, sums_of, tally_of};
 pub use sums::{Outcome, Sums, Tally};
-pub use surveying::{survey, survey_in_turn};
+pub use surveying::survey;
 pub use wording::{campaign_text, plot_text};

@@ -3,7 +3,7 @@ ghost use Rattle.std.specs.Prelude.{◌≢◌, IfErr, IfOk};
 ghost use Rattle.std.specs.List.{AllZip};
 ghost use Rattle.rayon.specs.Numbers.{nat_range};
 ghost use Rattle.scenario.specs.declared.fault.ScenarioError.TheVariants.{Memory};
-ghost use Rattle.survey.specs.Judging.{IsFindingOf, IsFirstRefused, IsRefusedBy, IsRefusedIn};
+ghost use Rattle.survey.specs.Judging.{IsFindingOf, IsRefusedBy, IsRefusedIn};
 
 use crate::family::Family;
 use crate::finding::Finding;
@@ -16,29 +16,8 @@ use std::thread::Threads;
 /// How many campaigns are worth a thread of their own: one of them takes 8 us to some milliseconds.
 const LEAST_PIECE: usize = 32;
 
-/// What the campaigns of the family come to that the seeds give from `first` up to `end`, without that, one after the
-/// other.
-///
-/// # Errors
-///
-/// The first fault of the text of the least seed whose text has one, or want of memory.
-pub fn survey_in_turn(
-    alloc: Global,
-    family: &Family,
-    first: u64,
-    end: u64,
-) -> Result<Vec<Finding>, ScenarioError>
-    ensures found { IfOk result (λ findings. AllZip (IsFindingOf family.now) (nat_range first end) findings.items) }
-    ensures refused { IfErr result (λ e. e ≢ Memory → IsFirstRefused family.now first end e) }
-{
-    let mut findings = Vec::new(alloc);
-    for seed in first..end {
-        findings.push(judged(alloc, family, seed)?)?;
-    }
-    Ok(findings)
-}
-
-/// The same by several threads, or why not.
+/// Returns what is found of the campaign of each seed from `first` up to but not including `end`, or the fault of one of
+/// the campaigns' texts. The outer error says that the threads' results could not be collected.
 fn gathered<R: Threads + Sync>(
     rt: &R,
     alloc: Global,
@@ -62,12 +41,12 @@ fn gathered<R: Threads + Sync>(
         .collect(rt, alloc)
 }
 
-/// What the campaigns of the family come to that the seeds give from `first` up to `end`, without that, by as many
-/// threads as there are processors.
+/// Plays the family's campaign of each seed from `first` up to but not including `end`, in as many threads as there are
+/// processors, and returns what is found of each, in the order of the seeds.
 ///
 /// # Errors
 ///
-/// The fault of one of the texts, or want of memory.
+/// Returns the fault of one of the campaigns' texts, or `Memory` when out of memory.
 pub fn survey<R: Threads + Sync>(
     rt: &R,
     alloc: Global,

@@ -2,10 +2,10 @@ ghost use Rattle.std.specs.Prelude.{◌≡◌, ◌≢◌, ◌<◌, ◌++◌, IfO
 ghost use Rattle.book.specs.Decisions.{decisions_of, TableAgrees};
 ghost use Rattle.book.specs.Grammar.{table_told};
 ghost use Rattle.book.specs.declared.fault.TableError.TheVariants.{Memory};
-ghost use Rattle.tables.specs.Answers.{DecidesTable, ExplainsOne, ExplainsTable};
+ghost use Rattle.tables.specs.Answers.{DecidesTable, ExplainsTable};
 ghost use Rattle.tables.specs.Lines.{decision_line, decision_lines};
 
-use book::{Table, TableError, decisions, explain, explain_one, read_table};
+use book::{Table, TableError, decisions, explain, read_table};
 use std::alloc::{AllocError, Global};
 
 /// What the lieutenants of the message table decide.
@@ -32,24 +32,6 @@ pub fn explained(alloc: Global, text: &str, traitors: &[u8]) -> Result<String, T
 {
     let table = read_table(alloc, text)?;
     Ok(explain(alloc, &table, traitors)?)
-}
-
-/// How the decision of this general comes about, where these are named as traitors.
-///
-/// # Errors
-///
-/// What the table refuses, or want of memory.
-pub fn explained_one(
-    alloc: Global,
-    text: &str,
-    traitors: &[u8],
-    general: u8,
-) -> Result<String, TableError>
-    ensures explained { IfOk result (λ lines. ExplainsOne text.now traitors.now general (string_bytes lines)) }
-    ensures refused { IfErr result (λ e. e ≢ Memory → table_told text.now ≡ Err e) }
-{
-    let table = read_table(alloc, text)?;
-    Ok(explain_one(alloc, &table, traitors, general)?)
 }
 
 /// A line for each lieutenant, ascending: his number and what he decides.

@@ -13,7 +13,7 @@ mod tree_table;
 mod trees;
 mod writing;
 
-pub use deciding::{decided, explained, explained_one};
+pub use deciding::{decided, explained};
 pub use filling::{filled, generals_in};
 pub use forming::formed;
 pub use laws::{loyal_tables_decide, tables_are_read};

@@ -1,7 +1,7 @@
 //! The board and its ledger.
 
 use board::Board;
-use semantics::{Reply, Request, Slot, Span};
+use helper::{Reply, Request, Slot, Span};
 use std::alloc::Global;
 
 /// Whether a general's request is answered by this word.

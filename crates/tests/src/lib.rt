@@ -1,7 +1,9 @@
-//! Tests of words, ranges, labels, trees, tables, cells, the board, orders, programs and where a text may be cut, by
-//! values from outside: a crate with tests of its own is proved twice.
+//! Tests of words, ranges, labels, trees, tables, cells, the board, orders, programs, their activations and where a text
+//! may be cut, by values from outside: a crate with tests of its own is proved twice.
 #![tactic(auto)]
 
+#[cfg(test)]
+mod activations;
 #[cfg(test)]
 mod assembly;
 #[cfg(test)]

@@ -3,13 +3,13 @@ ghost use Rattle.std.specs.Prelude.{◌≡◌, IfSome};
 
 use crate::scenarios::{first_letters, played};
 use letter::Letter;
-use post::{Collector, Post, Poster};
 use std::alloc::{AllocError, Global};
 use std::process::Abort;
 use std::sync::Wait;
 use std::sync::atomic::{AtomicU32, Ordering};
 use std::thread;
 use std::thread::Threads;
+use threads::{Collector, Post, Poster};
 
 /// How many letters of a general differ.
 const ORDERS: u32 = 50;

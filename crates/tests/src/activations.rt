@@ -1,0 +1,227 @@
+//! Runs of a program by typed activations, which answer or cancel each request once.
+ghost use Rattle.std.specs.Prelude.{IfSome};
+ghost use Rattle.machine.specs.Advance.{IsAskOfRun, IsOfRun};
+
+use asm::assemble;
+use board::Board;
+use mem::Context;
+use outbox::{Outbox, Shape};
+use semantics::Request;
+use std::alloc::Global;
+use typed::{Activation, Ended, Pause, Waiting};
+use verify::{Verified, verify};
+
+/// General 3 of 4 under commander 0 in round 2, who relays label 0 to generals 1 and 2.
+const SHAPE: Shape = Shape {
+    generals: 4,
+    commander: 0,
+    general: 3,
+    round: 2,
+};
+
+/// A program of eight instructions. The third sends the order 7 to general 1. The sixth asks the board to swap word 9
+/// for 5. The seventh adds 1 to the reply, and the program exits with the sum.
+const SWAPPING: &str =
+    "mov r1, 1\nmov r2, 7\ncall sway\nmov r1, 9\nmov r2, 5\ncall board_swap\nadd r0, 1\nexit\n";
+
+/// Assembles and verifies the program, or returns `None` if it is rejected or out of memory.
+fn accepted(alloc: Global) -> Option<Verified> {
+    let Ok(program) = assemble(alloc, SWAPPING) else {
+        return None;
+    };
+    match verify(alloc, program) {
+        Ok(verified) => Some(verified),
+        Err(_) => None,
+    }
+}
+
+/// Starts the program with an empty outbox, or returns `None` when out of memory.
+fn started(alloc: Global, verified: &Verified, context: &Context) -> Option<Activation>
+    ensures { IfSome result (λ activation. IsOfRun verified.now context.now activation) }
+{
+    match Outbox::new(alloc, SHAPE) {
+        Ok(outbox) => Some(Activation::start(verified, context, outbox)),
+        Err(_) => None,
+    }
+}
+
+/// Runs an activation until it waits for the board, or returns `None` if it takes `limit` steps or exits before.
+fn asked(
+    activation: Activation,
+    verified: &Verified,
+    context: &Context,
+    limit: u32,
+) -> Option<Waiting>
+    requires { IsOfRun verified.now context.now activation }
+    ensures { IfSome result (λ waiting. IsAskOfRun verified.now context.now waiting.request waiting.standing) }
+{
+    match activation.advance(verified, context, limit) {
+        Pause::Board(_, waiting) => Some(waiting),
+        Pause::Done(_) | Pause::Cut(_) => None,
+    }
+}
+
+/// Runs the program from its start to its request, for which six steps are enough.
+fn first_request(alloc: Global, verified: &Verified, context: &Context) -> Option<Waiting>
+    ensures { IfSome result (λ waiting. IsAskOfRun verified.now context.now waiting.request waiting.standing) }
+{
+    match started(alloc, verified, context) {
+        Some(activation) => asked(activation, verified, context, 6),
+        None => None,
+    }
+}
+
+/// Cancels a request, which takes its step back, and runs the program to its request again.
+fn second_request(waiting: Waiting, verified: &Verified, context: &Context) -> Option<Waiting>
+    requires { IsAskOfRun verified.now context.now waiting.request waiting.standing }
+    ensures { IfSome result (λ again. IsAskOfRun verified.now context.now again.request again.standing) }
+{
+    let activation = waiting.cancel();
+    if activation.steps() != 5 {
+        return None;
+    }
+    asked(activation, verified, context, 6)
+}
+
+/// Answers a request with 41, runs the program for at most eight steps in all, and returns what it leaves at its exit.
+fn answered(
+    alloc: Global,
+    waiting: Waiting,
+    verified: &Verified,
+    context: &Context,
+) -> Option<Ended>
+    requires { IsAskOfRun verified.now context.now waiting.request waiting.standing }
+{
+    let mut board = Board::new(alloc, [41; 64]);
+    let Ok(reply) = board.apply(SHAPE.general, SHAPE.round, waiting.request()) else {
+        return None;
+    };
+    match waiting.answer(reply).advance(verified, context, 8) {
+        Pause::Done(ended) => Some(ended),
+        Pause::Board(_, _) | Pause::Cut(_) => None,
+    }
+}
+
+/// Checks that the sixth step asks the board to swap word 9 for 5.
+fn asks_to_swap(waiting: &Waiting) -> bool {
+    match waiting.request() {
+        Request::Swap { slot, value } => {
+            waiting.steps() == 6 && slot.number() == 9 && value == 5
+        }
+        _ => false,
+    }
+}
+
+/// Checks how many steps a program has taken, what it exited with, and which order it has sent to general 1. It has sent
+/// none to general 2.
+fn has_left(ended: &Ended, steps: u32, r0: Option<u64>, order: Option<u32>) -> bool {
+    ended.steps == steps
+        && ended.r0 == r0
+        && ended.outbox.get(0, 1) == order
+        && ended.outbox.get(0, 2).is_none()
+}
+
+/// Checks that the program asks for the swap, and exits with 42 once it is answered.
+fn exits_once_answered(alloc: Global, verified: &Verified, context: &Context) -> bool {
+    let Some(waiting) = first_request(alloc, verified, context) else {
+        return false;
+    };
+    if !asks_to_swap(&waiting) {
+        return false;
+    }
+    match answered(alloc, waiting, verified, context) {
+        Some(ended) => has_left(&ended, 8, Some(42), Some(7)),
+        None => false,
+    }
+}
+
+/// Checks that the program asks for the same swap again after its request is cancelled, and then exits as if it had asked
+/// once.
+fn asks_again(alloc: Global, verified: &Verified, context: &Context) -> bool {
+    let Some(waiting) = first_request(alloc, verified, context) else {
+        return false;
+    };
+    let Some(again) = second_request(waiting, verified, context) else {
+        return false;
+    };
+    if !asks_to_swap(&again) {
+        return false;
+    }
+    match answered(alloc, again, verified, context) {
+        Some(ended) => has_left(&ended, 8, Some(42), Some(7)),
+        None => false,
+    }
+}
+
+/// Checks that a program that is ended in place of an answer has taken five steps and has no result.
+fn ends_unanswered(alloc: Global, verified: &Verified, context: &Context) -> bool {
+    match first_request(alloc, verified, context) {
+        Some(waiting) => has_left(&waiting.cancel().end(), 5, None, Some(7)),
+        None => false,
+    }
+}
+
+/// Checks that the program is cut after `limit` steps, and which order it has then sent to general 1.
+fn is_cut(
+    alloc: Global,
+    verified: &Verified,
+    context: &Context,
+    limit: u32,
+    order: Option<u32>,
+) -> bool {
+    let Some(activation) = started(alloc, verified, context) else {
+        return false;
+    };
+    match activation.advance(verified, context, limit) {
+        Pause::Cut(cut) => has_left(&cut.end(), limit, None, order),
+        Pause::Board(_, _) | Pause::Done(_) => false,
+    }
+}
+
+/// Limits that cut the program, and the order that general 1 then has. The order is sent by the third step, and the
+/// sixth asks the board.
+const CUTS: &[(u32, Option<u32>)] = &[(0, None), (2, None), (3, Some(7)), (5, Some(7))];
+
+/// Checks that each limit cuts the program.
+fn are_cuts(alloc: Global, verified: &Verified, context: &Context) -> bool {
+    for &(limit, order) in CUTS {
+        if !is_cut(alloc, verified, context, limit, order) {
+            return false;
+        }
+    }
+    true
+}
+
+/// Checks the program's runs in which its request is answered, cancelled and answered, and cancelled for good.
+fn requests_are_served(alloc: Global, context: &Context) -> bool {
+    match accepted(alloc) {
+        Some(verified) => {
+            exits_once_answered(alloc, &verified, context)
+                && asks_again(alloc, &verified, context)
+                && ends_unanswered(alloc, &verified, context)
+        }
+        None => false,
+    }
+}
+
+#[test]
+fn a_request_is_answered_or_cancelled(rt: HostRuntime) {
+    let bytes = [0; Context::BYTES];
+    let context = Context::new(&bytes);
+    assert!(rt; requests_are_served(rt.alloc(), &context));
+}
+
+/// Checks the program's runs that are cut.
+fn limits_cut(alloc: Global, context: &Context) -> bool {
+    match accepted(alloc) {
+        Some(verified) => are_cuts(alloc, &verified, context),
+        None => false,
+    }
+}
+
+#[test]
+fn a_program_is_cut_at_its_limit(rt: HostRuntime) {
+    let bytes = [0; Context::BYTES];
+    let context = Context::new(&bytes);
+    assert!(rt; limits_cut(rt.alloc(), &context));
+}
