@@ -5,7 +5,7 @@ from .antt import boolean, chain, chain_of_counted, chain_of_runs, optional
 from .instructions import terms
 from .models import campaigns, context_numbers, program
 
-MODEL = "The right sides come from a model of its own."
+MODEL = "Written by checks/generate, which computes the right sides by a model."
 
 # The imports, in the order of the files: a module, and its names that a file imports if it uses them. A module that has a name
 # of its own is imported if that name is used.
@@ -246,8 +246,8 @@ THREE_WAYS = tells((1, 1), (2, 2), (3, 3)) + "exit"
 
 
 def traitor_commander():
-    page = Page("Four generals under a traitor, from the scenario as a value, with its programs, to the chronicle's text; "
-                "the right sides were computed by a model that is not in this repository.")
+    page = Page("Four generals under a traitor, from the scenario as a value, with its programs, to the chronicle's text. "
+                "Written by checks/generate, which computes the right sides by a model.")
     shown = "four generals under him"
     page.program("split", "a commander who tells the orders 1, 0 and 1", tells((1, 1), (2, 0), (3, 1)) + "exit")
     page.scenario("under_split", shown, 4, 1, 0, {0: "split"})
@@ -422,7 +422,7 @@ def medians():
 # ---- signed messages ----
 
 SIGNED_HEAD = """\
--- Rows, computed: signed campaigns from their traitors' programs to their texts.
+-- Rows, computed: signed campaigns from their traitors' programs to their texts. Written by checks/generate.
 use Rattle.std.proofs.Common.{◌≡◌, ℕ, List, [], ◌∷◌, ◌++◌, refl}
 use Rattle.std.specs.Prelude.{codes}
 use Rattle.std.specs.Fmt.{digits}

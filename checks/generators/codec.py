@@ -12,7 +12,7 @@ use Rattle.insn.specs.Insn.{IsInsn}
 """
 
 READING_HEAD = f"""\
--- Each well-formed instruction is read back from its spelling: so it has one, and no two have the same. Written by a generator.
+-- Each well-formed instruction is read back from its spelling: so it has one, and no two have the same. Written by checks/generate.
 use Rattle.std.proofs.Common.{{◌≡◌, ℕ, ℤ, ◌+◌, ◌*◌, ◌/◌, ◌%◌, ◌^◌, List, [], ◌∷◌, ◌++◌, refl, sym, ap, ◌∙◌, arith}}
 use Rattle.std.specs.Prelude.{{Option, Some, None, ◌==◌, if◌then◌else◌}}
 use Rattle.std.specs.Int.{{w16, w32, cast_signed, cast_unsigned}}
@@ -103,7 +103,7 @@ def reading():
 
 
 NO_FAULT_HEAD = f"""\
--- What is spelled has no fault. Written by a generator: a case for each opcode, and more where an operand chooses.
+-- What is spelled has no fault. Written by checks/generate: a case for each opcode, and more where an operand chooses.
 use Rattle.std.proofs.Common.{{◌≡◌, ◌≤◌, ℕ, List, [], ◌∷◌, false, Option, None, length, refl, subst}}
 use Rattle.std.specs.Prelude.{{nat_lt}}
 use Rattle.std.proofs.lemmas.Bool.{{le-ltb}}

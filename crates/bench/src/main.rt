@@ -2,7 +2,8 @@
 //!
 //! `bench times`, or `bench` without a word, times the codec, the verifier, the machine, trees, rounds, oral and signed
 //! campaigns and audits: what it measures goes to standard output, which is the same at every run, and the times go to
-//! standard error. `bench hostile ..` is told in hostile.rt, and `bench all FILE..` does both.
+//! standard error. `bench hostile ..` is described in hostile.rt, and `bench objects ..` in objects.rt. The words
+//! `bench all PROGRAMS OBJECT NAME..` do all three: with the programs of a file, and with the functions of an object.
 #![tactic(auto)]
 
 mod bytecode;
@@ -12,6 +13,7 @@ mod figure;
 mod hostile;
 mod median;
 mod musters;
+mod objects;
 mod plain;
 mod report;
 mod rounds;
@@ -45,11 +47,16 @@ fn answer<R: Print + Eprint + Clock + Files + Threads + Wait + Sync + AllocGloba
     match task {
         "times" => times(rt),
         "hostile" => hostile::answer(rt, words),
-        "all" => {
-            times(rt)?;
-            hostile::answer(rt, words)
-        }
-        _ => bail!("the tasks are times, hostile and all"),
+        "objects" => objects::answer(rt, words),
+        "all" => match words {
+            [_, objects @ ..] => {
+                times(rt)?;
+                hostile::answer(rt, &words[..1])?;
+                objects::answer(rt, objects)
+            }
+            [] => bail!("all takes a file of programs, an object and names"),
+        },
+        _ => bail!("the tasks are times, hostile, objects and all"),
     }
 }
 

@@ -1,4 +1,4 @@
--- What is spelled has no fault. Written by a generator: a case for each opcode, and more where an operand chooses.
+-- What is spelled has no fault. Written by checks/generate: a case for each opcode, and more where an operand chooses.
 use Rattle.std.proofs.Common.{◌≡◌, ◌≤◌, ℕ, List, [], ◌∷◌, false, Option, None, length, refl, subst}
 use Rattle.std.specs.Prelude.{nat_lt}
 use Rattle.std.proofs.lemmas.Bool.{le-ltb}

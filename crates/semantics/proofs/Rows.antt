@@ -1,4 +1,4 @@
--- Rows, computed: each right side is where the program's run stands after so many steps. Written by a generator.
+-- Rows, computed: each right side is the result of a run of the program. Written by checks/generate.
 use Rattle.std.specs.Prelude.{pos, negsuc, ◌≡◌, [], ◌∷◌, ◌++◌, true, false, Some, None, replicate, refl}
 use Rattle.word.specs.declared.Width.TheVariants.{W32, W64}
 use Rattle.word.specs.declared.Operation.TheVariants as op

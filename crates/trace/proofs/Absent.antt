@@ -1,4 +1,4 @@
--- Loyal generals who are absent from a round, from the scenario to the chronicle's text. The right sides come from a model of its own.
+-- Loyal generals who are absent from a round, from the scenario to the chronicle's text. Written by checks/generate, which computes the right sides by a model.
 use Rattle.std.specs.Prelude.{true, false, ℕ, pos, map, ◌≡◌, List, [], ◌∷◌, ◌++◌, replicate, codes, None, Some, refl}
 use Rattle.std.specs.Fmt.{digits}
 use Rattle.word.specs.declared.Width.TheVariants.{W64}

@@ -1,4 +1,4 @@
--- Campaigns by the median, from the scenario to the chronicle's text. The right sides come from a model of its own.
+-- Campaigns by the median, from the scenario to the chronicle's text. Written by checks/generate, which computes the right sides by a model.
 use Rattle.std.specs.Prelude.{◌≡◌, [], ◌∷◌, replicate, codes, None, Some, refl}
 use Rattle.std.specs.Fmt.{digits}
 use Rattle.combine.specs.Rule.{median, is_middle}

@@ -1,4 +1,4 @@
--- Campaigns of seven generals under schedules, from the scenario to the chronicle's text. The right sides come from a model of its own.
+-- Campaigns of seven generals under schedules, from the scenario to the chronicle's text. Written by checks/generate, which computes the right sides by a model.
 use Rattle.std.specs.Prelude.{pos, map, true, false, ◌≡◌, List, [], ◌∷◌, replicate, codes, None, Some, refl}
 use Rattle.std.specs.Fmt.{digits}
 use Rattle.word.specs.declared.Width.TheVariants.{W64}

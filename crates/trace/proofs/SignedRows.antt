@@ -1,4 +1,4 @@
--- Rows, computed: signed campaigns from their traitors' programs to their texts.
+-- Rows, computed: signed campaigns from their traitors' programs to their texts. Written by checks/generate.
 use Rattle.std.proofs.Common.{◌≡◌, ℕ, List, [], ◌∷◌, ◌++◌, refl}
 use Rattle.std.specs.Prelude.{codes}
 use Rattle.std.specs.Fmt.{digits}

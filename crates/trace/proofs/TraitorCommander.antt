@@ -1,4 +1,4 @@
--- Four generals under a traitor, from the scenario as a value, with its programs, to the chronicle's text; the right sides were computed by a model that is not in this repository.
+-- Four generals under a traitor, from the scenario as a value, with its programs, to the chronicle's text. Written by checks/generate, which computes the right sides by a model.
 use Rattle.std.specs.Prelude.{pos, ◌≡◌, List, [], ◌∷◌, replicate, codes, None, Some, refl}
 use Rattle.std.specs.Fmt.{digits}
 use Rattle.word.specs.declared.Width.TheVariants.{W64}

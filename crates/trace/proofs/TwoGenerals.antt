@@ -1,4 +1,4 @@
--- A campaign of two loyal generals, from the scenario to the chronicle's text. The right sides come from a model of its own.
+-- A campaign of two loyal generals, from the scenario to the chronicle's text. Written by checks/generate, which computes the right sides by a model.
 use Rattle.std.specs.Prelude.{◌≡◌, [], ◌∷◌, replicate, codes, None, refl}
 use Rattle.std.specs.Fmt.{digits}
 use Rattle.combine.specs.Rule.{majority}

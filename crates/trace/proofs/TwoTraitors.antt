@@ -1,4 +1,4 @@
--- Two traitors of four generals, the commander and a lieutenant, from the scenario to the chronicle's text. The right sides come from a model of its own.
+-- Two traitors of four generals, the commander and a lieutenant, from the scenario to the chronicle's text. Written by checks/generate, which computes the right sides by a model.
 use Rattle.std.specs.Prelude.{pos, ◌≡◌, List, [], ◌∷◌, replicate, codes, None, Some, refl}
 use Rattle.std.specs.Fmt.{digits}
 use Rattle.word.specs.declared.Width.TheVariants.{W64}

@@ -1,31 +1,34 @@
-//! `objects OBJECT NAME..`: the code of an object's only global function, and of its functions of these names, in hex,
-//! and a line for each unit whose place in the text is known, or the first fault of each. data/several.o is what clang
-//! makes of the second program of checks/objects. `objects --each LIST` says the same of each object of LIST, which has
-//! a line for each: the object in hex, and the names, each behind a blank.
-#![tactic(auto)]
+//! Prints what the object reader finds in ELF objects, for the model of checks/objects to compare.
 
 use anyhow::{Result, bail};
-use std::{env, fs};
+use std::fs;
+use std::rt::Files;
 
-fn main(rt: HostRuntime) -> Result<()> {
-    let words: Vec<String> = env::args(&rt)?.skip(1).collect(rt.alloc())?;
-    match words.as_slice() {
+/// Prints the code of the only global function of an object, and of its functions with the given names, in hex. After
+/// each function comes a line for each unit whose place in the source is known. A function that cannot be read has its
+/// first fault instead.
+///
+/// The words are the object's file and the names, or `--each` and the file of a list. Each line of the list is an object
+/// in hex, and the names, each after a blank. data/several.o is compiled by clang from the second program of
+/// checks/objects.
+pub fn answer<R: Print + Files + AllocGlobal>(rt: &R, words: &[String]) -> Result<()> {
+    match words {
         [word, list] if word.as_str() == "--each" => {
-            let text = fs::read_to_string(&rt, list.as_str())?;
+            let text = fs::read_to_string(rt, list.as_str())?;
             for line in text.as_str().lines() {
-                tell_line(&rt, line)?;
+                tell_line(rt, line)?;
             }
             Ok(())
         }
         [file, names @ ..] => {
-            let object = fs::read(&rt, file.as_str())?;
-            tell(&rt, "", object.as_slice(), None)?;
+            let object = fs::read(rt, file.as_str())?;
+            tell(rt, "", object.as_slice(), None)?;
             for name in names {
-                tell_named(&rt, object.as_slice(), name.as_str())?;
+                tell_named(rt, object.as_slice(), name.as_str())?;
             }
             Ok(())
         }
-        [] => bail!("an object is wanted"),
+        [] => bail!("the words name no object"),
     }
 }
 
