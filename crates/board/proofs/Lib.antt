@@ -1,4 +1,1 @@
-pub mod Histories
-pub mod Asking
-pub mod Serving
-pub mod Keeping
+pub mod RowLemmas

@@ -1,14 +1,6 @@
-//! The board that the generals share, with its ledger. What is said of it stands in specs/.
+//! What is asked of the board, in words: the one table of all that tells of a request by its kind.
 #![tactic(auto)]
 
-mod access;
-mod laws;
-mod object;
-mod recalling;
-mod same;
-mod words;
+mod wording;
 
-pub use access::Access;
-pub use laws::boards_serve;
-pub use object::Board;
-pub use recalling::recall_board;
+pub use wording::{Wording, numbers, span, worded, wordings};

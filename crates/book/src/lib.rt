@@ -1,29 +1,22 @@
-//! Oral messages by the book: the recursion over a table of messages, and the agreement theorem.
+//! What is printed of a message table: its decisions, how they come about, the table to fill in, and tables that are
+//! filled in.
 #![tactic(auto)]
 
-mod blanks;
-mod conditions;
-mod explaining;
-mod fault;
-mod heard;
-mod judging;
-mod listing;
-mod message;
-mod parts;
-mod placing;
-mod reader;
-mod recursion;
-mod table;
-mod theorem;
+mod deciding;
+mod filling;
+mod forming;
+mod laws;
+mod loyal;
+mod mark;
+mod recalling;
+mod tree_table;
+mod trees;
+mod writing;
 
-pub use blanks::form;
-pub use conditions::{Conditions, Obedience};
-pub use explaining::{explain, explain_one};
-pub use fault::{Fault, TableError};
-pub use heard::Heard;
-pub use judging::judge;
-pub use message::Message;
-pub use reader::read_table;
-pub use recursion::{decision, decisions};
-pub use table::Table;
-pub use theorem::{agreement, conditions_mean, forms_are_read, lists_mean, told_tables_are_whole};
+pub use deciding::{decided, explained};
+pub use filling::{filled, generals_in};
+pub use forming::formed;
+pub use laws::{loyal_tables_decide, tables_are_read};
+pub use recalling::recall_orders;
+pub use tree_table::TreeTable;
+pub use trees::table_of;

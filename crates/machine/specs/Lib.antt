@@ -1,4 +1,2 @@
-pub mod Standing
-pub mod Turn
-pub mod Advance
-pub mod Registers
+pub mod Asking
+pub mod Pausing

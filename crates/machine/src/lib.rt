@@ -1,17 +1,12 @@
-//! The machine: it runs a verified program, step by step as it is written.
+//! The machine by types: what has asked the board is answered or taken back once, and only then can be run on.
 #![tactic(auto)]
 
 mod activation;
-mod arguments;
-mod arithmetic;
-mod calls;
-mod execution;
-mod flow;
-mod pairs;
-mod registers;
-mod replies;
-mod stop;
-mod tag;
+mod ended;
+mod pause;
+mod waiting;
 
 pub use activation::Activation;
-pub use stop::Stop;
+pub use ended::Ended;
+pub use pause::Pause;
+pub use waiting::Waiting;

@@ -1,9 +1,5 @@
-pub mod Names
-pub mod Flaws
-pub mod Checks
-pub mod Setting
-pub mod Trial
+pub mod Values
 pub mod Lines
-pub mod Answers
-pub mod ErrorText
+pub mod Trace
+pub mod Slips
 pub mod Laws

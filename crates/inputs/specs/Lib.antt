@@ -1,3 +1,0 @@
-pub mod ErrorText
-pub mod Refusals
-pub mod Schedules

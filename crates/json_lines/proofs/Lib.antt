@@ -1,5 +1,0 @@
-mod CleanLemmas
-mod ItemLemmas
-mod LabelLemmas
-mod ValueLemmas
-mod WhyLemmas

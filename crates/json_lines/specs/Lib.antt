@@ -1,6 +1,0 @@
-pub mod Values
-pub mod Shapes
-pub mod Labels
-pub mod Objects
-pub mod Lines
-pub mod Refusals

@@ -1,6 +1,0 @@
-pub mod ByteLemmas
-pub mod LineLemmas
-pub mod NameLemmas
-pub mod RawLemmas
-pub mod RoundLemmas
-pub mod PieceLemmas

@@ -1,4 +1,0 @@
-pub mod BlameLemmas
-pub mod DiagramLemmas
-pub mod PageLemmas
-pub mod PromiseLemmas

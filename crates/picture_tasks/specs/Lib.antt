@@ -1,3 +1,0 @@
-pub mod Diagrams
-pub mod Pages
-pub mod Promises

@@ -1,3 +1,0 @@
-pub mod Delivery
-pub mod Rule
-pub mod Seen

@@ -1,5 +1,0 @@
-mod Documents
-mod PrintLemmas
-mod ListLemmas
-mod MemberLemmas
-mod OriginLemmas

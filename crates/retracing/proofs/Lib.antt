@@ -1,6 +1,0 @@
-mod Keeping
-mod Listed
-mod Reading
-mod Retracing
-mod Stopping
-mod Within

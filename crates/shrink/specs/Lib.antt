@@ -1,2 +1,0 @@
-pub mod Shrinking
-pub mod Breaches

@@ -1,2 +1,0 @@
-pub mod PicturingLemmas
-pub mod StrangerLemmas

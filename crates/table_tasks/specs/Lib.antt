@@ -1,3 +1,0 @@
-pub mod Picturing
-pub mod Refusals
-pub mod Strangers

@@ -1,5 +1,0 @@
-pub mod Values
-pub mod Lines
-pub mod Trace
-pub mod Slips
-pub mod Laws

@@ -1,7 +1,0 @@
-pub mod TrimLemmas
-pub mod TakenLemmas
-pub mod FeedLemmas
-pub mod MadeLemmas
-pub mod PlaceLemmas
-pub mod SayingLemmas
-pub mod TellingLaws
